@@ -146,7 +146,7 @@ found text chars stop rest e h c =
           (run_append blob_step (Group [] H0) (Group f.more f.last) chars g.taken f.leads ∙ g.leads);
     }
 
-cut : (text front rest : List ℕ) → text ≡ front ++ rest
+pub cut : (text front rest : List ℕ) → text ≡ front ++ rest
     → take (length text - length rest) text ≡ front
 cut text front rest e =
     let n : length text - length rest ≡ length front =

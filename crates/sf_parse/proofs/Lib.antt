@@ -32,6 +32,7 @@ pub mod AllocationFreeSteps
 pub mod BlobGroups
 pub mod Blocks
 pub mod FoundBlobs
+pub mod FoundTexts
 pub mod Quads
 pub mod HighDigits
 -- Bytes that may follow: masks, tables, runs and their names.

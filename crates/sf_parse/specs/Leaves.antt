@@ -1,8 +1,9 @@
 -- Bare items that were found in a text and are not yet built.
-use Rattle.std.specs.Prelude.{◌≡◌, ℕ, ◌^◌, ◌<◌, nat_abs, ⊤, List, [], ◌++◌, Option, Some}
+use Rattle.std.specs.Prelude.{◌≡◌, ℕ, ◌^◌, ◌<◌, nat_abs, ⊤, List, [], ◌∷◌, ◌++◌, Option, Some, true}
 use Rattle.sf_value.specs.declared.value.Bare.{Bare}
 use Rattle.sf_value.specs.declared.value.Bare.TheVariants as bare
 use Rattle.sf_value.specs.Grammar.Classes.{is_visible}
+use Rattle.sf_value.specs.Grammar.Strings.{is_escaped}
 use Rattle.sf_value.specs.Grammar.Tokens.{IsToken}
 use Rattle.sf_value.specs.Grammar.Words.{Every}
 use Rattle.sf_parse.specs.declared.leaf.Leaf.{Leaf}
@@ -12,6 +13,7 @@ use Rattle.sf_parse.specs.declared.number.Number.TheVariants as number
 use Rattle.sf_parse.specs.Machine.Blobs.{Held, H0, H1, H2, H3, BlobState, Group, Ended, last_bytes}
 use Rattle.sf_parse.specs.Machine.Blobs.{blob_step}
 use Rattle.sf_parse.specs.Machine.Language.{run}
+use Rattle.sf_parse.specs.Machine.Texts.{TextState, Inside, Closed, text_step}
 use Rattle.sf_parse.specs.Prefixes.{Goes}
 
 -- the bare item of a number
@@ -49,6 +51,27 @@ abbrev pub ClosesBlob : ℕ → List ℕ → List ℕ → Type 0
 ClosesBlob over text rest = (bytes : List ℕ) (held : Held) → held_size held ≡ over
     → Goes blob_step (Group bytes held) text rest (Ended (bytes ++ last_bytes held))
 
+-- the bytes of a String that was read to its end
+abbrev pub closed_bytes : Option TextState → List ℕ
+closed_bytes (Some (Closed bytes)) = bytes
+closed_bytes s = []
+
+-- those of one with this text after its opening quote
+abbrev pub string_bytes : List ℕ → List ℕ
+string_bytes text = closed_bytes (run text_step (Inside []) text)
+
+-- this is the text of a String after its opening quote, to its end
+abbrev pub EndsText : List ℕ → Type 0
+EndsText text = run text_step (Inside []) text ≡ Some (Closed (string_bytes text))
+
+-- the rest is between the quotes of a String with this text after its opening quote
+abbrev pub IsInText : List ℕ → List ℕ → Type 0
+IsInText text rest = (bytes : List ℕ) × Goes text_step (Inside []) text rest (Inside bytes)
+
+-- a byte that may be escaped is before the rest
+abbrev pub BeginsEscaped : List ℕ → List ℕ → Type 0
+BeginsEscaped text rest = (b : ℕ) × (text ≡ b ∷ rest) × (is_escaped b ≡ true)
+
 -- the bare item that was found
 abbrev pub leaf_bare : Leaf → Bare
 leaf_bare (leaf.Number n) = number_bare n
@@ -56,11 +79,14 @@ leaf_bare (leaf.Token t) = bare.Token t.now
 leaf_bare (leaf.Text t) = bare.Text t.now
 leaf_bare (leaf.Boolean b) = bare.Boolean b
 leaf_bare (leaf.Blob t) = bare.Blob (blob_bytes t.now)
+leaf_bare (leaf.Escaped t) = bare.Text (string_bytes t.now)
 
--- the bytes of a Token or a String are those of one, and the text of a Byte Sequence is that of one
+-- the bytes of a Token or a String are those of one, and the text of a Byte Sequence or of a String
+-- with an escape is that of one
 abbrev pub IsLeaf : Leaf → Type 0
 IsLeaf (leaf.Number n) = ⊤
 IsLeaf (leaf.Token t) = IsToken t.now
 IsLeaf (leaf.Text t) = Every is_visible t.now
 IsLeaf (leaf.Boolean b) = ⊤
 IsLeaf (leaf.Blob t) = EndsBlob t.now
+IsLeaf (leaf.Escaped t) = EndsText t.now

@@ -1,6 +1,6 @@
 //! What comes near the beginning of a text: it decides whether a part is read directly, or left to
 //! the levels. That only saves time, so nothing is claimed of it.
-ghost use Rattle.std.specs.Prelude.{◌≡◌, ◌++◌, ◌≤◌, ℕ, List, length};
+ghost use Rattle.std.specs.Prelude.{◌≤◌, length};
 
 use crate::whole_bare::behind;
 use memchr::{memchr, memchr2, memchr3};
@@ -9,22 +9,17 @@ use memchr::{memchr, memchr2, memchr3};
 /// before.
 const NEAR: usize = 1024;
 
-/// The most bytes of a String that is found as a leaf. A longer one is left to its reader.
-pub const LONGEST: usize = 512;
-
-/// The first bytes of a text: so many, or all if there are fewer.
+/// The bytes of a text that are searched.
 #[inline(always)]
-pub fn head(text: &[u8], most: usize) -> &[u8]
-    ensures { (rest : List ℕ) × (text.now ≡ result.now ++ rest) }
-{
-    let (first, _) = text.split_at(text.len().min(most));
+fn head(text: &[u8]) -> &[u8] {
+    let (first, _) = text.split_at(text.len().min(NEAR));
     first
 }
 
 /// Whether this byte is near the beginning of a text.
 #[inline]
 pub fn has(text: &[u8], byte: u8) -> bool {
-    memchr(byte, head(text, NEAR)).is_some()
+    memchr(byte, head(text)).is_some()
 }
 
 /// How many commas, or spaces and brackets, are looked at. Behind as many Strings with one, what is
@@ -34,7 +29,7 @@ const STRINGS: usize = 4;
 /// Whether a comma comes near the beginning of a text, outside of quotes. A member of a chunk that is
 /// not followed by one is left to the levels, since it would be read again.
 pub fn has_comma(text: &[u8]) -> bool {
-    let mut rest = head(text, NEAR);
+    let mut rest = head(text);
     for _ in 0..STRINGS {
         let Some(place) = memchr(b',', rest) else {
             return false;
@@ -53,7 +48,7 @@ pub fn has_comma(text: &[u8]) -> bool {
 /// Whether a space comes near the beginning of a text, before a comma and a closing bracket, outside
 /// of quotes. An Item of a chunk that is not followed by it is left to the levels.
 pub fn has_space(text: &[u8]) -> bool {
-    let mut rest = head(text, NEAR);
+    let mut rest = head(text);
     for _ in 0..STRINGS {
         let Some(place) = memchr3(b' ', b',', b')', rest) else {
             return false;
@@ -97,15 +92,4 @@ fn quotes(bytes: &[u8]) -> (bool, bool) {
         escapes |= (*byte == b'\\') as u8;
     }
     (odd == 1, escapes == 1)
-}
-
-/// Whether a String, of which this is left after its quote and which was not found, may be one that
-/// its reader reads: it has an escape, or is long.
-#[inline(always)]
-pub fn may_need_reader(text: &[u8]) -> bool {
-    let near = head(text, NEAR);
-    match memchr2(b'"', b'\\', near) {
-        Some(place) => place > LONGEST || near.get(place).copied() == Some(b'\\'),
-        None => near.len() < text.len(),
-    }
 }

@@ -6,31 +6,35 @@ ghost use Rattle.sf_value.specs.declared.dialect.Dialect.{Dialect};
 ghost use Rattle.sf_value.specs.Grammar.BareItems.{SpellsBare};
 ghost use Rattle.sf_value.specs.Grammar.Tokens.{IsToken};
 ghost use Rattle.sf_parse.specs.Leaves.{IsLeaf, leaf_bare, EndsBlob, ClosesBlob};
+ghost use Rattle.sf_parse.specs.Leaves.{IsInText, EndsText, BeginsEscaped};
 ghost use Rattle.sf_parse.specs.WholeParts.{ReadsAs};
 
-use crate::ahead::{LONGEST, head};
 use crate::blob::decode;
 use crate::context::Context;
 use crate::number::{Number, NumberReader};
+use crate::text::unescape;
 use crate::whole_bare::{behind, split};
 use sf_value::classes::{Base64, InToken, Unescaped, long_prefix};
 use sf_value::{Bare, Blob, ShortBytes, Text, Token, can_start_token};
 
-/// A bare item of a text. Dates, Display Strings, and Strings with an escape or of more than 512 bytes
-/// are none of these: they are not read from the text in one step.
+/// A bare item of a text. Dates and Display Strings are none of these: they are not read from the text
+/// in one step.
 #[derive(Clone, Copy)]
 pub enum Leaf<'a> {
     /// An Integer or a Decimal.
     Number(Number),
     /// The bytes of a Token.
     Token(&'a [u8]),
-    /// The bytes of a String, between its quotes.
+    /// The bytes of a String without an escape, between its quotes.
     Text(&'a [u8]),
     /// A Boolean.
     Boolean(bool),
     /// The text of a Byte Sequence, after its opening colon and with its closing one. It is decoded
     /// only when it is built.
     Blob(&'a [u8]),
+    /// The text of a String with an escape, after its opening quote and with its closing one. It is
+    /// decoded only when it is built.
+    Escaped(&'a [u8]),
 }
 
 /// The bare item that a text begins with, and the rest. None claims nothing.
@@ -66,17 +70,53 @@ pub fn find_leaf(text: &[u8]) -> Option<(Leaf<'_>, &[u8])>
     None
 }
 
-/// The String that a text begins with after its quote, and the rest. None claims nothing.
+/// The String that a text begins with after its quote, and the rest. None claims nothing. Of one that
+/// is broken off or bad, no byte is looked at behind the place where it is refused, and what is open in
+/// a chunk is not looked for in the next one: so however long it is, finding it is little beside
+/// reading it.
 #[inline(always)]
 fn find_string(text: &[u8]) -> Option<(Leaf<'_>, &[u8])>
     ensures leaf { IfSome result (λ r. IsLeaf r.0) }
     ensures reads { IfSome result (λ r. (d : Dialect)
         → ReadsAs (SpellsBare d) (quote ∷ text.now) (leaf_bare r.0) r.1.now) }
 {
-    let (run, _) = long_prefix::<Unescaped>(head(text, LONGEST));
-    let (found, stop) = text.split_at(run.len());
-    let rest = behind(stop, b'"')?;
-    Some((Leaf::Text(found), rest))
+    let (run, stop) = long_prefix::<Unescaped>(text);
+    if let Some(rest) = behind(stop, b'"') {
+        return Some((Leaf::Text(run), rest));
+    }
+    let (found, rest) = find_escaped(text, stop)?;
+    Some((Leaf::Escaped(found), rest))
+}
+
+/// The String that a text begins with after its quote, with its closing one, and the rest. `stop` is
+/// what is left behind its first bytes that are not escaped. None claims nothing. It is not inlined,
+/// so that a String without an escape doesn't pay for it.
+#[inline(never)]
+fn find_escaped<'a>(text: &'a [u8], stop: &'a [u8]) -> Option<(&'a [u8], &'a [u8])>
+    requires { IsInText text.now stop.now }
+    ensures split { IfSome result (λ r. text.now ≡ r.0.now ++ r.1.now) }
+    ensures ended { IfSome result (λ r. EndsText r.0.now) }
+{
+    let mut rest = stop;
+    while let Some(escape) = behind(rest, b'\\') {
+        let more = behind_escaped(escape)?;
+        let (_, left) = long_prefix::<Unescaped>(more);
+        rest = left;
+    }
+    let end = behind(rest, b'"')?;
+    Some(text.split_at(text.len() - end.len()))
+}
+
+/// The rest after a byte that may be escaped. None claims nothing.
+#[inline(always)]
+fn behind_escaped(text: &[u8]) -> Option<&[u8]>
+    ensures { IfSome result (λ rest. BeginsEscaped text.now rest.now) }
+{
+    let (byte, rest) = split(text)?;
+    if byte != b'"' && byte != b'\\' {
+        return None;
+    }
+    Some(rest)
 }
 
 /// The Byte Sequence that a text begins with after its opening colon, with its closing one, and the
@@ -144,6 +184,10 @@ pub fn make(context: &Context, leaf: Leaf<'_>) -> Option<Bare>
         Leaf::Blob(text) => {
             let bytes = decode(context, text)?;
             return Some(Bare::Blob(Blob::from_bytes(bytes)));
+        }
+        Leaf::Escaped(text) => {
+            let bytes = unescape(context, text)?;
+            return Some(Bare::Text(Text::from_bytes(bytes)));
         }
     }
 }

@@ -1,14 +1,16 @@
 //! A String that is being read (RFC 9651 section 4.2.5).
-ghost use Rattle.std.specs.Prelude.{◌≡◌, is_some, ℕ, List, [], ◌∷◌, ◌++◌, IfOk, IsOk};
+ghost use Rattle.std.specs.Prelude.{◌≡◌, is_some, ℕ, List, [], ◌∷◌, ◌++◌, IfOk, IfSome, IsOk};
 ghost use Rattle.sf_value.specs.Grammar.Words.{Every};
 ghost use Rattle.sf_value.specs.InPlace.{FitsInPlace};
 ghost use Rattle.sf_value.specs.Grammar.Classes.{is_visible as is_visible_byte};
 ghost use Rattle.sf_parse.specs.Expected.{MarksStep};
+ghost use Rattle.sf_parse.specs.Leaves.{EndsText, string_bytes};
 ghost use Rattle.sf_parse.specs.Prefixes.{Goes};
 ghost use Rattle.sf_parse.specs.Views.{text_of};
 ghost use Rattle.sf_parse.specs.Machine.Language.{Steps};
 ghost use Rattle.sf_parse.specs.Machine.Texts.{text_step, text_finish};
 
+use crate::context::Context;
 use crate::sets::{ESCAPED, VISIBLE};
 use sf_value::classes::{Unescaped, long_prefix};
 use sf_value::{OutOfMemory, ShortBytes, is_visible};
@@ -107,5 +109,30 @@ impl TextPhase {
         ensures { (bytes : List ℕ) → result ≡ is_some (text_finish (text_of self bytes)) }
     {
         matches!(self, TextPhase::Closed)
+    }
+}
+
+/// The bytes of a whole String, of which this is the text after its opening quote, with its closing
+/// one; None if an allocation fails. It is not inlined: each caller would clear what it needs.
+#[inline(never)]
+pub fn unescape(context: &Context, text: &[u8]) -> Option<ShortBytes>
+    requires { EndsText text.now }
+    ensures bytes { IfSome result (λ bytes. bytes ≡ string_bytes text.now) }
+    ensures visible { IfSome result (λ bytes. Every is_visible_byte bytes) }
+{
+    let mut bytes = ShortBytes::new(context.alloc);
+    let mut phase = TextPhase::Inside;
+    let mut rest = text;
+    loop {
+        let Ok(left) = phase.take_run(&mut bytes, rest) else {
+            return None;
+        };
+        let Some((byte, more)) = left.split_first() else {
+            return Some(bytes);
+        };
+        let Ok(true) = phase.step(&mut bytes, *byte) else {
+            return None;
+        };
+        rest = more;
     }
 }

@@ -40,14 +40,14 @@ pub fn ends(text: &[u8]) -> bool
     text.is_empty()
 }
 
-/// A bare item that only its reader reads, where no leaf is found, and the rest: a Date, a Display
-/// String, or a String that has an escape or is long.
+/// A bare item that only its reader reads, where no leaf is found, and the rest: a Date or a Display
+/// String.
 #[inline(always)]
 pub fn read_bare<'a>(context: &Context, text: &'a [u8]) -> Option<(Bare, &'a [u8])>
     ensures { IfSome result (λ r. ReadsAs (SpellsBare context.now.dialect) text.now r.0 r.1.now) }
 {
     let (first, more) = split(text)?;
-    if let b'@' | b'%' | b'"' = first {
+    if let b'@' | b'%' = first {
         // In parts: the compiler keeps these in registers, and the result as a whole in memory.
         let (bare, rest) = read_other(context, first, more)?;
         return Some((bare, rest));

@@ -22,7 +22,7 @@ ghost use Rattle.sf_parse.specs.WholeParts.{ReachesItems, IsBehindItem, AddsItem
 ghost use Rattle.sf_parse.specs.WholeParts.{found_member};
 ghost use Rattle.sf_parse.specs.BegunParts.{IsBegunAt, IsBegunIn};
 
-use crate::ahead::{has_space, may_need_reader};
+use crate::ahead::has_space;
 use crate::begun::{Begun, keep_closed, keep_inner, keep_items, keep_params};
 use crate::context::Context;
 use crate::leaf::{Leaf, find_leaf, make};
@@ -94,11 +94,7 @@ pub fn find_named(text: &[u8]) -> Option<(Found<'_>, &[u8])>
 /// saves time: nothing is claimed of it.
 #[inline(always)]
 pub fn may_begin_part(text: &[u8]) -> bool {
-    match split(text) {
-        Some((b'(' | b'@' | b'%', _)) => true,
-        Some((b'"', more)) => may_need_reader(more),
-        _ => false,
-    }
+    matches!(split(text), Some((b'(' | b'@' | b'%', _)))
 }
 
 /// The same of the value of a key. It only saves time: nothing is claimed of it.
@@ -185,7 +181,7 @@ fn read_param<'a>(context: &Context, text: &'a [u8]) -> Option<(&'a [u8], Bare, 
 {
     let (key, after) = find_key(behind_spaces(text))?;
     let inside = behind(after, b'=')?;
-    let (value, rest) = read_other_bare(context, inside)?;
+    let (value, rest) = read_bare(context, inside)?;
     Some((key, value, rest))
 }
 
@@ -376,25 +372,13 @@ fn put_read_param<'a>(
     Some(rest)
 }
 
-/// A bare item that only its reader reads, where no leaf was found, and the rest. A String is looked
-/// at before: one that is broken off would be read in vain.
-#[inline(always)]
-fn read_other_bare<'a>(context: &Context, text: &'a [u8]) -> Option<(Bare, &'a [u8])>
-    ensures { IfSome result (λ r. ReadsAs (SpellsBare context.now.dialect) text.now r.0 r.1.now) }
-{
-    if !may_begin_part(text) {
-        return None;
-    }
-    read_bare(context, text)
-}
-
 /// A bare item of any type, and the rest.
 #[inline(always)]
 fn read_any_bare<'a>(context: &Context, text: &'a [u8]) -> Option<(Bare, &'a [u8])>
     ensures { IfSome result (λ r. ReadsAs (SpellsBare context.now.dialect) text.now r.0 r.1.now) }
 {
     let Some((leaf, rest)) = find_leaf(text) else {
-        return read_other_bare(context, text);
+        return read_bare(context, text);
     };
     let bare = make(context, leaf)?;
     Some((bare, rest))
@@ -414,7 +398,7 @@ fn read_item<'a>(context: &Context, text: &'a [u8]) -> Option<(Item, &'a [u8])>
 fn read_other_item<'a>(context: &Context, text: &'a [u8]) -> Option<(Item, &'a [u8])>
     ensures { IfSome result (λ r. ReadsAs (SpellsItem context.now.dialect) text.now r.0 r.1.now) }
 {
-    let (bare, after) = read_other_bare(context, text)?;
+    let (bare, after) = read_bare(context, text)?;
     Some(item_before(context, bare, after))
 }
 
