@@ -226,7 +226,8 @@ fn bytes_of(bare: &Bare) -> &[u8]
     }
 }
 
-/// The same bare item again, with its bytes.
+/// The same bare item again, with its bytes. [`Part::copy`] has no number, Boolean or Date here, which
+/// the match has to name all the same.
 #[inline(always)]
 fn with_bytes(bare: &Bare, bytes: ShortBytes) -> Bare
     requires { bytes ≡ bytes_in bare.now }
