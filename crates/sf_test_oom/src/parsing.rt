@@ -126,7 +126,7 @@ fn refused_items(rt: HostRuntime) -> Result<(), Fail> {
 
 /// Texts that are refused for this byte at this place, behind a key or a bare item of more than 16
 /// bytes, for which alone memory is asked.
-const REFUSED_BEHIND_LONG: [(Kind, &[u8], u64, u8); 6] = [
+const REFUSED_BEHIND_LONG: [(Kind, &[u8], u64, u8); 17] = [
     (Kind::Dict, b"a_key_of_more_than_16_bytes=#", 28, b'#'),
     (Kind::Item, b"1;a_key_of_more_than_16_bytes=#", 30, b'#'),
     (Kind::List, b"1;a_key_of_more_than_16_bytes=#", 30, b'#'),
@@ -137,6 +137,52 @@ const REFUSED_BEHIND_LONG: [(Kind, &[u8], u64, u8); 6] = [
         b"(\"a string of more than 16 bytes\"#",
         33,
         b'#',
+    ),
+    (
+        Kind::List,
+        b":cHJldGVuZCB0aGlzIGlzIGJpbmFyeSBjb250ZW50Lg==:#",
+        46,
+        b'#',
+    ),
+    (
+        Kind::Item,
+        b"a;p=:cHJldGVuZCB0aGlzIGlzIGJpbmFyeSBjb250ZW50Lg#",
+        47,
+        b'#',
+    ),
+    (
+        Kind::Dict,
+        b"k=:cHJldGVuZCB0aGlzIGlzIGJpbmFyeSBjb250ZW50Lg=#",
+        46,
+        b'#',
+    ),
+    (
+        Kind::List,
+        b"(:cHJldGVuZCB0aGlzIGlzIGJpbmFyeSBjb250ZW50Lg:#",
+        45,
+        b'#',
+    ),
+    (Kind::List, b"\"a \\\"quoted\\\" text of more\"#", 27, b'#'),
+    (
+        Kind::Item,
+        b"a;p=\"a \\\"quoted\\\" text of more\"#",
+        31,
+        b'#',
+    ),
+    (
+        Kind::Dict,
+        b"k=\"a \\\"quoted\\\" text of more\"#",
+        29,
+        b'#',
+    ),
+    (Kind::List, b"(\"a \\\"quoted\\\" text of more\"#", 28, b'#'),
+    (Kind::List, b"\"a \\\"quoted\\\" text of more\x07", 26, 0x07),
+    (Kind::Item, b"\"a \\\"quoted\\\" text of more\" x", 28, b'x'),
+    (
+        Kind::Item,
+        b":cHJldGVuZCB0aGlzIGlzIGJpbmFyeSBjb250ZW50Lg==: x",
+        47,
+        b'x',
     ),
 ];
 

@@ -357,6 +357,10 @@ fn copied(alloc: Global, seed: &RandomState, field: &Field) -> Seen {
     }
 }
 
+/// A Dictionary in which each key and each bare item has more than 16 bytes.
+const LONG_KEYS: &[u8] = b"a_key_of_more_than_16_bytes=\"a string of more than 16 bytes\"\
+    ;a_parameter_of_more_than_16=a_token_of_more_than_16_bytes";
+
 fn copy_refusals(
     alloc: Global,
     seed: &RandomState,
@@ -374,6 +378,7 @@ fn copies(rt: HostRuntime) -> Result<(), Fail> {
         (Kind::Item, SINGLE),
         (Kind::List, LISTED),
         (Kind::Dict, MEMBERS),
+        (Kind::Dict, LONG_KEYS),
     ] {
         let found = copy_refusals(rt.alloc(), &seed, kind, text)?;
         assert!(rt; found > Some(0), "{found:?}");

@@ -59,21 +59,27 @@ fn push_run(text: &mut Vec<u8>, count: usize) -> Result<(), Fail> {
     Ok(())
 }
 
-/// The bytes that a text begins with, three runs of this length with the escape between each two, and
-/// a quote.
-fn text_around(alloc: Global, before: &[u8], count: usize, escape: &[u8]) -> Result<Vec<u8>, Fail> {
+/// The bytes that a text begins with, two runs of this length with the escape behind each, a last run,
+/// and a quote.
+fn text_around(
+    alloc: Global,
+    before: &[u8],
+    count: usize,
+    escape: &[u8],
+    last: usize,
+) -> Result<Vec<u8>, Fail> {
     let mut text = Vec::new(alloc);
     text.extend_from_slice(before)?;
     for _ in 0..2u32 {
         push_run(&mut text, count)?;
         text.extend_from_slice(escape)?;
     }
-    push_run(&mut text, count)?;
+    push_run(&mut text, last)?;
     text.extend_from_slice(b"\"")?;
     Ok(text)
 }
 
-/// Runs of each length before, between and behind escapes.
+/// Runs of each length before, between and behind escapes, and an escape just before the quote.
 #[test]
 fn runs_around_escapes_are_copied(rt: HostRuntime) -> Result<(), Fail> {
     let alloc = rt.alloc();
@@ -85,8 +91,12 @@ fn runs_around_escapes_are_copied(rt: HostRuntime) -> Result<(), Fail> {
         (b"%\"\\", b"%25%22"),
     ] {
         for count in 0..100usize {
-            let text = text_around(alloc, before, count, escape)?;
-            assert!(&rt; is_by_both(alloc, &seed, Dialect::Rfc9651, Kind::Item, text.as_slice()));
+            for last in [0, count] {
+                let text = text_around(alloc, before, count, escape, last)?;
+                assert!(&rt;
+                    is_by_both(alloc, &seed, Dialect::Rfc9651, Kind::Item, text.as_slice())
+                );
+            }
         }
     }
     Ok(())
