@@ -736,3 +736,239 @@ fn chunks_of_each_size(rt: HostRuntime) -> Result<(), Fail> {
     }
     Ok(())
 }
+
+// Strings with an escape in each place, alone, behind bytes that are not escaped and before them, on
+// both sides of the numbers that are tested at a time.
+static ESCAPED: [acceptances::Row; 8] = [
+    (
+        Kind::List,
+        b"\"\\\"\",\"\\\\\" , \"\\\"\\\\\"\t,\"\\\\\\\"\\\\\\\"\";a,\"a\\\"\",\"\\\\b\" ,\"c\\\\\
+          d\", \"\\\"\\\"\\\"\\\"\"",
+        b"\"\\\"\", \"\\\\\", \"\\\"\\\\\", \"\\\\\\\"\\\\\\\"\";a, \"a\\\"\", \"\\\\b\", \"c\\\\\
+          d\", \"\\\"\\\"\\\"\\\"\"",
+    ),
+    (
+        Kind::Dict,
+        b"a=\"\\\"\",b=\"\\\\x\" ,c=\"y\\\"\";d=\"\\\\\\\\\"\t,a=\"z\\\\\";e=\"\\\"q\";f,g;h=\"\\\\\"\
+          ,i=(\"\\\"\" \"b\\\\\" );j=\"c\\\"d\"",
+        b"a=\"z\\\\\";e=\"\\\"q\";f, b=\"\\\\x\", c=\"y\\\"\";d=\"\\\\\\\\\", g;h=\"\\\\\", i=\
+          (\"\\\"\" \"b\\\\\");j=\"c\\\"d\"",
+    ),
+    (
+        Kind::List,
+        b"( \"\\\"\" \"a\\\\b\"  \"\\\\\\\\\";p=\"\\\"\" c \"d\\\"\"),(\"\\\\\"),(\"e\\\"\";q)\
+          ,(\"f\\\\g\" h);r=\"\\\"i\";s",
+        b"(\"\\\"\" \"a\\\\b\" \"\\\\\\\\\";p=\"\\\"\" c \"d\\\"\"), (\"\\\\\"), (\"e\\\"\";q)\
+          , (\"f\\\\g\" h);r=\"\\\"i\";s",
+    ),
+    (Kind::Item, b"  \"\\\"a\"  ", b"\"\\\"a\""),
+    (
+        Kind::Item,
+        b"\"\\\\\";a=\"\\\"\";b=\"c\\\\d\";a=\"e\\\"\" ",
+        b"\"\\\\\";a=\"e\\\"\";b=\"c\\\\d\"",
+    ),
+    (
+        Kind::List,
+        b"\"abcdefghijklmno\\\"\", \"abcdefghijklmnop\\\\\", \"abcdefghijklmnopq\\\"x\", \"abc\
+          defghijklmnopABCDEFGHIJKLMNO\\\\\\\"\", \"abcdefghijklmnopABCDEFGHIJKLMNOP\\\"\", \"\
+          abcdefghijklmnopABCDEFGHIJKLMNOPQ\\\\y\", \"abcdefghijklmnopABCDEFGHIJKLMNOP01234567\
+          89-+*/.,;:!?()[]{}<>#%&@\\\"\"",
+        b"\"abcdefghijklmno\\\"\", \"abcdefghijklmnop\\\\\", \"abcdefghijklmnopq\\\"x\", \"abc\
+          defghijklmnopABCDEFGHIJKLMNO\\\\\\\"\", \"abcdefghijklmnopABCDEFGHIJKLMNOP\\\"\", \"\
+          abcdefghijklmnopABCDEFGHIJKLMNOPQ\\\\y\", \"abcdefghijklmnopABCDEFGHIJKLMNOP01234567\
+          89-+*/.,;:!?()[]{}<>#%&@\\\"\"",
+    ),
+    (
+        Kind::Dict,
+        b"a=\"\\\"abcdefghijklmno\\\\\", b=\"\\\"abcdefghijklmnop\\\\\";c=\"\\\\abcdefghijklmn\
+          opq\\\"\", d=(\"\\\\abcdefghijklmnopABCDEFGHIJKLMNO\\\"\" \"\\\"\\\"abcdefghijklmnop\
+          ABCDEFGHIJKLMNOP\\\\\\\\\")",
+        b"a=\"\\\"abcdefghijklmno\\\\\", b=\"\\\"abcdefghijklmnop\\\\\";c=\"\\\\abcdefghijklmn\
+          opq\\\"\", d=(\"\\\\abcdefghijklmnopABCDEFGHIJKLMNO\\\"\" \"\\\"\\\"abcdefghijklmnop\
+          ABCDEFGHIJKLMNOP\\\\\\\\\")",
+    ),
+    (
+        Kind::Item,
+        b"\"\\\\abcdefghijklmnopABCDEFGHIJKLMNOPQ\\\"\";a=\"\\\"abcdefghijklmnopABCDEFGHIJKLMN\
+          OP0123456789-+*/.,;:!?()[]{}<>#%&@\\\\\"",
+        b"\"\\\\abcdefghijklmnopABCDEFGHIJKLMNOPQ\\\"\";a=\"\\\"abcdefghijklmnopABCDEFGHIJKLMN\
+          OP0123456789-+*/.,;:!?()[]{}<>#%&@\\\\\"",
+    ),
+];
+
+static BADLY_ESCAPED: [refusals::Row; 25] = [
+    // Backslashes before another byte.
+    (Kind::Item, b"\"a\\b\"", 3, Some(0x62), "22 5c"),
+    (Kind::List, b"\"\\n\", b", 2, Some(0x6e), "22 5c"),
+    (
+        Kind::Dict,
+        b"k=\"0123456789abcdef\\ \"",
+        20,
+        Some(0x20),
+        "22 5c",
+    ),
+    (Kind::Item, b"a;p=\"\\\\\\x\"", 8, Some(0x78), "22 5c"),
+    (Kind::List, b"(b \"c\\\x80\" d)", 6, Some(0x80), "22 5c"),
+    (Kind::List, b"(a;p=\"\\\"\\,\")", 9, Some(0x2c), "22 5c"),
+    // Backslashes at the end.
+    (Kind::Item, b"\"\\", 2, None, "22 5c"),
+    (Kind::List, b"a, \"b\\\"c\\", 9, None, "22 5c"),
+    (Kind::Dict, b"k=\"\\\\\\", 6, None, "22 5c"),
+    (Kind::Item, b"a;p=\"\\", 6, None, "22 5c"),
+    (Kind::List, b"(\"\\\"\\", 5, None, "22 5c"),
+    // Strings that are broken off behind an escape.
+    (Kind::Item, b"\"\\\"", 3, None, "20-7e"),
+    (Kind::Dict, b"k=\"\\\\", 5, None, "20-7e"),
+    (Kind::Item, b"a;p=\"b\\\"", 8, None, "20-7e"),
+    (Kind::List, b"(a \"\\\\\\\"", 8, None, "20-7e"),
+    (Kind::List, b"a, \"\\\"b, c", 10, None, "20-7e"),
+    // Bytes behind an escape that no String has.
+    (Kind::Item, b"\"\\\"\x01\"", 3, Some(0x01), "20-7e"),
+    (Kind::List, b"\"a\\\\\x7f\", b", 4, Some(0x7f), "20-7e"),
+    (Kind::Dict, b"k;p=\"\\\"\xc3\xbc\"", 7, Some(0xc3), "20-7e"),
+    (
+        Kind::List,
+        b"(\"0123456789abcde\\\"\t\")",
+        19,
+        Some(0x09),
+        "20-7e",
+    ),
+    // Bytes behind a String.
+    (Kind::Item, b"\"\\\"\"x", 4, Some(0x78), "20 3b end"),
+    (Kind::List, b"\"\\\\\"$", 4, Some(0x24), "09 20 2c 3b end"),
+    (Kind::List, b"(\"\\\"\"$)", 5, Some(0x24), "20 29 3b"),
+    (Kind::Dict, b"k=\"\\\\\"=", 6, Some(0x3d), "09 20 2c 3b end"),
+    (Kind::Item, b"a;p=\"\\\"\",", 8, Some(0x2c), "20 3b end"),
+];
+
+#[test]
+fn escapes_accepted(rt: HostRuntime) -> Result<(), Fail> {
+    let seed = RandomState::new(&rt)?;
+    acceptances::check_rows(&rt, rt.alloc(), &seed, &ESCAPED)
+}
+
+#[test]
+fn escapes_refused(rt: HostRuntime) -> Result<(), Fail> {
+    let seed = RandomState::new(&rt)?;
+    refusals::check_rows(&rt, rt.alloc(), &seed, &BADLY_ESCAPED)
+}
+
+/// Expects the text to be read in chunks as it is byte by byte: in chunks of two bytes, and of each size
+/// that is a multiple of the step above.
+fn check_chunks(
+    rt: &(impl Abort + AllocGlobal),
+    seed: &RandomState,
+    kind: Kind,
+    text: &[u8],
+    step: usize,
+) -> Result<(), Fail> {
+    let dialect = Dialect::Rfc9651;
+    let bytewise = fed(rt.alloc(), seed, dialect, kind, text, 1);
+    for size in (2..text.len()).step_by(step.max(1)) {
+        let chunks = fed(rt.alloc(), seed, dialect, kind, text, size);
+        assert!(rt; are_same(&chunks, &bytewise), "{text:?} by {size}");
+    }
+    Ok(())
+}
+
+#[test]
+fn escapes_in_chunks_of_each_size(rt: HostRuntime) -> Result<(), Fail> {
+    let seed = RandomState::new(&rt)?;
+    for (kind, text, _) in &ESCAPED {
+        check_chunks(&rt, &seed, *kind, text, 1)?;
+    }
+    Ok(())
+}
+
+#[test]
+fn escapes_cut_off_at_each_place(rt: HostRuntime) -> Result<(), Fail> {
+    let seed = RandomState::new(&rt)?;
+    for (kind, text, _) in &ESCAPED {
+        for end in 0..text.len() {
+            let short = &text[..end];
+            assert!(&rt;
+                is_read_the_same(rt.alloc(), &seed, Dialect::Rfc9651, *kind, short),
+                "{short:?}"
+            );
+        }
+    }
+    Ok(())
+}
+
+// On both sides of the numbers of bytes that are tested at a time, and of 512.
+static BEFORE: [usize; 19] = [
+    0, 1, 14, 15, 16, 17, 30, 31, 32, 33, 63, 64, 65, 96, 510, 511, 512, 513, 2000,
+];
+
+// What is behind so many bytes of a String: escapes, bytes behind an escape, and each mistake.
+static BEHIND: [&[u8]; 16] = [
+    b"\"",
+    b"\\\"\"",
+    b"\\\\\"",
+    b"\\\"\\\\\"",
+    b"\\\\y\"",
+    b"\\\"zzzzzzzzzzzzzzz\\\"\"",
+    b"\\\"zzzzzzzzzzzzzzzz\\\\\"",
+    b"\\\"zzzzzzzzzzzzzzzzz\"",
+    b"\\\"\\\"\\\"\\\"\\\"\\\"\\\"\\\"\\\"\\\"\\\"\\\"\\\"\\\"\\\"\\\"\\\"\"",
+    b"\\",
+    b"\\\"",
+    b"\\\"\\",
+    b"\\x\"",
+    b"\\\\\\ \"",
+    b"\\\"\x01\"",
+    b"\\\"\x80\"",
+];
+
+/// A String of a frame, of so many bytes and an end.
+fn framed(
+    alloc: Global,
+    front: &[u8],
+    length: usize,
+    end: &[u8],
+    back: &[u8],
+) -> Result<Vec<u8>, Fail> {
+    let mut text = Vec::new(alloc);
+    text.extend_from_slice(front)?;
+    text.push(b'"')?;
+    for _ in 0..length {
+        text.push(b'x')?;
+    }
+    text.extend_from_slice(end)?;
+    text.extend_from_slice(back)?;
+    Ok(text)
+}
+
+#[test]
+fn escapes_as_by_levels(rt: HostRuntime) -> Result<(), Fail> {
+    let seed = RandomState::new(&rt)?;
+    for (kind, front, back) in &FRAMES {
+        for length in &BEFORE {
+            for end in &BEHIND {
+                let text = framed(rt.alloc(), front, *length, end, back)?;
+                let text = text.as_slice();
+                for dialect in [Dialect::Rfc9651, Dialect::Rfc8941] {
+                    assert!(&rt;
+                        is_read_the_same(rt.alloc(), &seed, dialect, *kind, text),
+                        "{length} {end:?}"
+                    );
+                }
+            }
+        }
+    }
+    Ok(())
+}
+
+#[test]
+fn long_strings_in_chunks(rt: HostRuntime) -> Result<(), Fail> {
+    let seed = RandomState::new(&rt)?;
+    for (kind, front, back) in &FRAMES {
+        for (length, step) in [(511, 5), (512, 5), (513, 5), (2000, 31)] {
+            for end in &BEHIND[..4] {
+                let text = framed(rt.alloc(), front, length, end, back)?;
+                check_chunks(&rt, &seed, *kind, text.as_slice(), step)?;
+            }
+        }
+    }
+    Ok(())
+}
