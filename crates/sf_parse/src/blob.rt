@@ -11,7 +11,7 @@ ghost use Rattle.sf_parse.specs.Machine.Blobs.{pad_step, end_step, blob_step, bl
 
 use crate::context::Context;
 use crate::sets::{BASE64, COLON, EQUALS, set_if};
-use sf_value::{OutOfMemory, ShortBytes, sextet, sextets};
+use sf_value::{OutOfMemory, ShortBytes, sextet};
 
 /// The values of the characters of an open group of base64.
 #[derive(Clone, Copy)]
@@ -208,7 +208,10 @@ fn group_bytes(a: u8, b: u8, c: u8, d: u8) -> Option<(u8, u8, u8)>
     ensures { IfSome result (λ out. (bs : List ℕ) → run blob_step (Group bs H0)
         (a ∷ b ∷ c ∷ d ∷ []) ≡ Some (Group (bs ++ out.0 ∷ out.1 ∷ out.2 ∷ []) H0)) }
 {
-    let (x, y, z, w) = sextets(a, b, c, d)?;
+    let x = sextet(a)?;
+    let y = sextet(b)?;
+    let z = sextet(c)?;
+    let w = sextet(d)?;
     Some((x * 4 + y / 16, y % 16 * 16 + z / 4, z % 4 * 64 + w))
 }
 

@@ -1,7 +1,7 @@
 -- Tables of 256 bytes that give each byte's value, or a limit if it has none.
 use Rattle.std.proofs.Common.{◌≡◌, ℕ, ◌<◌, ◌≤◌, Bool, true, false, ◌==◌, not, List, get_or, Option}
 use Rattle.std.proofs.Common.{Some, None}
-use Rattle.std.proofs.Common.{refl, sym, ap, ◌∙◌, subst, eqb-true, arith, bit_and, nat_eq}
+use Rattle.std.proofs.Common.{refl, ap, eqb-true, arith, bit_and, nat_eq}
 use Rattle.sf_value.proofs.Tables.{all_below, each_below}
 
 -- what stands for no value is the limit
@@ -61,10 +61,3 @@ pub flag_read : (table : List ℕ) (flag : ℕ) (test : ℕ → Bool) → has_fl
 flag_read table flag test h b l =
     same_is (has_flag table flag b) (test b)
     (each_below 256 (λ b. same (has_flag table flag b) (test b)) h b l)
-
--- a value of a byte is below the limit in the table
-pub some_small : (table : List ℕ) (limit : ℕ) (read : ℕ → Option ℕ)
-    → has_values table limit read ≡ true → ((b v : ℕ) → read b ≡ Some v → v < limit)
-    → (b x : ℕ) → b < 256 → read b ≡ Some x → get_or table b 0 < limit
-some_small table limit read h small b x l e =
-    subst (λ y. y < limit) (sym (read_at table limit read h b l ∙ ap (value_or limit) e)) (small b x e)

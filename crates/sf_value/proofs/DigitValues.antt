@@ -1,7 +1,6 @@
 -- The values of digits: of hexadecimal ones, and of the characters of base64.
 use Rattle.std.proofs.Common.{◌≡◌, ℕ, ◌+◌, ◌-◌, ◌<◌, ◌≤◌, true, ◌==◌, nat_lt, if◌then◌else◌, Some}
-use Rattle.std.proofs.Common.{None, refl, ap, ◌⊎◌, arith, eqb-true, bit_or}
-use Rattle.std.proofs.lemmas.Nat.{le_or_l, le_or_r, or_lt}
+use Rattle.std.proofs.Common.{None, refl, ap, ◌⊎◌, arith, eqb-true}
 use Rattle.sf_value.specs.Digits.{sextet, unhex}
 use Rattle.sf_value.specs.Grammar.ByteSequences.{letter}
 use Rattle.sf_value.specs.Grammar.DisplayStrings.{hex}
@@ -69,20 +68,3 @@ letter_same x y h k e = let a = letter_read x h in let b = letter_read y k in
 pub not_letter : (x b : ℕ) → x < 64 → letter x ≡ b → sextet b ≡ None → ⊥
 not_letter x b h e n = let a = letter_read x h in
     let c : sextet (letter x) ≡ sextet b = ap sextet e in cc
-
--- four numbers are below a bound if their bits together are
-pub all_small : (x y z w : ℕ) → bit_or (bit_or (bit_or x y) z) w < 64
-    → (x < 64) × (y < 64) × (z < 64) × (w < 64)
-all_small x y z w h =
-    let a = le_or_l x y in
-    let b = le_or_r x y in
-    let c = le_or_l (bit_or x y) z in
-    let d = le_or_r (bit_or x y) z in
-    let e = le_or_l (bit_or (bit_or x y) z) w in
-    let f = le_or_r (bit_or (bit_or x y) z) w in
-    (omega arith, omega arith, omega arith, omega arith)
-
--- and only then
-pub small_together : (x y z w : ℕ) → x < 64 → y < 64 → z < 64 → w < 64
-    → bit_or (bit_or (bit_or x y) z) w < 64
-small_together x y z w a b c d = or_lt 6 _ w (or_lt 6 _ z (or_lt 6 x y a b) c) d

@@ -1,5 +1,5 @@
 //! Hexadecimal digits (RFC 9651 section 4.1.11) and the characters of base64 (RFC 4648 section 4).
-ghost use Rattle.std.specs.Prelude.{◌≡◌, ◌/◌, ◌%◌, ◌<◌, ℕ, [], ◌∷◌, Some, IfSome, IfNone};
+ghost use Rattle.std.specs.Prelude.{◌≡◌, ◌/◌, ◌%◌, ◌<◌, [], ◌∷◌, IfSome};
 ghost use Rattle.sf_value.specs.Grammar.DisplayStrings.{hex};
 ghost use Rattle.sf_value.specs.Digits.{unhex as unhex_of, sextet as sextet_of};
 
@@ -75,33 +75,6 @@ pub fn sextet(byte: u8) -> Option<u8>
 {
     let value = SEXTETS[byte as usize];
     if value < 64 { Some(value) } else { None }
-}
-
-/// The values of four characters of base64; `None` if one of the bytes is none. It does not allocate.
-/// The four are tested at once, by the bits of their values together, which takes less time than
-/// [`sextet`] of each.
-///
-/// ```
-/// sextets(b'A', b'B', b'C', b'/') // Some((0, 1, 2, 63))
-/// ```
-#[inline]
-pub fn sextets(a: u8, b: u8, c: u8, d: u8) -> Option<(u8, u8, u8, u8)>
-    ensures values { IfSome result (λ v. (sextet_of a ≡ Some v.0) × (sextet_of b ≡ Some v.1)
-        × (sextet_of c ≡ Some v.2) × (sextet_of d ≡ Some v.3)) }
-    // They are below 64.
-    ensures small { IfSome result (λ v. (v.0 < 64) × (v.1 < 64) × (v.2 < 64) × (v.3 < 64)) }
-    // Otherwise they are not all characters.
-    ensures none { IfNone result ((x y z w : ℕ) → sextet_of a ≡ Some x → sextet_of b ≡ Some y
-        → sextet_of c ≡ Some z → sextet_of d ≡ Some w → ⊥) }
-{
-    let x = SEXTETS[a as usize];
-    let y = SEXTETS[b as usize];
-    let z = SEXTETS[c as usize];
-    let w = SEXTETS[d as usize];
-    if x | y | z | w < 64 {
-        return Some((x, y, z, w));
-    }
-    None
 }
 
 /// The lower-case hexadecimal digit of a number below 16.

@@ -65,7 +65,7 @@ pub use classes::{
 };
 pub use device::{Failed, Reading, Sink, Source, Writing};
 pub use dialect::Dialect;
-pub use digits::{hex_digits, sextet, sextets, unhex};
+pub use digits::{hex_digits, sextet, unhex};
 pub use display_string::Shown;
 pub use entries::{Entries, IntoIter, Iter, IterMut};
 pub use fault::{OutOfMemory, OutOfRange, TextFault};
