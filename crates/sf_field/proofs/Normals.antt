@@ -18,7 +18,7 @@ use Rattle.sf_parse.specs.declared.refusal.Refusal.TheVariants.{ReadFault}
 use Rattle.sf_parse.specs.Parsers.{IsOnly, Parses}
 use Rattle.sf_view.specs.CanonicalParts.{IsCanonicalOf}
 use Rattle.sf_parse.proofs.GrammarLaws.{one_value, canon_one}
-use Rattle.sf_field.proofs.OneText.{parsed_alike, parsed_line}
+use Rattle.sf_field.proofs.OneText.{parsed_alike, parsed_lines}
 use Rattle.sf_field.specs.Asking.{MeansAsCanonical}
 use Rattle.sf_field.specs.Normal.{NormalisesTo}
 use Rattle.sf_field.specs.Lines.{ParsesLines}
@@ -98,7 +98,7 @@ normalised kind lines t (Ok c) same small h =
     h.canonical
 normalised kind lines t (Err e) same small h =
     parsed_alike Rfc9651 kind (t ∷ []) lines (Err e) same
-    (parsed_line Rfc9651 kind t (Err e) small h)
+    (parsed_lines Rfc9651 kind (t ∷ []) (Err e) small h)
 
 -- one line is its own joined text
 pub join_one : (lines : List (List ℕ)) (line : List ℕ) → length lines ≡ 1

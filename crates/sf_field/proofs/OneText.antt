@@ -16,16 +16,17 @@ use Rattle.sf_field.specs.declared.consumer.UseFault.TheVariants as use_fault
 use Rattle.sf_field.specs.Asking.{Asks, Means}
 use Rattle.sf_field.specs.Lines.{IsCounted, ParsesLines}
 
--- a text of fewer than 2^63 bytes, parsed as the only line
-pub parsed_line : (d : Dialect) (kind : Kind) (t : List ℕ) (r : Result Field Refusal)
-    → length t < 2 ^ 63 → Parses d kind t r → ParsesLines d kind (t ∷ []) r
-parsed_line d kind t (Ok v) small h = (h, omega (arith, small))
-parsed_line d kind t (Err OutOfMemory) small h = (tt, tt)
-parsed_line d kind t (Err (Syntax place None expected may_end)) small h = (h, omega (arith, small))
-parsed_line d kind t (Err (Syntax place (Some b) expected may_end)) small h =
+-- the joined text of lines, of fewer than 2^63 bytes: a result for it is one for the lines
+pub parsed_lines : (d : Dialect) (kind : Kind) (ls : List (List ℕ)) (r : Result Field Refusal)
+    → length (join ls) < 2 ^ 63 → Parses d kind (join ls) r → ParsesLines d kind ls r
+parsed_lines d kind ls (Ok v) small h = (h, omega (arith, small))
+parsed_lines d kind ls (Err OutOfMemory) small h = (tt, tt)
+parsed_lines d kind ls (Err (Syntax place None expected may_end)) small h =
+    (h, omega (arith, small))
+parsed_lines d kind ls (Err (Syntax place (Some b) expected may_end)) small h =
     (h, omega (arith, small, h.is_place.within))
-parsed_line d kind t (Err (TooLong limit)) small h = absurd h
-parsed_line d kind t (Err (ReadFault place)) small h = absurd h
+parsed_lines d kind ls (Err (TooLong limit)) small h = absurd h
+parsed_lines d kind ls (Err (ReadFault place)) small h = absurd h
 
 -- lines with one joined text are parsed alike
 pub parsed_alike : (d : Dialect) (kind : Kind) (these those : List (List ℕ))

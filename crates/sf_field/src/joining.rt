@@ -21,7 +21,7 @@ pub(crate) struct Joined<'a> {
 const LINES: usize = 15;
 
 /// Joins two lines and those that remain in the buffer, as far as they fit, but at most 16, and only
-/// up to an empty one: with this the field is refused.
+/// up to an empty one: unless this is within a String, the field is refused there.
 pub(crate) fn join_prefix<'a, L: FieldLines<'a>>(
     buffer: &mut [u8],
     first: &[u8],

@@ -20,4 +20,6 @@ pub use consumer::{Consumer, UseFault};
 pub use header_update::{SetFault, header_value, set_field};
 pub use headers::from_headers;
 pub use kinds::{parse_dict_lines, parse_item_lines, parse_list_lines};
-pub use lines::{FieldLines, normalise_lines, parse_from, parse_lines, parse_lines_in};
+pub use lines::{
+    FieldLines, append_line, normalise_lines, parse_from, parse_lines, parse_lines_in,
+};

@@ -211,8 +211,16 @@ fn joined(alloc: Global, lines: &[Blob]) -> Result<Vec<u8>, OutOfMemory>
     Ok(text)
 }
 
-/// Appends a line, after a comma and a space if it is not the first.
-fn append_line(text: &mut Vec<u8>, after_line: bool, line: &[u8]) -> Result<(), OutOfMemory>
+/// Appends a field line to the joined text of a field (RFC 9651 section 4.2): after a comma and a
+/// space if a line came before. It fails only if an allocation fails; the text may then end with the
+/// comma and the space.
+///
+/// ```
+/// append_line(&mut text, false, b"a, b")?;
+/// append_line(&mut text, true, b"c")?;
+/// text.as_slice() // a, b, c
+/// ```
+pub fn append_line(text: &mut Vec<u8>, after_line: bool, line: &[u8]) -> Result<(), OutOfMemory>
     ensures { IfOk result (λ _. text.new.items ≡ text.old.items ++ in_line after_line line.now) }
 {
     if after_line {

@@ -1,6 +1,6 @@
 -- Lines that are accepted one by one, and the text that they are together.
 use Rattle.std.proofs.Common.{◌≡◌, ◌≢◌, ℕ, ◌*◌, ◌≤◌, ◌⊎◌, inl, inr, true, List, []}
-use Rattle.std.proofs.Common.{◌∷◌, ◌++◌, length, map, Some, None, Result, Ok, Err, refl, sym, ap, ◌∙◌}
+use Rattle.std.proofs.Common.{◌∷◌, ◌++◌, length, map, Result, refl, sym, ap, ◌∙◌}
 use Rattle.std.proofs.Common.{subst, arith, append_assoc, append-nil}
 use Rattle.std.specs.Str.Lines.{lines}
 use Rattle.sf_value.specs.declared.dialect.Dialect.{Dialect}
@@ -16,14 +16,13 @@ use Rattle.sf_value.specs.Grammar.InnerLists.{SpellsMember}
 use Rattle.sf_value.specs.Grammar.Lines.{join}
 use Rattle.sf_value.specs.Grammar.Series.{SpellsCommas, SpellsWhole}
 use Rattle.sf_parse.specs.declared.refusal.Refusal.{Refusal}
-use Rattle.sf_parse.specs.declared.refusal.Refusal.TheVariants.{OutOfMemory, Syntax, TooLong}
-use Rattle.sf_parse.specs.declared.refusal.Refusal.TheVariants.{ReadFault}
 use Rattle.sf_value.proofs.Words.{every_map}
 use Rattle.sf_parse.specs.Parsers.{IsOnly, Parses}
 use Rattle.sf_parse.proofs.Machine.Series.{sp_ows}
 use Rattle.sf_view.proofs.Members.{only_of}
 use Rattle.sf_field.specs.Lines.{ParsesLines}
 use Rattle.sf_field.proofs.Feeding as fed
+use Rattle.sf_field.proofs.OneText.{parsed_lines}
 use Rattle.sf_tool.specs.Lines.{trim, lines_of}
 use Rattle.sf_tool.specs.Run.{joined, input_limit}
 use Rattle.sf_tool.specs.Scanning.{SpellsSome, SpellsMembers}
@@ -160,13 +159,7 @@ has_read_all d k input rest n (inr (p, h, e)) none =
 -- a result for the joined text, which is short, is one for the lines
 pub counted : (d : Dialect) (k : Kind) (ls : List (List ℕ)) (r : Result Field Refusal)
     → length (join ls) ≤ 3 * input_limit → Parses d k (join ls) r → ParsesLines d k ls r
-counted d k ls (Ok v) short p = (p, omega arith)
-counted d k ls (Err OutOfMemory) short p = (p, tt)
-counted d k ls (Err (Syntax place None expected may_end)) short p = (p, omega arith)
-counted d k ls (Err (Syntax place (Some b) expected may_end)) short p =
-    (p, omega (arith, p.is_place.within))
-counted d k ls (Err (TooLong limit)) short p = absurd p
-counted d k ls (Err (ReadFault place)) short p = absurd p
+counted d k ls r short = parsed_lines d k ls r (omega (arith, short))
 
 -- the kind of a field that a text spells
 pub kind_spelled : (d : Dialect) (k : Kind) (t : List ℕ) (v : Field) → SpellsField d k t v

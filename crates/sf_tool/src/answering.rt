@@ -100,7 +100,8 @@ fn answer_viewed<W: Sink>(nodes: &sf_view::View, kind: Kind, sink: &mut W) -> St
 
 /// Writes the canonical text of the field that a text spells, and a line feed, from nodes that
 /// point into the text. `None` if there are no nodes, because the text is refused, a key of
-/// parameters is repeated, or an allocation failed; then nothing was written.
+/// parameters is repeated, too many keys have one hash, or an allocation failed; then nothing was
+/// written.
 pub(crate) fn answer_nodes<W: Sink>(
     alloc: Global,
     dialect: Dialect,

@@ -211,8 +211,8 @@ fn answer_verdict<W: Sink>(
 }
 
 /// Writes the canonical text of the input's field, and a line feed, or why the input is refused.
-/// Nodes are made only after a part of the input was accepted, so that work does not grow with an
-/// input that is refused early.
+/// Nodes of a long line are made only after a sixteenth of it was accepted, so that work does not grow
+/// with an input that is refused early.
 fn answer_normalised<W: Sink>(
     alloc: Global,
     seed: &RandomState,

@@ -2,12 +2,13 @@
 ghost use Rattle.std.specs.Prelude.{◌≡◌, ◌≢◌, ◌++◌, IfNone, IfOk, IfSome, IsTrue};
 ghost use Rattle.sf_value.specs.declared.value.Field.{Field};
 ghost use Rattle.sf_value.specs.declared.value.Kind.TheVariants as kind_is;
-ghost use Rattle.sf_parse.specs.Parsers.{IsOnly, in_line};
+ghost use Rattle.sf_parse.specs.Parsers.{IsOnly};
 ghost use Rattle.sf_tool.specs.Run.{joined};
 ghost use Rattle.sf_tool.specs.Scanning.{SpellsMembers};
 
 use crate::cutting::{split_line, trimmed};
 use memchr::memrchr;
+use sf_field::append_line;
 use sf_value::{Dialect, Kind, OutOfMemory, is_ows};
 use sf_view::accepts;
 use std::alloc::Global;
@@ -25,17 +26,6 @@ pub(crate) fn only_line(input: &[u8]) -> Option<&[u8]>
     } else {
         None
     }
-}
-
-/// Appends a line, after a comma and a space if it is not the first.
-fn append_line(text: &mut Vec<u8>, after_line: bool, line: &[u8]) -> Result<(), OutOfMemory>
-    ensures { IfOk result (λ _. text.new.items ≡ text.old.items ++ in_line after_line line.now) }
-{
-    if after_line {
-        text.extend_from_slice(b", ")?;
-    }
-    text.extend_from_slice(line)?;
-    Ok(())
 }
 
 /// Returns the joined text of an input's lines. A line feed becomes a comma and a space, so the
@@ -97,8 +87,10 @@ fn accepts_joined(alloc: Global, dialect: Dialect, kind: Kind, input: &[u8]) -> 
 /// The length up to which a line goes to the nodes at once: its nodes take little memory.
 const SHORT: usize = 1024;
 
-/// Whether an input of one line is short, or its first eighth is accepted, up to a comma. It only
-/// saves time: nothing is claimed of it.
+/// Whether an input of one line is short, or its first eighth is accepted, up to the last comma there.
+/// This comma is in the second half of the eighth, since otherwise the work on nodes could be far more
+/// than reading a line up to the byte at which it is refused. It only saves time: nothing is claimed of
+/// it.
 pub(crate) fn begins_accepted(dialect: Dialect, kind: Kind, input: &[u8]) -> bool {
     let Some(line) = only_line(input) else {
         return false;
@@ -108,8 +100,8 @@ pub(crate) fn begins_accepted(dialect: Dialect, kind: Kind, input: &[u8]) -> boo
     }
     let (front, _) = line.split_at(line.len() / 8);
     match memrchr(b',', front) {
-        Some(comma) => accepts(dialect, kind, &front[..comma]),
-        None => false,
+        Some(comma) if comma >= front.len() / 2 => accepts(dialect, kind, &front[..comma]),
+        _ => false,
     }
 }
 
