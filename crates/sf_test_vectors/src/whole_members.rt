@@ -1,6 +1,6 @@
-//! Lists and Dictionaries with whole members, in texts on both sides of the number of bytes from
-//! which the parser looks for these: each bare item, before a comma, a space, a tab, the end and a
-//! byte that is refused. What is read directly out of a text is compared with what a parser makes
+//! Lists and Dictionaries with whole members, and Items, in texts on both sides of the number of
+//! bytes from which the parser looks for these: each bare item, before a comma, a space, a tab, the
+//! end and a byte that is refused. What is read directly out of a text is compared with what a parser makes
 //! of its bytes one by one.
 use crate::{acceptances, refusals};
 use sf_parse::{Parser, Refusal, parse_text_in};
@@ -537,8 +537,8 @@ static FRAMES: [(Kind, &[u8], &[u8]); 8] = [
     (Kind::Dict, b"k;p=", b";q, z"),
 ];
 
-// On both sides of the numbers of bytes that are tested at a time, of those up to which a String was
-// once found, and of those up to which a text is searched for what is behind a part.
+// On both sides of the numbers of bytes that are tested at a time, of half a KiB, and of the number of
+// bytes in which what is behind a part is looked for.
 static LENGTHS: [usize; 30] = [
     15, 16, 17, 31, 32, 33, 63, 64, 65, 79, 80, 81, 95, 96, 97, 111, 112, 113, 509, 510, 511, 512,
     513, 514, 1021, 1022, 1023, 1024, 1025, 1026,
