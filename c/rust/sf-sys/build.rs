@@ -1,16 +1,26 @@
-//! Finds the library: `libsf.a` in the folder that `SF_LIB` names; otherwise the archive that this crate
-//! is shipped with, or that `make -C c` built; otherwise an installed library, by pkg-config. A relative
-//! `SF_LIB` is a folder below that in which cargo was started, if the shell says which, or below this crate.
+//! Finds the library: `libsf.a` in the folder that `SF_LIB` names; otherwise the archive that this
+//! crate is shipped with, or that `make -C c` built; otherwise an installed library, by pkg-config.
+//! A relative `SF_LIB` is a folder below that in which cargo was started, if the shell says which,
+//! or below this crate.
+//!
+//! Without the library, `cargo check`, `cargo clippy` and `cargo doc` succeed, since they don't
+//! link; a warning says what is missing, except on docs.rs. `cargo build` then fails: there is no
+//! library `sf`.
 use std::env;
 use std::path::{Path, PathBuf};
-use std::process::{exit, Command};
+use std::process::Command;
 
 fn main() {
     println!("cargo:rerun-if-env-changed=SF_LIB");
     println!("cargo:rerun-if-env-changed=PKG_CONFIG_PATH");
+    println!("cargo:rerun-if-env-changed=DOCS_RS");
+    if env::var_os("DOCS_RS").is_some() {
+        return;
+    }
     if let Err(message) = link() {
-        eprintln!("sf-sys: {message}");
-        exit(1);
+        println!("cargo:warning={message}");
+        println!("cargo:rustc-link-lib=static=sf");
+        println!("cargo:rerun-if-changed=no libsf.a"); // is not there, so this is run again
     }
 }
 

@@ -39,6 +39,10 @@ pub record FedSoFar (o p : Progress) (all left : List ℕ) : Type 0 where
   pub split : all ≡ prefix ++ left
   pub fed : Feeds o p (Ok tt) prefix
 
+-- nothing was fed yet
+pub fed_nothing : (o p : Progress) (all : List ℕ) → Feeds o p (Ok tt) [] → FedSoFar o p all all
+fed_nothing o p all f = record { prefix = []; split = refl; fed = f }
+
 -- the first line was fed
 pub fed_first : (o p : Progress) (line : List ℕ) (ls : List (List ℕ)) → o.after_line ≡ false
     → p.after_line ≡ true → Feeds o p (Ok tt) (in_line o.after_line line)

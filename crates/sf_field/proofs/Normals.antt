@@ -19,7 +19,7 @@ use Rattle.sf_parse.specs.Parsers.{IsOnly, Parses}
 use Rattle.sf_view.specs.CanonicalParts.{IsCanonicalOf}
 use Rattle.sf_parse.proofs.GrammarLaws.{one_value, canon_one}
 use Rattle.sf_field.proofs.OneText.{parsed_alike, parsed_lines}
-use Rattle.sf_field.specs.Asking.{MeansAsCanonical}
+use Rattle.sf_field.specs.Asking.{MeansAsCanonicalIn}
 use Rattle.sf_field.specs.Normal.{NormalisesTo}
 use Rattle.sf_field.specs.Lines.{ParsesLines}
 use Rattle.sf_field.specs.Laws.{CanonSettles, EqualByText, NormalIsOne, TwiceIsOnce}
@@ -134,11 +134,11 @@ normal_is_one kind these those c e p q =
     )
 
 -- what lines mean, their canonical text means
-pub means_as_canonical : {A : Type 0} (kind : Kind) (meaning : Field → Result A ℕ)
-    (lines : List (List ℕ)) → MeansAsCanonical kind meaning lines
-means_as_canonical kind meaning lines v h meant =
-    let here = is_only Rfc9651 kind (join lines) v h in
-    let there = canon_only Rfc9651 kind (join lines) v h in (
+pub means_as_canonical : {A : Type 0} (d : Dialect) (kind : Kind) (meaning : Field → Result A ℕ)
+    (lines : List (List ℕ)) → MeansAsCanonicalIn d kind meaning lines
+means_as_canonical d kind meaning lines v h meant =
+    let here = is_only d kind (join lines) v h in
+    let there = canon_only d kind (join lines) v h in (
       λ m. (v, there, ap meaning (m.1.only v h) ∙ m.2),
       λ m. (v, here, ap meaning (m.1.only v there.spelled) ∙ m.2),
     )

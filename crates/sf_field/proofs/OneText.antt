@@ -2,7 +2,6 @@
 use Rattle.std.proofs.Common.{◌≡◌, ℕ, ◌^◌, ◌<◌, List, [], ◌∷◌, length, take}
 use Rattle.std.proofs.Common.{Some, None, Result, Ok, Err, subst, arith}
 use Rattle.sf_value.specs.declared.dialect.Dialect.{Dialect}
-use Rattle.sf_value.specs.declared.dialect.Dialect.TheVariants.{Rfc9651}
 use Rattle.sf_value.specs.declared.value.Field.{Field}
 use Rattle.sf_value.specs.declared.value.Kind.{Kind}
 use Rattle.sf_value.specs.Grammar.Lines.{join, Viable}
@@ -13,7 +12,7 @@ use Rattle.sf_parse.specs.Parsers.{IsOnly, Parses}
 use Rattle.sf_field.specs.declared.asking.AskFault.{AskFault}
 use Rattle.sf_field.specs.declared.asking.AskFault.TheVariants as fault
 use Rattle.sf_field.specs.declared.consumer.UseFault.TheVariants as use_fault
-use Rattle.sf_field.specs.Asking.{Asks, Means}
+use Rattle.sf_field.specs.Asking.{AsksIn, MeansIn}
 use Rattle.sf_field.specs.Lines.{IsCounted, ParsesLines}
 
 -- the joined text of lines, of fewer than 2^63 bytes: a result for it is one for the lines
@@ -52,21 +51,21 @@ parsed_alike d kind these those r e = by r
     by (Err (ReadFault place)) h = h
 
 -- lines with one joined text have one meaning
-pub means_alike : {A : Type 0} (kind : Kind) (meaning : Field → Result A ℕ)
+pub means_alike : {A : Type 0} (d : Dialect) (kind : Kind) (meaning : Field → Result A ℕ)
     (these those : List (List ℕ)) (meant : Result A ℕ) → join these ≡ join those
-    → Means kind meaning these meant → Means kind meaning those meant
-means_alike kind meaning these those meant e (v, only, is) =
-    (v, subst (λ t. IsOnly Rfc9651 kind t v) e only, is)
+    → MeansIn d kind meaning these meant → MeansIn d kind meaning those meant
+means_alike d kind meaning these those meant e (v, only, is) =
+    (v, subst (λ t. IsOnly d kind t v) e only, is)
 
 -- and one answer
-pub asks_alike : {A : Type 0} (kind : Kind) (meaning : Field → Result A ℕ)
+pub asks_alike : {A : Type 0} (d : Dialect) (kind : Kind) (meaning : Field → Result A ℕ)
     (these those : List (List ℕ)) (r : Result A AskFault) → join these ≡ join those
-    → Asks kind meaning these r → Asks kind meaning those r
-asks_alike kind meaning these those (Ok answer) e h =
-    means_alike kind meaning these those (Ok answer) e h
-asks_alike kind meaning these those (Err (fault.Field refusal)) e h =
-    parsed_alike Rfc9651 kind these those (Err refusal) e h
-asks_alike kind meaning these those (Err (fault.Answer (use_fault.NotACache index))) e h =
-    means_alike kind meaning these those (Err index) e h
-asks_alike kind meaning these those (Err (fault.Answer use_fault.OutOfMemory)) e (v, only, some) =
-    (v, subst (λ t. IsOnly Rfc9651 kind t v) e only, some)
+    → AsksIn d kind meaning these r → AsksIn d kind meaning those r
+asks_alike d kind meaning these those (Ok answer) e h =
+    means_alike d kind meaning these those (Ok answer) e h
+asks_alike d kind meaning these those (Err (fault.Field refusal)) e h =
+    parsed_alike d kind these those (Err refusal) e h
+asks_alike d kind meaning these those (Err (fault.Answer (use_fault.NotACache index))) e h =
+    means_alike d kind meaning these those (Err index) e h
+asks_alike d kind meaning these those (Err (fault.Answer use_fault.OutOfMemory)) e h =
+    (h.0, subst (λ t. IsOnly d kind t h.0) e h.1, h.2)

@@ -5,10 +5,10 @@ ghost use Rattle.sf_value.specs.declared.value.Kind.{Kind};
 ghost use Rattle.sf_value.specs.Grammar.Fields.{kind_of};
 ghost use Rattle.sf_field.specs.Faults.{use_fault_text};
 ghost use Rattle.sf_field.specs.declared.consumer.UseFault.TheVariants as fault_is;
-ghost use Rattle.sf_field.specs.Asking.{Means};
+ghost use Rattle.sf_field.specs.Asking.{Means, MeansIn};
 ghost use Rattle.sf_field.specs.Meaning.{Gives};
 
-use sf_value::{Field, Kind, OutOfMemory};
+use sf_value::{Dialect, Field, Kind, OutOfMemory};
 use std::alloc::Global;
 use std::error::Error;
 use std::fmt;
@@ -62,6 +62,26 @@ pub trait Consumer {
             (λ answer. Means KIND (meaning self.now) (_text.now ∷ []) (Ok answer)) }
     {
         None
+    }
+
+    /// Returns what a text of the kind [`Consumer::KIND`] means in a dialect as the only line, if
+    /// that can be read without the field; `None` claims nothing. Unless an implementation has its
+    /// own, it is [`Consumer::answer_text`] by RFC 9651, and `None` by RFC 8941. An implementation
+    /// may not answer for a text that the dialect refuses, as one with a Date by RFC 8941.
+    ///
+    /// ```
+    /// PriorityField.answer_text_in(alloc, Dialect::Rfc8941, b"u=1, x=@1") // None
+    /// ```
+    fn answer_text_in(&self, alloc: Global, dialect: Dialect, text: &[u8]) -> Option<Self::Answer>
+        // In the dialect the text spells a value of the kind, and no other, and this is what it
+        // means.
+        ensures { IfSome result
+            (λ answer. MeansIn dialect KIND (meaning self.now) (text.now ∷ []) (Ok answer)) }
+    {
+        match dialect {
+            Dialect::Rfc8941 => return None,
+            Dialect::Rfc9651 => return self.answer_text(alloc, text),
+        }
     }
 }
 

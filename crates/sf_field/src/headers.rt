@@ -5,12 +5,19 @@ ghost use Rattle.sf_parse.specs.AllocationFree.{TakesNoMemory};
 ghost use Rattle.sf_parse.specs.AllocationFreeParsers.{IsOther};
 ghost use Rattle.sf_field.specs.Headers.{ParsesHeaders, lines_under, value_lines};
 
-use crate::lines::{FieldLines, parse_from};
+use crate::lines::{AskingCost, FieldLines, parse_from};
 use http_header::{HeaderMap, HeaderName, HeaderValue, ValueIter};
 use sf_parse::Refusal;
 use sf_value::{Dialect, Field, Kind};
 use std::alloc::Global;
 use std::hash::RandomState;
+
+/// The values in a header map are in memory.
+impl<'a> AskingCost for ValueIter<'a, HeaderValue> {
+    fn asking_is_free(&self) -> bool {
+        true
+    }
+}
 
 /// The values of a name in a header map are field lines.
 impl<'a> FieldLines<'a> for ValueIter<'a, HeaderValue> {

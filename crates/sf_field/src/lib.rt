@@ -15,11 +15,11 @@ mod kinds;
 pub mod laws;
 mod lines;
 
-pub use asking::{AskFault, ask, ask_from};
+pub use asking::{AskFault, ask, ask_from, ask_from_in, ask_in};
 pub use consumer::{Consumer, UseFault};
 pub use header_update::{SetFault, header_value, set_field};
 pub use headers::from_headers;
 pub use kinds::{parse_dict_lines, parse_item_lines, parse_list_lines};
 pub use lines::{
-    FieldLines, append_line, normalise_lines, parse_from, parse_lines, parse_lines_in,
+    AskingCost, FieldLines, append_line, normalise_lines, parse_from, parse_lines, parse_lines_in,
 };

@@ -1,6 +1,6 @@
 //! Field lines.
-ghost use Rattle.std.specs.Prelude.{◌≡◌, ℕ, List, [], ◌∷◌, false, map, MatchOption, MatchResult};
-ghost use Rattle.std.specs.Prelude.{Err, IfOk, ◌++◌};
+ghost use Rattle.std.specs.Prelude.{◌≡◌, ℕ, List, [], ◌∷◌, ◌++◌, false, map, Err, IfOk};
+ghost use Rattle.std.specs.Prelude.{MatchOption, MatchResult};
 ghost use Rattle.std.specs.Slice.Iter.{iter_rest};
 ghost use Rattle.sf_value.specs.Grammar.Lines.{join};
 ghost use Rattle.sf_value.specs.declared.dialect.Dialect.TheVariants.{Rfc9651};
@@ -18,16 +18,39 @@ use std::alloc::Global;
 use std::hash::RandomState;
 use std::slice;
 
+/// What it costs to ask a source of field lines for the next one.
+///
+/// ```
+/// impl AskingCost for Decoded {} // a line is decoded when it is asked for
+/// ```
+pub trait AskingCost {
+    /// Returns whether asking for a line costs nothing, so that lines may be asked for ahead of
+    /// those that are parsed. It is false unless a source has its own implementation. A source of
+    /// lines that are in memory may return true, as the iterators of this library do.
+    ///
+    /// ```
+    /// lines.iter().asking_is_free() // true for a slice of Blobs
+    /// ```
+    fn asking_is_free(&self) -> bool {
+        false
+    }
+}
+
 /// The lines of one field, returned one by one, in order.
 ///
 /// Contracts see its `lines`: those that remain. Implemented by iterators over [`Blob`]s and over
 /// byte slices, and by a header map's iterator over the values of a name.
 ///
+/// A call that takes lines asks for the first one, and once a line was parsed for the next one.
+/// After a refusal it asks for no more. Only if asking is free ([`AskingCost::asking_is_free`]),
+/// lines are asked for ahead: [`parse_from`] asks for two before it parses the first, and
+/// [`crate::ask_from`] for at most 17, but after the first for none behind an empty one.
+///
 /// ```
 /// let lines: [&[u8]; 2] = [b"a, b", b"c"];
 /// let list = parse_from(alloc, &seed, Dialect::Rfc9651, Kind::List, lines.iter())?;
 /// ```
-pub trait FieldLines<'a>: Drop {
+pub trait FieldLines<'a>: AskingCost + Drop {
     // The lines that remain, in order.
     ghost lines: { Self → List (List ℕ) };
 
@@ -38,6 +61,13 @@ pub trait FieldLines<'a>: Drop {
             (λ line. lines self.old ≡ line.now ∷ lines self.new) };
 }
 
+/// Blobs are in memory.
+impl<'a> AskingCost for slice::Iter<'a, Blob> {
+    fn asking_is_free(&self) -> bool {
+        true
+    }
+}
+
 /// Blobs are field lines.
 impl<'a> FieldLines<'a> for slice::Iter<'a, Blob> {
     ghost lines = { iter_rest };
@@ -45,6 +75,13 @@ impl<'a> FieldLines<'a> for slice::Iter<'a, Blob> {
     fn next_line(&mut self) -> Option<&'a [u8]> {
         let blob = self.next()?;
         Some(blob.as_bytes())
+    }
+}
+
+/// Byte slices are in memory.
+impl<'a> AskingCost for slice::Iter<'a, &'a [u8]> {
+    fn asking_is_free(&self) -> bool {
+        true
     }
 }
 
@@ -61,7 +98,8 @@ impl<'a> FieldLines<'a> for slice::Iter<'a, &'a [u8]> {
 /// Parses lines in a dialect, as one text joined by a comma and a space, from any type that has
 /// them. The place of a refusal is an offset in the joined text. The error is TooLong only if that
 /// text has 2^64 bytes or more, and never ReadFault. Parsing does not allocate if
-/// [`sf_parse::parse_text`] does not for the joined text.
+/// [`sf_parse::parse_text`] does not for the joined text. [`FieldLines`] says when a line is asked
+/// for.
 ///
 /// ```
 /// let vary = HeaderName::from_static("vary");
@@ -82,6 +120,9 @@ pub fn parse_from<'a, L: FieldLines<'a>>(
     ensures allocation_free { TakesNoMemory kind (join (L.lines lines)) → NotForMemory result }
 {
     let mut lines = lines;
+    if !lines.asking_is_free() {
+        return parse_in_turn(alloc, seed, dialect, kind, lines);
+    }
     let Some(first) = lines.next_line() else {
         return parse_line(alloc, seed, dialect, kind, b"");
     };
@@ -106,6 +147,26 @@ pub(crate) fn parse_line(
     ensures allocation_free { TakesNoMemory kind text.now → NotForMemory result }
 {
     parse_text_in(alloc, seed, dialect, kind, text)
+}
+
+/// Parses lines, as [`parse_from`] does: each is asked for after the one before was parsed, and none
+/// after a refusal.
+fn parse_in_turn<'a, L: FieldLines<'a>>(
+    alloc: Global,
+    seed: &RandomState,
+    dialect: Dialect,
+    kind: Kind,
+    lines: L,
+) -> Result<Field, Refusal>
+    // The joined lines spell this value and no other, or this is their exact refusal, or an
+    // allocation failed.
+    ensures parses { ParsesLines dialect kind (L.lines lines) result }
+    // Lines whose joined text is allocation-free are not refused as out of memory.
+    ensures allocation_free { TakesNoMemory kind (join (L.lines lines)) → NotForMemory result }
+{
+    let mut in_turn = Parser::new_in(alloc, seed, dialect, kind, u64::MAX);
+    feed_in_turn(&mut in_turn, lines)?;
+    in_turn.finish()
 }
 
 /// Parses two lines and those that remain, as [`parse_from`] does: one by one, so that no more are
@@ -249,6 +310,24 @@ fn feed_lines<'a, L: FieldLines<'a>>(
     parser.feed_line(first)?;
     parser.feed_line(second)?;
     while let Some(line) = others.next_line() {
+        parser.feed_line(line)?;
+    }
+    Ok(())
+}
+
+/// Feeds the joined text of lines, each of which is asked for after the one before was fed; without
+/// lines it is empty.
+fn feed_in_turn<'a, L: FieldLines<'a>>(parser: &mut Parser, mut lines: L) -> Result<(), Refusal>
+    requires { parser.old.after_line ≡ false }
+    // The joined text is fed; a refusal remains, whatever comes after it.
+    ensures fed { Feeds parser.old parser.new result (join (L.lines lines)) }
+    // Lines whose joined text is allocation-free are not refused as out of memory, nor is the end.
+    ensures allocation_free { IsAllocationFree parser.old (join (L.lines lines))
+        → KeepsAllocationFree parser.new [] result }
+{
+    // A parser that refused before refuses again, also if there are no lines.
+    parser.feed(b"")?;
+    while let Some(line) = lines.next_line() {
         parser.feed_line(line)?;
     }
     Ok(())

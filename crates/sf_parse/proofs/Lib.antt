@@ -25,6 +25,7 @@ pub mod WholeSteps
 pub mod WholeMembers
 pub mod BegunParts
 pub mod Stops
+pub mod BareStops
 pub mod Leading
 pub mod ByteRuns
 pub mod RunSteps

@@ -204,19 +204,25 @@ module _ (d : Dialect) where
   abbrev EntryEnds : EntryState → Bool
   EntryEnds s = is_some (entry_finish s)
 
-  pub bare_stops : (text : List ℕ) (b : ℕ) (more : List ℕ) (took : Bool) (s t : BareState)
-      (x : Stop) → text ≡ b ∷ more → took ≡ true → Starts took (bare_start d b) s
-      → LongestPrefix bare_step s more x.left.now t → MarksStep x.expected (bare_step t)
-      → x.may_end ≡ BareEnds t → StopsIn (bare_start d) bare_step BareEnds text x
-  bare_stops text b more true s t x e f h a m k = record {
+  pub bare_stops_at : (text : List ℕ) (b : ℕ) (more : List ℕ) (s t : BareState) (x : Stop)
+      → text ≡ b ∷ more → bare_start d b ≡ Some s → Goes bare_step s more x.left.now t
+      → MarksStep x.expected (bare_step t) → x.may_end ≡ BareEnds t
+      → StopsIn (bare_start d) bare_step BareEnds text x
+  bare_stops_at text b more s t x e h a m k = record {
     byte = b;
     more = more;
     begun = s;
     split = e;
     no_space = no_white (bare_start d) (bare_none d).0 (bare_none d).1 b s h;
     starts = h;
-    stops = record { state = t; goes = a.goes; marks = m; ending = k };
+    stops = record { state = t; goes = a; marks = m; ending = k };
   }
+
+  pub bare_stops : (text : List ℕ) (b : ℕ) (more : List ℕ) (took : Bool) (s t : BareState)
+      (x : Stop) → text ≡ b ∷ more → took ≡ true → Starts took (bare_start d b) s
+      → LongestPrefix bare_step s more x.left.now t → MarksStep x.expected (bare_step t)
+      → x.may_end ≡ BareEnds t → StopsIn (bare_start d) bare_step BareEnds text x
+  bare_stops text b more true s t x e f h a m k = bare_stops_at text b more s t x e h a.goes m k
   bare_stops text b more false s t x e f h a m k = absurd cc
 
   -- spaces after a semicolon

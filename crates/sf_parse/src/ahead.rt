@@ -11,7 +11,9 @@ const NEAR: usize = 1024;
 
 /// The bytes of a text that are searched.
 #[inline(always)]
-fn head(text: &[u8]) -> &[u8] {
+fn head(text: &[u8]) -> &[u8]
+    ensures { length result.now ≤ length text.now }
+{
     let (first, _) = text.split_at(text.len().min(NEAR));
     first
 }
@@ -20,6 +22,38 @@ fn head(text: &[u8]) -> &[u8] {
 #[inline]
 pub fn has(text: &[u8], byte: u8) -> bool {
     memchr(byte, head(text)).is_some()
+}
+
+/// Whether this byte may come in a text: it is near the beginning, or not all of the text was
+/// searched.
+#[inline]
+pub fn may_have(text: &[u8], byte: u8) -> bool {
+    text.len() > NEAR || has(text, byte)
+}
+
+/// What is left from this byte on, if it is near the beginning of a text.
+#[inline]
+pub fn from_near(text: &[u8], byte: u8) -> Option<&[u8]> {
+    let place = memchr(byte, head(text))?;
+    let (_, from) = text.split_at(place);
+    Some(from)
+}
+
+/// How many bytes of an Inner List, and fewer, are searched for its closing bracket.
+const SHORT: usize = 8;
+
+/// Whether an Inner List may be closed in a text, after its opening bracket. Only a short text is
+/// searched: in a longer one there is enough to read before it ends.
+pub fn may_close(inside: &[u8]) -> bool {
+    if inside.len() > SHORT {
+        return true;
+    }
+    for byte in inside {
+        if *byte == b')' {
+            return true;
+        }
+    }
+    false
 }
 
 /// How many commas, or spaces and brackets, are looked at. Behind as many Strings with one, what is

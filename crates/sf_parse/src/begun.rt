@@ -89,8 +89,8 @@ fn keep_some_params<'a>(
 }
 
 /// Keeps the Items of an Inner List after its opening bracket. If there are none, and so little is left
-/// that nothing more is read directly, there is nothing to keep.
-#[inline(never)]
+/// that nothing more is read directly, there is nothing to keep. Only then this costs no call.
+#[inline(always)]
 pub fn keep_items<'a>(
     begun: &mut Option<Begun<'a>>,
     from: &'a [u8],
@@ -104,6 +104,20 @@ pub fn keep_items<'a>(
     if items.is_empty() && left.len() < WHOLE_PARTS {
         return;
     }
+    keep_some_items(begun, from, items, left);
+}
+
+/// As [`keep_items`].
+#[inline(never)]
+fn keep_some_items<'a>(
+    begun: &mut Option<Begun<'a>>,
+    from: &'a [u8],
+    items: Sequence<Item>,
+    left: &'a [u8],
+)
+    ensures { (d : Dialect) → LeadsBy d (parts_are.Items items) from.now left.now
+        → IfSome begun.new (IsBegunAt d from.now) }
+{
     *begun = Some(Begun {
         from,
         parts: Parts::Items(items),

@@ -164,6 +164,7 @@ impl Level for EntryReader {
         }
     }
 
+    #[inline(always)]
     fn push_part(&mut self, context: &Context, byte: u8) -> Result<bool, OutOfMemory> {
         match self.phase {
             EntryPhase::InKey | EntryPhase::Equals => return Ok(false),

@@ -43,8 +43,8 @@ use crate::series::{
 };
 use crate::sets::{SPACE, set_if};
 use crate::stop::{refuse_left, stop_in_item};
-use crate::whole_bare::{behind, ends};
-use crate::whole_parts::{Owner, behind_spaces, may_begin_part, read_params};
+use crate::whole_bare::{behind, ends, needs_reader, read_bare};
+use crate::whole_parts::{Owner, behind_spaces, read_params};
 use sf_value::{Bare, Dict, Entries, Item, List, Member, OutOfMemory, Sequence};
 
 /// The members of a List that are being read.
@@ -286,8 +286,16 @@ fn read_other_item(context: &Context, text: &[u8], inside: &[u8]) -> Result<Item
     ensures parses { Makes field_is.Item (Parses context.now.dialect kind_is.Item text.now) result }
     ensures allocation_free { TakesNoMemory kind_is.Item text.now → IfErr result IsOther }
 {
-    if may_begin_part(inside) {
-        return read_item_field(context, text, inside);
+    if !needs_reader(inside) {
+        return refuse_or_read_item(context, text, inside);
+    }
+    let Some((bare, after)) = read_bare(context, inside) else {
+        return refuse_or_read_item(context, text, inside);
+    };
+    let mut params = Entries::new(context.alloc, &context.seed);
+    let rest = read_params(context, after, Owner::Text, &mut params);
+    if ends(behind_spaces(rest)) {
+        return Ok(Item { bare, params });
     }
     refuse_or_read_item(context, text, inside)
 }

@@ -14,11 +14,12 @@ use crate::context::Context;
 use crate::number::{Number, NumberReader};
 use crate::text::unescape;
 use crate::whole_bare::{behind, split};
+use memchr::memchr;
 use sf_value::classes::{Base64, InToken, Unescaped, long_prefix};
 use sf_value::{Bare, Blob, ShortBytes, Text, Token, can_start_token};
 
-/// A bare item of a text. Dates and Display Strings are none of these: they are not read from the text
-/// in one step.
+/// A bare item of a text. Dates and Display Strings are none of these, nor are long Byte Sequences
+/// and long Strings with an escape: they are not read from the text in one step.
 #[derive(Clone, Copy)]
 pub enum Leaf<'a> {
     /// An Integer or a Decimal.
@@ -70,6 +71,19 @@ pub fn find_leaf(text: &[u8]) -> Option<(Leaf<'_>, &[u8])>
     None
 }
 
+/// How many bytes before the first escape of a String that is found, and how many from it on to the
+/// last one.
+const NEAR_ESCAPES: usize = 32;
+
+/// Whether a String, after its opening quote, has an escape and so much more that it is not found:
+/// its reader reads it, which finds its escapes and decodes them in one pass. Nothing is claimed of
+/// it.
+#[inline]
+pub fn is_escaped_far(text: &[u8]) -> bool {
+    let (run, stop) = long_prefix::<Unescaped>(text);
+    behind(stop, b'\\').is_some() && (run.len() > NEAR_ESCAPES || stop.len() > NEAR_ESCAPES)
+}
+
 /// The String that a text begins with after its quote, and the rest. None claims nothing. Of one that
 /// is broken off or bad, no byte is looked at behind the place where it is refused, and what is open in
 /// a chunk is not looked for in the next one: so however long it is, finding it is little beside
@@ -83,6 +97,9 @@ fn find_string(text: &[u8]) -> Option<(Leaf<'_>, &[u8])>
     let (run, stop) = long_prefix::<Unescaped>(text);
     if let Some(rest) = behind(stop, b'"') {
         return Some((Leaf::Text(run), rest));
+    }
+    if run.len() > NEAR_ESCAPES || behind(stop, b'\\').is_none() {
+        return None;
     }
     let (found, rest) = find_escaped(text, stop)?;
     Some((Leaf::Escaped(found), rest))
@@ -99,6 +116,9 @@ fn find_escaped<'a>(text: &'a [u8], stop: &'a [u8]) -> Option<(&'a [u8], &'a [u8
 {
     let mut rest = stop;
     while let Some(escape) = behind(rest, b'\\') {
+        if stop.len().saturating_sub(rest.len()) > NEAR_ESCAPES {
+            return None;
+        }
         let more = behind_escaped(escape)?;
         let (_, left) = long_prefix::<Unescaped>(more);
         rest = left;
@@ -128,9 +148,27 @@ fn find_blob(text: &[u8]) -> Option<(&[u8], &[u8])>
     ensures split { IfSome result (λ r. text.now ≡ r.0.now ++ r.1.now) }
     ensures ended { IfSome result (λ r. EndsBlob r.0.now) }
 {
+    if is_long_blob(text) {
+        return None;
+    }
     let (run, stop) = long_prefix::<Base64>(text);
     let rest = behind_pads(run.len() % 4, stop)?;
     Some(text.split_at(text.len() - rest.len()))
+}
+
+/// How many characters of a Byte Sequence are found, and fewer.
+const SHORT_BLOB: usize = 96;
+
+/// Whether a Byte Sequence, after its opening colon, is longer than those that are found: its
+/// reader reads it, which finds its characters and decodes them in one pass. Nothing is claimed of
+/// it.
+#[inline]
+pub fn is_long_blob(text: &[u8]) -> bool {
+    if text.len() <= SHORT_BLOB {
+        return false;
+    }
+    let (near, _) = text.split_at(SHORT_BLOB);
+    memchr(b':', near).is_none()
 }
 
 /// The rest after the padding and the colon of a Byte Sequence whose last group has `over`

@@ -150,6 +150,7 @@ impl NumberReader {
     }
 
     /// Takes the bytes that the number continues with, and returns the rest.
+    #[inline(always)]
     pub fn take_run<'a>(&mut self, chunk: &'a [u8]) -> &'a [u8]
         // The bytes before the rest lead the machine from the old state to the new one.
         ensures goes { Goes number_step self.old chunk.now result.now self.new }

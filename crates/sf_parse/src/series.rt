@@ -29,8 +29,8 @@ use crate::level::Level;
 use crate::refusal::Refusal;
 use crate::sets::{COMMA, OWS, SPACE, set_if};
 use crate::stop::{Stop, refuse_left};
-use crate::whole_bare::{behind, ends};
-use crate::whole_parts::{Found, Owner, WHOLE_PARTS, may_begin_params, read_params};
+use crate::whole_bare::{behind, ends, split};
+use crate::whole_parts::{Found, Owner, WHOLE_PARTS, begins_param, may_begin_params, read_params};
 use sf_value::classes::{Ows, Space, short_prefix};
 use sf_value::{Bare, Dialect, Entries, OutOfMemory, is_ows};
 use std::marker::Model;
@@ -375,6 +375,7 @@ impl<P: SeriesMember<G>, G: Drop> Level for SeriesReader<P, G> {
         }
     }
 
+    #[inline(always)]
     fn push_part(&mut self, context: &Context, byte: u8) -> Result<bool, OutOfMemory> {
         match self.phase {
             SeriesPhase::InMember => return self.member.push(context, byte),
@@ -576,11 +577,26 @@ pub fn add_members<'a, P: SeriesMember<G>, G>(
     add_each_member::<P, G>(context, text, true, phase, given, begun)
 }
 
-/// Whether whole members are looked for in a chunk: only if a comma is near. It only saves time:
-/// nothing is claimed of it.
+/// Whether whole members are looked for in a chunk: only if the first one may be whole. It only
+/// saves time: nothing is claimed of it.
 #[inline(always)]
 fn may_add<P: SeriesMember<G>, G>(chunk: &[u8]) -> bool {
-    chunk.len() >= WHOLE_PARTS && P::may_begin(chunk, false) && has_comma(chunk)
+    chunk.len() >= WHOLE_PARTS && P::may_begin(chunk, false) && has_end::<P, G>(chunk)
+}
+
+/// Whether the first member of a chunk may be whole in it. A comma is looked for only where what
+/// follows what is found directly, a bare item and a parameter, may follow it: so a chunk that is
+/// refused there is not searched. Nothing is claimed of it.
+#[inline(never)]
+fn has_end<P: SeriesMember<G>, G>(chunk: &[u8]) -> bool {
+    match P::find(chunk) {
+        Some((_, after)) => match split(after) {
+            Some((b',' | b' ' | b'\t', _)) => true,
+            Some((b';', _)) => begins_param(after) && has_comma(after),
+            _ => false,
+        },
+        None => P::may_read(chunk, false) && has_comma(chunk),
+    }
 }
 
 /// Whether a member may be whole in this text: in a chunk only if a comma is near. Otherwise its reader
@@ -622,7 +638,8 @@ fn add_each_member<'a, P: SeriesMember<G>, G>(
     let mut rest = text;
     while is_whole || rest.len() >= WHOLE_PARTS {
         let Some((found, after)) = P::find(rest) else {
-            if !P::may_read(rest, is_whole) || !may_be_whole(is_whole, rest) {
+            let is_first = rest.len() == text.len();
+            if !P::may_read(rest, is_whole) || !may_be_whole(is_whole || is_first, rest) {
                 return Ok(rest);
             }
             let left = add_read_member::<P, G>(context, rest, is_whole, phase, given, begun)?;
@@ -633,7 +650,8 @@ fn add_each_member<'a, P: SeriesMember<G>, G>(
             continue;
         };
         let Some((next, more)) = behind_member(after, is_whole) else {
-            if !may_begin_params(after) || !may_be_whole(is_whole, after) {
+            let is_first = rest.len() == text.len();
+            if !may_begin_params(after) || !may_be_whole(is_whole || is_first, after) {
                 return Ok(rest);
             }
             let left = add_with_params::<P, G>(

@@ -8,6 +8,7 @@ ghost use Rattle.sf_parse.specs.Machine.Members.{member_start, member_finish};
 ghost use Rattle.sf_parse.specs.Machine.Entries.{entry_start, entry_finish};
 ghost use Rattle.sf_parse.specs.MemberEnds.{with_member, with_entry, some_map};
 
+use crate::ahead::may_close;
 use crate::begun::Begun;
 use crate::context::Context;
 use crate::entry::EntryReader;
@@ -38,6 +39,17 @@ fn may_read_member(text: &[u8], is_whole: bool) -> bool {
         return may_begin_part(text);
     }
     behind(text, b'(').is_some()
+}
+
+/// Whether the first member of a text may be one that begins with no leaf. Nothing is claimed of
+/// it.
+#[inline(always)]
+fn may_begin_other(text: &[u8], is_whole: bool) -> bool {
+    match split(text) {
+        Some((b'(', inside)) => !is_whole || may_close(inside),
+        Some((b'@' | b'%', _)) => is_whole,
+        _ => false,
+    }
 }
 
 impl SeriesMember<Sequence<Member>> for MemberReader {
@@ -83,7 +95,7 @@ impl SeriesMember<Sequence<Member>> for MemberReader {
 
     #[inline(always)]
     fn may_begin(text: &[u8], is_whole: bool) -> bool {
-        may_begin_bare(text) || may_read_member(text, is_whole)
+        may_begin_bare(text) || may_begin_other(text, is_whole)
     }
 
     #[inline(always)]

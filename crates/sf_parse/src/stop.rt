@@ -1,13 +1,17 @@
 //! Where a text stops that spells no field, for the refusal of a text of which direct reading did
-//! not take all. It is found by a reader of one bare item, behind the whole parts that were kept of
-//! a member or an Item, or behind whole parameters that are put once more; what is behind another
-//! whole part is left to the levels. What they would allocate up to there was allocated, or is here,
-//! so that a text is refused as out of memory where they refuse it so; this order is tested, not
-//! proved.
-ghost use Rattle.std.specs.Prelude.{List, [], is_some, IfSome};
+//! not take all. It is found behind the whole parts that were kept of a member or an Item, or
+//! behind whole parameters that are put once more, or the Items of an Inner List that was not read
+//! before: directly in a bare item that takes no memory, and by its reader in another one. What is
+//! behind another whole part is left to the levels. What they would allocate up to there was
+//! allocated, or is here, so that a text is refused as out of memory where they refuse it so; this
+//! order is tested, not proved.
+ghost use Rattle.std.specs.Prelude.{◌≡◌, ◌∷◌, ◌++◌, List, [], is_some, IfSome};
+ghost use Rattle.sf_value.specs.Ascii.{quote};
+ghost use Rattle.sf_value.specs.declared.dialect.Dialect.{Dialect};
 ghost use Rattle.sf_value.specs.declared.value.Bare.{Bare};
 ghost use Rattle.sf_value.specs.declared.value.Item.{Item};
 ghost use Rattle.sf_value.specs.Grammar.Pairs.{Pairs};
+ghost use Rattle.sf_value.specs.Grammar.Tokens.{IsKey};
 ghost use Rattle.sf_parse.specs.BegunParts.{IsBegunBeside};
 ghost use Rattle.sf_parse.specs.Machine.Bares.{bare_start, bare_step, bare_finish};
 ghost use Rattle.sf_parse.specs.Machine.Params.{Between, Opened, params_step, params_finish};
@@ -17,17 +21,22 @@ ghost use Rattle.sf_parse.specs.Machine.Members.{InMany, member_start, member_st
 ghost use Rattle.sf_parse.specs.Machine.Entries.{entry_start, entry_step, entry_finish};
 ghost use Rattle.sf_parse.specs.Stops.{StopsAt, StopsIn, RefusesLeft};
 
-use crate::ahead::has;
+use crate::ahead::{has, may_close};
 use crate::bare::BareReader;
 use crate::begun::{Begun, Parts};
 use crate::context::Context;
 use crate::level::Level;
 use crate::member::MemberReader;
+use crate::number::NumberReader;
 use crate::refusal::Refusal;
-use crate::sets::{BEHIND_KEY, CLOSE, KEY_START, SEMICOLON, SPACE, set_if};
+use crate::sets::{BEHIND_KEY, CLOSE, KEY_START, SEMICOLON, SPACE, TOKEN, VISIBLE, set_if};
 use crate::whole_bare::{behind, split};
-use crate::whole_parts::{Owner, behind_spaces, put_each_param, read_key};
-use sf_value::Entries;
+use crate::whole_parts::{BehindItems, Owner, behind_spaces, find_key, put_each_param, read_items};
+use sf_value::classes::{InToken, Unescaped, long_prefix};
+use sf_value::{Entries, Sequence, ShortBytes, can_start_token};
+
+/// The most bytes of a bare item or a key that take no memory.
+const IN_PLACE: usize = 16;
 
 /// A place in a text, and what may come there.
 #[derive(Clone, Copy)]
@@ -66,13 +75,104 @@ pub fn refuse_left(left: &[u8], expected: u128, may_end: bool, place: usize) -> 
     })
 }
 
-/// Where a bare item stops. None claims nothing.
-#[inline(never)]
+/// Where a bare item stops. None claims nothing. What takes no memory needs no reader.
+#[inline(always)]
 fn stop_in_bare<'a>(context: &Context, text: &'a [u8]) -> Option<Stop<'a>>
     ensures { IfSome result (StopsIn (bare_start context.now.dialect) bare_step
         (λ s. is_some (bare_finish s)) text.now) }
 {
     let (first, more) = split(text)?;
+    if let Some(stop) = stop_in_number(first, more) {
+        return Some(stop);
+    }
+    if let Some(stop) = stop_in_token(first, more) {
+        return Some(stop);
+    }
+    if first == b'"' {
+        if let Some(stop) = stop_in_string(more) {
+            return Some(stop);
+        }
+    }
+    if !may_begin_rest(first) {
+        return None;
+    }
+    stop_by_reader(context, first, more)
+}
+
+/// Whether a bare item that is no number may begin with this byte. Nothing is claimed of it.
+#[inline(always)]
+fn may_begin_rest(first: u8) -> bool {
+    matches!(first, b'"' | b'?' | b':' | b'@' | b'%') || can_start_token(first)
+}
+
+/// Where a number stops. None claims nothing.
+#[inline(always)]
+fn stop_in_number(first: u8, more: &[u8]) -> Option<Stop<'_>>
+    ensures { IfSome result (λ stop. (d : Dialect) → StopsIn (bare_start d) bare_step
+        (λ s. is_some (bare_finish s)) (first ∷ more.now) stop) }
+{
+    let mut number = NumberReader::none();
+    if !number.start(first) {
+        return None;
+    }
+    let left = number.take_run(more);
+    Some(Stop {
+        left,
+        expected: number.expected(),
+        may_end: number.may_end(),
+    })
+}
+
+/// Where a Token stops. None claims nothing.
+#[inline(always)]
+fn stop_in_token(first: u8, more: &[u8]) -> Option<Stop<'_>>
+    ensures { IfSome result (λ stop. (d : Dialect) → StopsIn (bare_start d) bare_step
+        (λ s. is_some (bare_finish s)) (first ∷ more.now) stop) }
+{
+    if !can_start_token(first) {
+        return None;
+    }
+    let (run, left) = long_prefix::<InToken>(more);
+    if run.len() >= IN_PLACE {
+        return None;
+    }
+    Some(Stop {
+        left,
+        expected: TOKEN,
+        may_end: true,
+    })
+}
+
+/// Where a String without an escape stops, after its opening quote. None claims nothing.
+#[inline(always)]
+fn stop_in_string(more: &[u8]) -> Option<Stop<'_>>
+    ensures { IfSome result (λ stop. (d : Dialect) → StopsIn (bare_start d) bare_step
+        (λ s. is_some (bare_finish s)) (quote ∷ more.now) stop) }
+{
+    let (run, left) = long_prefix::<Unescaped>(more);
+    if run.len() > IN_PLACE || behind(left, b'\\').is_some() {
+        return None;
+    }
+    let Some(end) = behind(left, b'"') else {
+        return Some(Stop {
+            left,
+            expected: VISIBLE,
+            may_end: false,
+        });
+    };
+    Some(Stop {
+        left: end,
+        expected: 0,
+        may_end: true,
+    })
+}
+
+/// The same, by the reader of bare items.
+#[inline(never)]
+fn stop_by_reader<'a>(context: &Context, first: u8, more: &'a [u8]) -> Option<Stop<'a>>
+    ensures { IfSome result (StopsIn (bare_start context.now.dialect) bare_step
+        (λ s. is_some (bare_finish s)) (first ∷ more.now)) }
+{
     let mut reader = BareReader::new(context);
     let Ok(true) = reader.start(context, first) else {
         return None;
@@ -126,6 +226,19 @@ fn stop_in_new_params<'a>(context: &Context, text: &'a [u8]) -> Option<Stop<'a>>
     Some(stop_in_param(context, left))
 }
 
+/// The bytes of a key, and the rest; None if there is no memory for the key.
+#[inline(always)]
+fn find_held_key<'a>(context: &Context, text: &'a [u8]) -> Option<(&'a [u8], &'a [u8])>
+    ensures split { IfSome result (λ r. text.now ≡ r.0.now ++ r.1.now) }
+    ensures key { IfSome result (λ r. IsKey r.0.now) }
+{
+    let (key, rest) = find_key(text)?;
+    if key.len() > IN_PLACE && ShortBytes::from_slice(context.alloc, key).is_err() {
+        return None;
+    }
+    Some((key, rest))
+}
+
 /// Where the next parameter stops, after its semicolon.
 #[inline(never)]
 fn stop_in_param<'a>(context: &Context, text: &'a [u8]) -> Stop<'a>
@@ -133,7 +246,7 @@ fn stop_in_param<'a>(context: &Context, text: &'a [u8]) -> Stop<'a>
         (λ s. is_some (params_finish s)) (Opened ps) text.now result }
 {
     let named = behind_spaces(text);
-    let Some((_, after)) = read_key(context, named) else {
+    let Some((_, after)) = find_held_key(context, named) else {
         return Stop {
             left: named,
             expected: SPACE | KEY_START,
@@ -206,7 +319,27 @@ fn stop_in_inner<'a>(context: &Context, inside: &'a [u8], begun: &Option<Begun<'
             }
         }
     }
+    if !may_close(inside) {
+        return stop_in_new_items(context, inside);
+    }
     stop_between_items(context, behind_spaces(inside))
+}
+
+/// The same, where none were looked for.
+#[inline(never)]
+fn stop_in_new_items<'a>(context: &Context, inside: &'a [u8]) -> Stop<'a>
+    ensures { StopsAt (member_step context.now.dialect) (λ s. is_some (member_finish s))
+        (InMany (BetweenItems [])) inside.now result }
+{
+    let mut items = Sequence::new(context.alloc);
+    let BehindItems::Open(left) = read_items(context, inside, &mut items) else {
+        return Stop {
+            left: inside,
+            expected: SPACE | (CLOSE | BareReader::first_bytes(context.dialect)),
+            may_end: false,
+        };
+    };
+    stop_between_items(context, left)
 }
 
 /// Where an Inner List stops, where an Item of it may begin.
@@ -276,7 +409,7 @@ pub fn stop_in_entry<'a>(
     ensures { IfSome result (StopsIn entry_start (entry_step context.now.dialect)
         (λ s. is_some (entry_finish s)) text.now) }
 {
-    let (_, after) = read_key(context, text)?;
+    let (_, after) = find_held_key(context, text)?;
     if let Some(more) = behind(after, b';') {
         let behind_key = stop_in_params(context, more, Owner::Member, begun)?;
         return Some(behind_key);

@@ -68,6 +68,7 @@ impl TextPhase {
     }
 
     /// Takes the bytes that are not escaped, with one growth of the buffer, and returns the rest.
+    #[inline(always)]
     pub fn take_run<'a>(
         self,
         text: &mut ShortBytes,

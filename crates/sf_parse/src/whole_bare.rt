@@ -4,8 +4,10 @@ ghost use Rattle.std.specs.Prelude.{◌≡◌, ◌≢◌, [], ◌∷◌, IfSome,
 ghost use Rattle.sf_value.specs.Grammar.BareItems.{SpellsBare};
 ghost use Rattle.sf_parse.specs.WholeParts.{ReadsAs};
 
+use crate::ahead::may_have;
 use crate::bare::BareReader;
 use crate::context::Context;
+use crate::leaf::{is_escaped_far, is_long_blob};
 use crate::level::Level;
 use sf_value::{Bare, can_start_token};
 
@@ -40,19 +42,42 @@ pub fn ends(text: &[u8]) -> bool
     text.is_empty()
 }
 
-/// A bare item that only its reader reads, where no leaf is found, and the rest: a Date or a Display
-/// String.
+/// A bare item that its reader reads, where no leaf is found, and the rest: a Date, a Display
+/// String, or a long String with an escape or Byte Sequence.
 #[inline(always)]
 pub fn read_bare<'a>(context: &Context, text: &'a [u8]) -> Option<(Bare, &'a [u8])>
     ensures { IfSome result (λ r. ReadsAs (SpellsBare context.now.dialect) text.now r.0 r.1.now) }
 {
     let (first, more) = split(text)?;
-    if let b'@' | b'%' = first {
+    if let b'@' | b'%' | b'"' | b':' = first {
         // In parts: the compiler keeps these in registers, and the result as a whole in memory.
         let (bare, rest) = read_other(context, first, more)?;
         return Some((bare, rest));
     }
     None
+}
+
+/// Whether the text, in which no leaf was found, may begin with a whole bare item, which its reader
+/// reads. It is not inlined, so that what is found doesn't pay for it. Nothing is claimed of it.
+#[inline(never)]
+pub fn needs_reader(text: &[u8]) -> bool {
+    match split(text) {
+        Some((b'@', _)) => true,
+        Some((b'%', more)) => ends_display(more),
+        Some((b'"', more)) => is_escaped_far(more),
+        Some((b':', more)) => is_long_blob(more),
+        _ => false,
+    }
+}
+
+/// Whether a Display String may end, after its percent sign: the text ends with a quote, or has one
+/// after the first.
+#[inline(always)]
+fn ends_display(text: &[u8]) -> bool {
+    let Some((_, inside)) = split(text) else {
+        return false;
+    };
+    inside.last().copied() == Some(b'"') || may_have(inside, b'"')
 }
 
 /// Whether the text may begin with a bare item that needs no reader. It only saves time: nothing is

@@ -22,11 +22,11 @@ ghost use Rattle.sf_parse.specs.WholeParts.{ReachesItems, IsBehindItem, AddsItem
 ghost use Rattle.sf_parse.specs.WholeParts.{found_member};
 ghost use Rattle.sf_parse.specs.BegunParts.{IsBegunAt, IsBegunIn};
 
-use crate::ahead::has_space;
+use crate::ahead::{from_near, has_space, may_close};
 use crate::begun::{Begun, keep_closed, keep_inner, keep_items, keep_params};
 use crate::context::Context;
 use crate::leaf::{Leaf, find_leaf, make};
-use crate::whole_bare::{behind, read_bare, split};
+use crate::whole_bare::{behind, needs_reader, read_bare, split};
 use sf_value::classes::{InKey, Space, short_prefix};
 use sf_value::{
     Bare, Entries, Inner, Item, Key, Member, OutOfMemory, Sequence, ShortBytes, can_start_key,
@@ -47,7 +47,7 @@ pub fn behind_spaces(text: &[u8]) -> &[u8]
 
 /// The bytes of a key, and the rest.
 #[inline(always)]
-fn find_key(text: &[u8]) -> Option<(&[u8], &[u8])>
+pub fn find_key(text: &[u8]) -> Option<(&[u8], &[u8])>
     ensures { IfSome result (λ r. (text.now ≡ r.0.now ++ r.1.now) × IsKey r.0.now) }
 {
     let (first, more) = split(text)?;
@@ -94,7 +94,11 @@ pub fn find_named(text: &[u8]) -> Option<(Found<'_>, &[u8])>
 /// saves time: nothing is claimed of it.
 #[inline(always)]
 pub fn may_begin_part(text: &[u8]) -> bool {
-    matches!(split(text), Some((b'(' | b'@' | b'%', _)))
+    match split(text) {
+        Some((b'(', inside)) => may_close(inside),
+        Some((b'@', _)) => true,
+        _ => needs_reader(text),
+    }
 }
 
 /// The same of the value of a key. It only saves time: nothing is claimed of it.
@@ -118,6 +122,33 @@ pub fn may_begin_params(text: &[u8]) -> bool {
     match split(behind_spaces(more)) {
         Some((first, _)) => can_start_key(first),
         None => false,
+    }
+}
+
+/// Whether the text, in which no parameter was found, may begin with a whole one, whose value its
+/// reader reads. It is not inlined, so that a loop of found ones doesn't pay for it. Nothing is
+/// claimed of it.
+#[inline(never)]
+fn may_read_param(text: &[u8]) -> bool {
+    let Some(from) = from_near(text, b'=') else {
+        return false;
+    };
+    match behind(from, b'=') {
+        Some(value) => needs_reader(value),
+        None => false,
+    }
+}
+
+/// Whether a text of a chunk, behind a bare item, may begin with a whole parameter: what follows
+/// one that is found may follow it. It only saves time: nothing is claimed of it.
+#[inline(never)]
+pub fn begins_param(text: &[u8]) -> bool {
+    let Some(more) = behind(text, b';') else {
+        return false;
+    };
+    match find_named(behind_spaces(more)) {
+        Some((_, rest)) => may_follow(Owner::ChunkMember, rest),
+        None => may_begin_value(behind_spaces(more)),
     }
 }
 
@@ -339,6 +370,9 @@ fn put_param<'a>(
     ensures same { IfNone result (params.new ≡ params.old) }
 {
     let Some((found, rest)) = find_named(behind_spaces(text)) else {
+        if !may_read_param(text) {
+            return None;
+        }
         return put_read_param(context, text, owner, params);
     };
     if !may_follow(owner, rest) {
@@ -525,7 +559,12 @@ pub enum BehindItems<'a> {
 }
 
 /// Adds the whole Items of an Inner List, up to its closing bracket or one that is not whole.
-fn read_items<'a>(context: &Context, text: &'a [u8], items: &mut Sequence<Item>) -> BehindItems<'a>
+#[inline(always)]
+pub fn read_items<'a>(
+    context: &Context,
+    text: &'a [u8],
+    items: &mut Sequence<Item>,
+) -> BehindItems<'a>
     ensures { ReachesItems context.now.dialect text.now items.old items.new result }
 {
     let mut rest = behind_spaces(text);
@@ -612,6 +651,9 @@ fn push_read_item<'a>(
     ensures adds { IfSome result (AddsItem context.now.dialect text.now items.old items.new) }
     ensures same { IfNone result (items.new ≡ items.old) }
 {
+    if !needs_reader(text) {
+        return None;
+    }
     let (item, rest) = read_other_item(context, text)?;
     let end = behind_item(rest)?;
     let Ok(()) = items.push_or_drop(item) else {

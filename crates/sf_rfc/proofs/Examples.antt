@@ -19,7 +19,7 @@ use Rattle.sf_rfc.specs.Rfc9651.ParsingBare.{hex_value}
 use Rattle.sf_rfc.specs.Rfc9651.Parsing.{Map, parse_field, combine}
 use Rattle.sf_rfc.specs.Rfc9651.Base64.{value_of, character_of}
 use Rattle.sf_rfc.specs.Rfc9651.SerialisingBare.{hex_character}
-use Rattle.sf_rfc.specs.Rfc9651.Serialising.{serialise}
+use Rattle.sf_rfc.specs.Rfc9651.Serialising.{Serialised, serialise}
 
 -- a text between quotes
 abbrev pub quoted : Seq ℕ → Seq ℕ
@@ -193,7 +193,7 @@ unfolding value_of hex_value
 parsed = refl
 
 -- each value serialises as its canonical text
-serialised : map (λ e. serialise e.2) examples ≡ map (λ e. Some e.3) examples
+serialised : map (λ e. serialise Rfc9651 e.2) examples ≡ map (λ e. Serialised e.3) examples
 unfolding character_of hex_character
 serialised = refl
 

@@ -15,7 +15,7 @@ use Rattle.sf_rfc.specs.Rfc9651.ParsingBare.{hex_value}
 use Rattle.sf_rfc.specs.Rfc9651.Parsing.{parse_field}
 use Rattle.sf_rfc.specs.Rfc9651.Base64.{value_of, character_of}
 use Rattle.sf_rfc.specs.Rfc9651.SerialisingBare.{hex_character}
-use Rattle.sf_rfc.specs.Rfc9651.Serialising.{serialise}
+use Rattle.sf_rfc.specs.Rfc9651.Serialising.{Outcome, NotSerialised, Serialised, serialise}
 use Rattle.sf_rfc.proofs.Examples.{Example, quoted, with, one, inner, an_item, a_list, a_dict, int}
 use Rattle.sf_rfc.proofs.Examples.{word}
 use Rattle.sf_rfc.specs.Rfc9651.Abnf.{sf_item}
@@ -119,8 +119,13 @@ parsed : map (λ e. parse_field Rfc9651 e.0 e.1) freedoms ≡ map (λ e. Some e.
 unfolding value_of hex_value
 parsed = refl
 
+-- what is serialised as a text; one without members is not, and its canonical text is empty
+abbrev outcome_of : Seq ℕ → Outcome
+outcome_of [] = NotSerialised
+outcome_of (c ∷ t) = Serialised (c ∷ t)
+
 -- each value serialises as its canonical text
-serialised : map (λ e. serialise e.2) freedoms ≡ map (λ e. Some e.3) freedoms
+serialised : map (λ e. serialise Rfc9651 e.2) freedoms ≡ map (λ e. outcome_of e.3) freedoms
 unfolding character_of hex_character
 serialised = refl
 

@@ -2,11 +2,15 @@ pub mod SerialisingWords
 pub mod SerialisingNumbers
 pub mod SerialisingBase64
 pub mod SerialisingUtf8
+pub mod Utf8Codings
+pub mod Rounding
 pub mod SerialisingDisplay
 pub mod SerialisingFields
+pub mod SerialisingDialects
 pub mod AbnfCharacters
 pub mod AbnfBareItems
 pub mod AbnfFields
+pub mod AbnfSerialised
 pub mod AbnfEnds
 pub mod AbnfWhiteSpace
 pub mod FieldLines

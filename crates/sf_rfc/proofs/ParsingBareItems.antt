@@ -13,9 +13,10 @@ use Rattle.sf_value.specs.Grammar.Numbers.{sign}
 use Rattle.sf_value.specs.Grammar.BareItems.{SpellsBare}
 use Rattle.sf_rfc.specs.Rfc9651.Words.{Parse, first_is}
 use Rattle.sf_rfc.specs.Rfc9651.Alphabets.{is_DIGIT, can_start_token}
+use Rattle.sf_rfc.specs.Rfc9651.Utf8Coding.{utf8_encode}
 use Rattle.sf_rfc.specs.Rfc9651.ParsingBare.{parse_number, parse_string, parse_token, as_bare}
 use Rattle.sf_rfc.specs.Rfc9651.ParsingBare.{parse_byte_sequence, parse_boolean, parse_date}
-use Rattle.sf_rfc.specs.Rfc9651.ParsingBare.{parse_display_string, parse_added, parse_bare}
+use Rattle.sf_rfc.specs.Rfc9651.ParsingBare.{parse_display_string, parse_added, as_shown, parse_bare}
 use Rattle.sf_rfc.specs.ParsingLaws.{Agrees, SpellsNumber, SpellsBareDate, is_in_number}
 use Rattle.sf_rfc.specs.ParsingLaws.{BareItemsAgree}
 use Rattle.sf_rfc.proofs.ParsingWords.{tokens_agree}
@@ -23,8 +24,10 @@ use Rattle.sf_rfc.proofs.SerialisingWords.{token_start}
 use Rattle.sf_rfc.proofs.ParsingStrings.{booleans_agree, strings_agree}
 use Rattle.sf_rfc.proofs.ParsingNumbers.{numbers_agree, dates_agree}
 use Rattle.sf_rfc.proofs.ParsingBase64.{byte_sequences_agree}
+use Rattle.sf_rfc.proofs.Utf8Codings.{formed_decoded}
 use Rattle.sf_rfc.proofs.ParsingDisplay.{display_strings_agree}
-use Rattle.sf_rfc.proofs.ParsingSteps.{never, some_pair, if_so, if_either}
+use Rattle.sf_rfc.proofs.ParsingSteps.{never, some_is, some_pair, and_then_cases, if_so}
+use Rattle.sf_rfc.proofs.ParsingSteps.{if_either}
 
 -- a test that is passed by less
 pub first_less : (p q : ℕ → Bool) → ((c : ℕ) → q c ≡ false → p c ≡ false) → (r : List ℕ)
@@ -63,6 +66,24 @@ number_as d t v (inr (m, e, s)) = subst (λ y. SpellsBare d t y) (sym e) s
 date_as : (t : List ℕ) (v : Bare) → SpellsBareDate t v → SpellsBare Rfc9651 t v
 date_as t v (n, e, s) = subst (λ y. SpellsBare Rfc9651 t y) (sym e) (refl, s)
 
+-- a Display String of code points, and of their octets
+shown_sound : (t r : List ℕ) (v : Bare) → as_shown (parse_display_string t) ≡ Some (v, r)
+    → Prefix (SpellsBare Rfc9651) t r v
+shown_sound t r v e =
+    let (p, i, f) = and_then_cases (parse_display_string t) _ (v, r) e in
+    let (o, j, g) = and_then_cases (utf8_encode p.0) _ (v, r) f in
+    let y = some_pair (Shown o) v p.1 r g in
+    let (prefix, k, q) = display_strings_agree.sound t p.1 p.0 i in
+    let same : q.0 ≡ o = some_is q.0 o (sym q.1 ∙ j) in (
+      prefix,
+      k ∙ ap (λ z. prefix ++ z) y.1,
+      subst (λ z. SpellsBare Rfc9651 prefix z) (ap Shown same ∙ y.0) (refl, q.2),
+    )
+
+shown_read : (t u : List ℕ) (x octets : List ℕ) → parse_display_string t ≡ Some (x, u)
+    → utf8_encode x ≡ Some octets → as_shown (parse_display_string t) ≡ Some (Shown octets, u)
+shown_read t u x octets e f = rw (e, f) refl
+
 added_sound : (d : Dialect) (t r : List ℕ) (v : Bare) → parse_added d t ≡ Some (v, r)
     → Prefix (SpellsBare d) t r v
 added_sound Rfc8941 t r v e = never (v, r) e
@@ -71,7 +92,7 @@ added_sound Rfc9651 t r v e = elim (if_either (first_is (λ c. c == 64) t) _ _ (
       let (prefix, i, s) = dates_agree.sound t r v k.1 in (prefix, i, date_as prefix v s)
   | inr k ↦
       let (h, a) = if_so (first_is (λ c. c == 37) t) _ (v, r) k.1 in
-      prefix_as Rfc9651 Shown _ parse_display_string _ display_strings_agree (λ f x s. (refl, s)) t r v a
+      shown_sound t r v a
 ]
 
 bare_sound : (d : Dialect) (t r : List ℕ) (v : Bare) → parse_bare d t ≡ Some (v, r)
@@ -178,9 +199,11 @@ bare_whole Rfc9651 t r (Date n) s f =
     (first_less is_in_number is_in_token no_number r f)
 bare_whole Rfc8941 t r (Shown x) s f = absurd (let h : false ≡ true = s.0 in cc)
 bare_whole Rfc9651 t r (Shown x) s f =
+    let (sequence, i, j) = formed_decoded x s.1.3 in
     ap (λ y. parse_bare Rfc9651 (y ++ r)) s.1.1
-    ∙ as_read Shown _ x r (ap (λ y. parse_display_string (y ++ r)) (sym s.1.1)
-    ∙ display_strings_agree.whole t r x s.1 (first_none r))
+    ∙ ap (λ y. as_shown (parse_display_string (y ++ r))) (sym s.1.1)
+    ∙ shown_read (t ++ r) r sequence x
+    (display_strings_agree.whole t r sequence (x, i, s.1) (first_none r)) i
 
 pub bare_items_agree : BareItemsAgree
 bare_items_agree d = record { sound = bare_sound d; whole = bare_whole d }

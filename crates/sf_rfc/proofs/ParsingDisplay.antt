@@ -7,19 +7,17 @@ use Rattle.std.specs.Cmp.{first_so, second_so}
 use Rattle.std.specs.Prelude.{codes}
 use Rattle.sf_value.specs.Grammar.Classes.{is_byte}
 use Rattle.sf_value.specs.Grammar.DisplayStrings.{hex, is_unencoded, EncodedBytes}
-use Rattle.sf_value.specs.Grammar.DisplayStrings.{SpellsDisplayString}
 use Rattle.sf_value.proofs.Tables.{each_below}
 use Rattle.sf_parse.proofs.Quads.{byte_small, small_byte}
-use Rattle.sf_rfc.specs.Rfc9651.Words.{first_is, only_if}
+use Rattle.sf_rfc.specs.Rfc9651.Words.{first_is, and_then}
 use Rattle.sf_rfc.specs.Rfc9651.Alphabets.{is_unprintable, is_lower_hex}
-use Rattle.sf_rfc.specs.Rfc9651.Utf8.{is_utf8}
+use Rattle.sf_rfc.specs.Rfc9651.Utf8Coding.{utf8_decode}
 use Rattle.sf_rfc.specs.Rfc9651.ParsingBare.{hex_value, octet_of, display_loop, display_octet}
 use Rattle.sf_rfc.specs.Rfc9651.ParsingBare.{display_second, parse_display_string}
-use Rattle.sf_rfc.specs.ParsingLaws.{DisplayStringsAgree}
-use Rattle.sf_rfc.proofs.SerialisingUtf8.{well_formed_utf8}
-use Rattle.sf_rfc.proofs.ParsingUtf8.{utf8_formed}
+use Rattle.sf_rfc.specs.ParsingLaws.{SpellsCodePoints, DisplayStringsAgree}
+use Rattle.sf_rfc.proofs.Utf8Codings.{decoding_inverts, decoded_formed}
 use Rattle.sf_rfc.proofs.ParsingBase64.{placed, is_value, the_value}
-use Rattle.sf_rfc.proofs.ParsingSteps.{never, some_is, some_pair, and_then_cases, only_if_cases}
+use Rattle.sf_rfc.proofs.ParsingSteps.{never, some_is, some_pair, and_then_cases}
 use Rattle.sf_rfc.proofs.ParsingSteps.{if_so, if_not, if_either}
 
 -- hexadecimal digits
@@ -61,8 +59,8 @@ octet_sound a b c e =
 -- what the loop takes: encoded bytes and the quote
 abbrev Shown : List ℕ → List ℕ → List ℕ → List ℕ → Type 0
 Shown bytes t v r =
-    (prefix s : List ℕ) × (t ≡ prefix ++ r) × EncodedBytes prefix s × (v ≡ bytes ++ s)
-    × (is_utf8 v ≡ true)
+    (prefix s : List ℕ) × (t ≡ prefix ++ r) × EncodedBytes prefix s
+    × (utf8_decode (bytes ++ s) ≡ Some v)
 
 unencoded : (c : ℕ) → is_unprintable c ≡ false → (c == 37) ≡ false → (c == 34) ≡ false
     → is_unencoded c ≡ true
@@ -70,38 +68,36 @@ unencoded c i j k = grind (arith, nat_tests)
 
 itself : (bytes : List ℕ) (c : ℕ) (t v r : List ℕ) → is_unencoded c ≡ true
     → Shown (bytes ++ c ∷ []) t v r → Shown bytes (c ∷ t) v r
-itself bytes c t v r h (prefix, s, i, a, j, k) = (
+itself bytes c t v r h (prefix, s, i, a, k) = (
   c ∷ prefix,
   c ∷ s,
   ap (λ x. c ∷ x) i,
   (prefix, inl (h, refl), a),
-  j ∙ append_assoc bytes (c ∷ []) s,
-  k,
+  ap utf8_decode (sym (append_assoc bytes (c ∷ []) s)) ∙ k,
 )
 
 encoded : (bytes : List ℕ) (a b c : ℕ) (t v r : List ℕ) → octet_of a b ≡ Some c
     → Shown (bytes ++ c ∷ []) t v r → Shown bytes (37 ∷ a ∷ b ∷ t) v r
-encoded bytes a b c t v r o (prefix, s, i, e, j, k) =
+encoded bytes a b c t v r o (prefix, s, i, e, k) =
     let (h, p, q) = octet_sound a b c o in (
       37 ∷ a ∷ b ∷ prefix,
       c ∷ s,
       ap (λ x. 37 ∷ a ∷ b ∷ x) i,
       (prefix, inr (h, ap₂ (λ x y. 37 ∷ x ∷ y ∷ prefix) p q), e),
-      j ∙ append_assoc bytes (c ∷ []) s,
-      k,
+      ap utf8_decode (sym (append_assoc bytes (c ∷ []) s)) ∙ k,
     )
 
 ended : (bytes t v r : List ℕ) (c : ℕ) → (c == 34) ≡ true
-    → only_if {A = List ℕ × List ℕ} (is_utf8 bytes) (bytes, t) ≡ Some (v, r) → Shown bytes (c ∷ t) v r
+    → and_then {A = List ℕ} {B = List ℕ × List ℕ} (utf8_decode bytes) (λ x. Some (x, t)) ≡ Some (v, r)
+    → Shown bytes (c ∷ t) v r
 ended bytes t v r c h e =
-    let k = only_if_cases (is_utf8 bytes) (bytes, t) (v, r) e in
-    let i = some_pair bytes v t r (ap Some k.1) in (
+    let (x, j, k) = and_then_cases (utf8_decode bytes) (λ y. Some (y, t)) (v, r) e in
+    let i = some_pair x v t r k in (
       34 ∷ [],
       [],
       ap₂ (λ x y. x ∷ y) (eqb-true c 34 h) i.1,
       refl,
-      sym i.0 ∙ sym (append-nil bytes),
-      subst (λ y. is_utf8 y ≡ true) i.0 k.0,
+      ap utf8_decode (append-nil bytes) ∙ j ∙ ap Some i.0,
     )
 
 octet_cases : (bytes : List ℕ) (a b : ℕ) (t v r : List ℕ)
@@ -144,17 +140,17 @@ shown_sound bytes (c ∷ a ∷ b ∷ t) v r e =
     (shown_sound (bytes ++ c ∷ []) (a ∷ b ∷ t) v r) e
 
 display_sound : (t r v : List ℕ) → parse_display_string t ≡ Some (v, r)
-    → (prefix : List ℕ) × (t ≡ prefix ++ r) × SpellsDisplayString prefix v
+    → (prefix : List ℕ) × (t ≡ prefix ++ r) × SpellsCodePoints prefix v
 display_sound [] r v e = never (v, r) e
 display_sound (a ∷ []) r v e = never (v, r) e
 display_sound (a ∷ b ∷ t) r v e =
     let (h, k) = if_so (a == 37 && b == 34) _ (v, r) e in
     let i = eqb-true a 37 (first_so (a == 37) (b == 34) h) in
     let j = eqb-true b 34 (second_so (a == 37) (b == 34) h) in
-    let (prefix, s, m, c, n, u) = shown_sound [] t v r k in (
+    let (prefix, s, m, c, u) = shown_sound [] t v r k in (
       37 ∷ 34 ∷ prefix,
       ap₂ (λ x y. x ∷ y) i (ap₂ (λ x y. x ∷ y) j m),
-      (prefix, refl, subst (λ y. EncodedBytes prefix y) (sym n) c, utf8_formed v u),
+      (s, (decoding_inverts v s).1 u, (prefix, refl, c, decoded_formed s v u)),
     )
 
 -- what is spelled is read
@@ -167,45 +163,35 @@ not_percent c h = grind (arith, nat_tests)
 not_quote : (c : ℕ) → is_unencoded c ≡ true → (c == 34) ≡ false
 not_quote c h = grind (arith, nat_tests)
 
-one_more : (bytes : List ℕ) (c : ℕ) (s t r : List ℕ)
-    → display_loop (bytes ++ c ∷ []) t ≡ Some ((bytes ++ c ∷ []) ++ s, r)
-    → display_loop (bytes ++ c ∷ []) t ≡ Some (bytes ++ c ∷ s, r)
-one_more bytes c s t r e = e ∙ ap (λ y. Some (y, r)) (append_assoc bytes (c ∷ []) s)
+read_itself : (bytes v : List ℕ) (c : ℕ) (t r : List ℕ) → is_unencoded c ≡ true
+    → display_loop (bytes ++ c ∷ []) t ≡ Some (v, r)
+    → display_loop bytes (c ∷ t) ≡ Some (v, r)
+read_itself bytes v c t r h e =
+    rw (not_unprintable c h, not_percent c h, not_quote c h, display_loop) e
 
-read_itself : (bytes : List ℕ) (c : ℕ) (s t r : List ℕ) → is_unencoded c ≡ true
-    → display_loop (bytes ++ c ∷ []) t ≡ Some ((bytes ++ c ∷ []) ++ s, r)
-    → display_loop bytes (c ∷ t) ≡ Some (bytes ++ c ∷ s, r)
-read_itself bytes c s t r h e =
-    rw (not_unprintable c h, not_percent c h, not_quote c h, display_loop) (one_more bytes c s t r e)
-
-read_encoded : (bytes : List ℕ) (c : ℕ) (s t r : List ℕ) → is_byte c ≡ true
-    → display_loop (bytes ++ c ∷ []) t ≡ Some ((bytes ++ c ∷ []) ++ s, r)
-    → display_loop bytes (37 ∷ hex (c / 16) ∷ hex (c % 16) ∷ t) ≡ Some (bytes ++ c ∷ s, r)
-read_encoded bytes c s t r h e = second (hex (c / 16)) (hex (c % 16)) (octet_is c (byte_small c h))
+read_encoded : (bytes v : List ℕ) (c : ℕ) (t r : List ℕ) → is_byte c ≡ true
+    → display_loop (bytes ++ c ∷ []) t ≡ Some (v, r)
+    → display_loop bytes (37 ∷ hex (c / 16) ∷ hex (c % 16) ∷ t) ≡ Some (v, r)
+read_encoded bytes v c t r h e = second (hex (c / 16)) (hex (c % 16)) (octet_is c (byte_small c h))
   where
-    second : (a b : ℕ) → octet_of a b ≡ Some c
-        → display_second bytes a (b ∷ t) ≡ Some (bytes ++ c ∷ s, r)
-    second a b o = rw (o, display_second) (one_more bytes c s t r e)
+    second : (a b : ℕ) → octet_of a b ≡ Some c → display_second bytes a (b ∷ t) ≡ Some (v, r)
+    second a b o = rw (o, display_second) e
 
-shown_read : (bytes t s r : List ℕ) → EncodedBytes t s → is_utf8 (bytes ++ s) ≡ true
-    → display_loop bytes (t ++ r) ≡ Some (bytes ++ s, r)
-shown_read bytes t [] r e u =
-    let k : is_utf8 bytes ≡ true = subst (λ y. is_utf8 y ≡ true) (append-nil bytes) u in
-    rw e (last (is_utf8 bytes) k)
-  where
-    last : (x : Bool) → x ≡ true → only_if {A = List ℕ × List ℕ} x (bytes, r) ≡ Some (bytes ++ [], r)
-    last x h = rw h (ap (λ y. Some (y, r)) (sym (append-nil bytes)))
-shown_read bytes t (c ∷ s) r (suffix, inl (h, i), e) u =
-    rw i (read_itself bytes c s (suffix ++ r) r h
-    (shown_read (bytes ++ c ∷ []) suffix s r e (rw (append_assoc bytes (c ∷ []) s) u)))
-shown_read bytes t (c ∷ s) r (suffix, inr (h, i), e) u =
-    rw i (read_encoded bytes c s (suffix ++ r) r h
-    (shown_read (bytes ++ c ∷ []) suffix s r e (rw (append_assoc bytes (c ∷ []) s) u)))
+shown_read : (bytes t s r v : List ℕ) → EncodedBytes t s → utf8_decode (bytes ++ s) ≡ Some v
+    → display_loop bytes (t ++ r) ≡ Some (v, r)
+shown_read bytes t [] r v e u =
+    rw e (ap (λ o. and_then o (λ x. Some (x, r))) (ap utf8_decode (sym (append-nil bytes)) ∙ u))
+shown_read bytes t (c ∷ s) r v (suffix, inl (h, i), e) u =
+    rw i (read_itself bytes v c (suffix ++ r) r h
+    (shown_read (bytes ++ c ∷ []) suffix s r v e (ap utf8_decode (append_assoc bytes (c ∷ []) s) ∙ u)))
+shown_read bytes t (c ∷ s) r v (suffix, inr (h, i), e) u =
+    rw i (read_encoded bytes v c (suffix ++ r) r h
+    (shown_read (bytes ++ c ∷ []) suffix s r v e (ap utf8_decode (append_assoc bytes (c ∷ []) s) ∙ u)))
 
-display_whole : (t r v : List ℕ) → SpellsDisplayString t v → first_is (λ c. false) r ≡ false
+display_whole : (t r v : List ℕ) → SpellsCodePoints t v → first_is (λ c. false) r ≡ false
     → parse_display_string (t ++ r) ≡ Some (v, r)
-display_whole t r v (suffix, i, e, w) f =
-    rw i (shown_read [] suffix v r e (well_formed_utf8 v w))
+display_whole t r v (s, k, (suffix, i, e, w)) f =
+    rw i (shown_read [] suffix s r v e ((decoding_inverts v s).0 k))
 
 pub display_strings_agree : DisplayStringsAgree
 display_strings_agree = record { sound = display_sound; whole = display_whole }

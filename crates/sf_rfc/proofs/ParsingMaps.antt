@@ -14,7 +14,7 @@ same_is [] (b ∷ t) = refl
 same_is (a ∷ s) [] = refl
 same_is (a ∷ s) (b ∷ t) = ap (λ y. a == b && y) (same_is s t)
 
-flipped : (a k : List ℕ) → same a k ≡ bytes_eq k a
+pub flipped : (a k : List ℕ) → same a k ≡ bytes_eq k a
 flipped a k = same_is a k ∙ nat_list_eq_equiv.symm a k
 
 there_is : {V : Type 0} (ps : Pairs V) (k : List ℕ) (v : V) → contains ps k ≡ true

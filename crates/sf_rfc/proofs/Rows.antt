@@ -16,8 +16,10 @@ use Rattle.sf_value.specs.declared.value.Kind.TheVariants as kind
 use Rattle.sf_rfc.specs.Rfc9651.ParsingBare.{hex_value}
 use Rattle.sf_rfc.specs.Rfc9651.Parsing.{Map, parse_key, parse_field, combine}
 use Rattle.sf_rfc.specs.Rfc9651.Base64.{value_of, character_of}
-use Rattle.sf_rfc.specs.Rfc9651.SerialisingBare.{serialise_bare, hex_character}
-use Rattle.sf_rfc.specs.Rfc9651.Serialising.{serialise}
+use Rattle.sf_rfc.specs.Rfc9651.Utf8Coding.{utf8_encode, utf8_decode}
+use Rattle.sf_rfc.specs.Rfc9651.SerialisingBare.{serialise_bare, serialise_decimal, hex_character}
+use Rattle.sf_rfc.specs.Rfc9651.SerialisingBare.{decimal_number}
+use Rattle.sf_rfc.specs.Rfc9651.Serialising.{NotSerialised, Serialised, Fails, serialise}
 
 abbrev quoted : Seq ℕ → Seq ℕ
 quoted s = 34 ∷ (s ++ 34 ∷ [])
@@ -189,7 +191,7 @@ combining : combine (codes "a=1" ∷ codes "b" ∷ [] ∷ []) ≡ codes "a=1, b,
 combining = refl
 
 -- 4.1.4 to 4.1.11
-bare_items : map serialise_bare
+bare_items : map (serialise_bare Rfc9651)
     (int 42 ∷ Integer (negsuc 6) ∷ int 1000000000000000 ∷ Decimal (pos 4500) ∷ Decimal (negsuc 49)
     ∷ Decimal (pos 1000) ∷ Text (34 ∷ 97 ∷ []) ∷ Text (10 ∷ []) ∷ Token (codes "a/b")
     ∷ Token (codes "1") ∷ Token [] ∷ Boolean true ∷ Date (pos 1659578233) ∷ Blob (137 ∷ [])
@@ -202,9 +204,44 @@ bare_items : map serialise_bare
 unfolding character_of hex_character
 bare_items = refl
 
+-- neither type is of RFC 8941
+older_items : map (serialise_bare Rfc8941) (Date (pos 1) ∷ Shown (codes "a") ∷ int 1 ∷ [])
+    ≡ None ∷ None ∷ Some (codes "1") ∷ []
+older_items = refl
+
+-- 4.1.5, step 2: to the nearest, and at a tie to the even digit; a number that is rounded to zero
+-- has no sign; step 3: after rounding
+rounding : map serialise_decimal
+    (decimal_number (pos 12345) 4 ∷ decimal_number (pos 12335) 4 ∷ decimal_number (pos 123451) 5
+    ∷ decimal_number (pos 5) 4 ∷ decimal_number (pos 15) 4 ∷ decimal_number (negsuc 24) 4
+    ∷ decimal_number (negsuc 4) 4 ∷ decimal_number (pos 25) 1 ∷ decimal_number (pos 7) 0
+    ∷ record { numerator = negsuc 1; denominator = 3 }
+    ∷ decimal_number (pos 9999999999999994) 4 ∷ decimal_number (pos 9999999999999995) 4
+    ∷ record { numerator = pos 1; denominator = 0 } ∷ [])
+    ≡ Some (codes "1.234") ∷ Some (codes "1.234") ∷ Some (codes "1.235")
+    ∷ Some (codes "0.0") ∷ Some (codes "0.002") ∷ Some (codes "-0.002")
+    ∷ Some (codes "0.0") ∷ Some (codes "2.5") ∷ Some (codes "7.0")
+    ∷ Some (codes "-0.667")
+    ∷ Some (codes "999999999999.999") ∷ None
+    ∷ None ∷ []
+rounding = refl
+
+-- RFC 3629 section 7, and what section 3 warns of: an overlong U+0000, a surrogate pair
+characters : map utf8_decode
+    ((65 ∷ 226 ∷ 137 ∷ 162 ∷ 206 ∷ 145 ∷ 46 ∷ []) ∷ (239 ∷ 187 ∷ 191 ∷ 240 ∷ 163 ∷ 142 ∷ 180 ∷ [])
+    ∷ (192 ∷ 128 ∷ []) ∷ (237 ∷ 161 ∷ 140 ∷ 237 ∷ 190 ∷ 180 ∷ []) ∷ (195 ∷ []) ∷ (128 ∷ []) ∷ [])
+    ≡ Some (65 ∷ 8802 ∷ 913 ∷ 46 ∷ []) ∷ Some (65279 ∷ 144308 ∷ []) ∷ None ∷ None ∷ None ∷ None ∷ []
+characters = refl
+
+octets : map utf8_encode
+    ((65 ∷ 8802 ∷ 913 ∷ 46 ∷ []) ∷ (65279 ∷ 144308 ∷ []) ∷ (55296 ∷ []) ∷ (1114112 ∷ []) ∷ [])
+    ≡ Some (65 ∷ 226 ∷ 137 ∷ 162 ∷ 206 ∷ 145 ∷ 46 ∷ [])
+    ∷ Some (239 ∷ 187 ∷ 191 ∷ 240 ∷ 163 ∷ 142 ∷ 180 ∷ []) ∷ None ∷ None ∷ []
+octets = refl
+
 -- 4.1 to 4.1.3
-fields : map serialise
-    (a_list [] ∷ a_list (one (Token (codes "sugar")) ∷ one (Token (codes "tea")) ∷ [])
+fields : map (serialise Rfc9651)
+    (a_list [] ∷ a_dict [] ∷ a_list (one (Token (codes "sugar")) ∷ one (Token (codes "tea")) ∷ [])
     ∷ a_list (many (with (int 1) ((codes "a", Boolean true) ∷ []) ∷ with (int 2) [] ∷ [])
     ((codes "q", int 5) ∷ []) ∷ many [] [] ∷ [])
     ∷ a_dict ((codes "a", one (Boolean false)) ∷ (codes "b", one (Boolean true))
@@ -212,6 +249,13 @@ fields : map serialise
     ∷ (codes "d", many [] []) ∷ [])
     ∷ an_item (int 5) ((codes "foo", Token (codes "bar")) ∷ []) ∷ a_dict ((codes "A", one (int 1)) ∷ [])
     ∷ [])
-    ≡ Some [] ∷ Some (codes "sugar, tea") ∷ Some (codes "(1;a 2);q=5, ()")
-    ∷ Some (codes "a=?0, b, c;foo=bar, d=()") ∷ Some (codes "5;foo=bar") ∷ None ∷ []
+    ≡ NotSerialised ∷ NotSerialised ∷ Serialised (codes "sugar, tea")
+    ∷ Serialised (codes "(1;a 2);q=5, ()") ∷ Serialised (codes "a=?0, b, c;foo=bar, d=()")
+    ∷ Serialised (codes "5;foo=bar") ∷ Fails ∷ []
 fields = refl
+
+-- a Date as a parameter fails in RFC 8941
+older_fields : map (serialise Rfc8941)
+    (a_list [] ∷ an_item (int 5) ((codes "at", Date (pos 1)) ∷ []) ∷ an_item (int 5) [] ∷ [])
+    ≡ NotSerialised ∷ Fails ∷ Serialised (codes "5") ∷ []
+older_fields = refl

@@ -13,8 +13,8 @@ use Rattle.sf_value.specs.Grammar.Canonical.{canon_shown}
 use Rattle.sf_parse.proofs.Quads.{byte_small}
 use Rattle.sf_rfc.specs.Rfc9651.Alphabets.{is_unprintable}
 use Rattle.sf_rfc.specs.Rfc9651.SerialisingBare.{hex_character, display_bytes}
-use Rattle.sf_rfc.specs.Rfc9651.SerialisingBare.{serialise_display_string}
-use Rattle.sf_rfc.proofs.SerialisingUtf8.{well_formed_utf8}
+use Rattle.sf_rfc.specs.Rfc9651.SerialisingBare.{serialise_shown}
+use Rattle.sf_rfc.proofs.Utf8Codings.{formed_decoded}
 
 hex_digits : codes "0123456789abcdef" ≡ map hex (range_with_len 0 16)
 hex_digits = refl
@@ -48,6 +48,7 @@ bytes_shown (c ∷ s) h = go (is_unencoded c) refl (bytes_shown s h.1)
         ) (ap (λ t. 37 ∷ hex (c / 16) ∷ hex (c % 16) ∷ t) k)
 
 pub shown_serialised : (s : List ℕ) → WellFormed Start s → Every is_byte s
-    → serialise_display_string s ≡ Some (37 ∷ 34 ∷ canon_shown s)
+    → serialise_shown s ≡ Some (37 ∷ 34 ∷ canon_shown s)
 shown_serialised s w h =
-    rw (well_formed_utf8 s w) (ap (λ t. Some (37 ∷ 34 ∷ t)) (bytes_shown s h))
+    let (sequence, i, j) = formed_decoded s w in
+    rw (j, i) (ap (λ t. Some (37 ∷ 34 ∷ t)) (bytes_shown s h))

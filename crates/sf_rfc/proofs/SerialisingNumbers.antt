@@ -1,7 +1,7 @@
 -- Serialising Integers, Decimals and Dates.
 use Rattle.std.specs.List.{list_all}
 use Rattle.std.proofs.Common.{◌≡◌, ℕ, zero, suc, ◌+◌, ◌/◌, ◌%◌, ◌^◌, ◌<◌, ◌≤◌, ℤ}
-use Rattle.std.proofs.Common.{nat_abs, Bool, true, false, ◌&&◌, ◌==◌, List, [], ◌∷◌, ◌++◌, Some}
+use Rattle.std.proofs.Common.{nat_abs, Bool, true, false, ◌&&◌, ◌==◌, List, [], ◌∷◌, ◌++◌, Some, None}
 use Rattle.std.proofs.Common.{decimal}
 use Rattle.std.proofs.Common.{refl, ap, ◌∙◌, arith, eqb-true}
 use Rattle.std.specs.Prelude.{nat_lt, nat_le}
@@ -12,7 +12,7 @@ use Rattle.sf_value.specs.Grammar.Numbers.{sign}
 use Rattle.sf_value.specs.Grammar.Canonical.{is_negative, fraction, canon_decimal}
 use Rattle.sf_rfc.specs.Rfc9651.SerialisingBare.{minus_sign, digits_within, in_base10}
 use Rattle.sf_rfc.specs.Rfc9651.SerialisingBare.{serialise_integer, significant, serialise_fraction}
-use Rattle.sf_rfc.specs.Rfc9651.SerialisingBare.{serialise_decimal, serialise_date}
+use Rattle.sf_rfc.specs.Rfc9651.SerialisingBare.{serialise_rounded, serialise_date}
 
 -- with any bound above the number, its digits are w
 abbrev IsWritten : ℕ → List ℕ → Type 0
@@ -135,12 +135,18 @@ whole_test n h = let e : n / 1000 < 1000000000000 = omega arith in grind (arith,
 sign_is : (z : ℤ) → minus_sign z ≡ sign (is_negative z)
 sign_is z = grind arith
 
-pub decimal_serialised : (z : ℤ) → nat_abs z < 10 ^ 15
-    → serialise_decimal z ≡ Some (canon_decimal z)
-decimal_serialised z h =
+pub rounded_serialised : (z : ℤ) → nat_abs z < 10 ^ 15
+    → serialise_rounded z ≡ Some (canon_decimal z)
+rounded_serialised z h =
     rw (
       whole_test (nat_abs z) h,
       sign_is z,
       base10_is (nat_abs z / 1000) (omega arith),
       fraction_is (nat_abs z % 1000) (omega arith),
     ) refl
+
+large_whole : (n : ℕ) → 10 ^ 15 ≤ n → nat_lt (n / 1000) 1000000000000 ≡ false
+large_whole n h = let e : 1000000000000 ≤ n / 1000 = omega arith in grind (arith, nat_tests)
+
+pub large_fails : (z : ℤ) → 10 ^ 15 ≤ nat_abs z → serialise_rounded z ≡ None
+large_fails z h = rw (large_whole (nat_abs z) h) refl

@@ -1,5 +1,5 @@
 -- The laws that texts keep to the ABNF.
-use Rattle.std.specs.Prelude.{◌≡◌, ℕ, ◌<◌, ◌↔◌, List as Seq, [], ◌∷◌, ◌++◌, Some}
+use Rattle.std.specs.Prelude.{◌≡◌, ℕ, ◌<◌, ◌↔◌, ◌⊎◌, List as Seq, [], ◌∷◌, ◌++◌, Some}
 use Rattle.sf_value.specs.declared.dialect.Dialect.{Dialect}
 use Rattle.sf_value.specs.declared.value.Field.{Field}
 use Rattle.sf_value.specs.declared.value.Field.TheVariants as field
@@ -10,8 +10,9 @@ use Rattle.sf_value.specs.Grammar.Valid.{Valid}
 use Rattle.sf_value.specs.Grammar.Canonical.{canon}
 use Rattle.sf_rfc.specs.Rfc9651.AbnfNotation.{Rule, text, many, SP, OWS}
 use Rattle.sf_rfc.specs.Rfc9651.Parsing.{parse_field}
-use Rattle.sf_rfc.specs.Rfc9651.Serialising.{serialise}
+use Rattle.sf_rfc.specs.Rfc9651.Serialising.{NotSerialised, Serialised, serialise}
 use Rattle.sf_rfc.specs.Rfc9651.Abnf.{sf_item, sf_list, sf_dictionary}
+use Rattle.sf_rfc.specs.SerialisingLaws.{HasNoMembers}
 
 -- P if there are members, otherwise the empty text: a List or a Dictionary without members is not
 -- sent (3.1, 3.2), and there is no rule for it
@@ -30,11 +31,19 @@ abbrev pub CanonKeepsAbnf : Type 0
 CanonKeepsAbnf =
     (d : Dialect) (kind : Kind) (v : Field) → Valid d kind v → field_rule d v (canon v)
 
--- what the steps of the RFC write for a valid field (4.1) keeps to the ABNF
+-- the rule of a kind of field
+abbrev pub kind_rule : Dialect → Kind → Rule
+kind_rule d kind.List = sf_list d
+kind_rule d kind.Dict = sf_dictionary d
+kind_rule d kind.Item = sf_item d
+
+-- what the steps of the RFC return for a valid field (4.1): a text that keeps to the ABNF; or that
+-- it is not serialised, without members
 abbrev pub SerialisedKeepsAbnf : Type 0
 SerialisedKeepsAbnf =
     (d : Dialect) (kind : Kind) (v : Field) → Valid d kind v
-    → (t : Seq ℕ) × (serialise v ≡ Some t) × field_rule d v t
+    → ((t : Seq ℕ) × (serialise d v ≡ Serialised t) × kind_rule d kind t)
+    ⊎ ((serialise d v ≡ NotSerialised) × HasNoMembers v)
 
 -- the white space that parsing discards after a field (4.2; 4.2.1 and 4.2.2 discard HTAB too)
 abbrev pub white_space_after : Field → Rule
@@ -50,12 +59,6 @@ SpelledKeepsAbnf =
     × many SP gap
     × field_rule d v body
     × white_space_after v tail
-
--- the rule of a kind of field
-abbrev pub kind_rule : Dialect → Kind → Rule
-kind_rule d kind.List = sf_list d
-kind_rule d kind.Dict = sf_dictionary d
-kind_rule d kind.Item = sf_item d
 
 -- the first character, and the last, is above SP (%x20) and so above HTAB
 abbrev pub Begins : Seq ℕ → Type 0

@@ -31,6 +31,7 @@ use Rattle.sf_parse.specs.declared.refusal.Refusal.TheVariants.{OutOfMemory, Syn
 use Rattle.sf_parse.specs.declared.refusal.Refusal.TheVariants.{ReadFault}
 use Rattle.sf_parse.specs.Parsers.{Parses, Finishes}
 use Rattle.sf_rfc.specs.Rfc9651.Words.{Parse, first_is}
+use Rattle.sf_rfc.specs.Rfc9651.Utf8Coding.{utf8_encode}
 use Rattle.sf_rfc.specs.Rfc9651.ParsingBare.{parse_token, parse_boolean, parse_string, parse_number}
 use Rattle.sf_rfc.specs.Rfc9651.ParsingBare.{parse_date, parse_byte_sequence, parse_display_string}
 use Rattle.sf_rfc.specs.Rfc9651.ParsingBare.{parse_bare}
@@ -68,8 +69,13 @@ DatesAgree = Agrees Bare SpellsBareDate parse_date is_in_number
 abbrev pub ByteSequencesAgree : Type 0
 ByteSequencesAgree = Agrees (List ℕ) SpellsByteSequence parse_byte_sequence (λ c. false)
 
+-- a Display String of these code points; the grammar has the octets of their UTF-8
+abbrev pub SpellsCodePoints : List ℕ → List ℕ → Type 0
+SpellsCodePoints t sequence =
+    (octets : List ℕ) × (utf8_encode sequence ≡ Some octets) × SpellsDisplayString t octets
+
 abbrev pub DisplayStringsAgree : Type 0
-DisplayStringsAgree = Agrees (List ℕ) SpellsDisplayString parse_display_string (λ c. false)
+DisplayStringsAgree = Agrees (List ℕ) SpellsCodePoints parse_display_string (λ c. false)
 
 abbrev pub KeysAgree : Type 0
 KeysAgree = Agrees (List ℕ) (SpellsWord is_key_start is_in_key) parse_key is_in_key

@@ -4,6 +4,7 @@
 pub mod Words
 pub mod Alphabets
 pub mod Base64
+pub mod Utf8Coding
 pub mod Utf8
 pub mod ParsingBare
 pub mod Parsing

@@ -10,7 +10,7 @@ pub fn canon_keeps_abnf()
 {}
 
 /// A valid field serialises by the RFC's steps (section 4.1), and what they write keeps to the
-/// ABNF; for a List or a Dictionary with no members, which is not sent, it is empty.
+/// ABNF; or it is not serialised, and is a List or a Dictionary with no members.
 pub fn serialised_keeps_abnf()
     ensures { SerialisedKeepsAbnf }
 {}

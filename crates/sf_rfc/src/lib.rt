@@ -5,3 +5,4 @@ pub mod abnf;
 pub mod joining;
 pub mod parsing;
 pub mod serialising;
+pub mod utf8;

@@ -7,13 +7,23 @@
 #![tactic(auto)]
 
 #[cfg(test)]
+mod appending;
+#[cfg(test)]
+mod asking;
+#[cfg(test)]
 mod building;
 #[cfg(test)]
 mod cache_status;
 #[cfg(test)]
+mod caching;
+#[cfg(test)]
+mod dialects;
+#[cfg(test)]
 mod lines;
 #[cfg(test)]
 mod priority;
+#[cfg(test)]
+mod response_priority;
 #[cfg(test)]
 mod targeted;
 #[cfg(test)]

@@ -98,7 +98,7 @@ fn name_of(rt: &(impl Abort + AllocGlobal), name: &[u8]) -> HeaderName {
     HeaderName::from_bytes(rt.alloc(), name).expect(rt, "a name")
 }
 
-fn headers_of(rt: &(impl Abort + AllocGlobal), fields: &[(&[u8], &[u8])]) -> HeaderMap {
+pub(crate) fn headers_of(rt: &(impl Abort + AllocGlobal), fields: &[(&[u8], &[u8])]) -> HeaderMap {
     let mut headers = HeaderMap::new(rt.alloc());
     for (name, value) in fields {
         let value = HeaderValue::from_bytes(rt.alloc(), value).expect(rt, "a value");
@@ -107,7 +107,7 @@ fn headers_of(rt: &(impl Abort + AllocGlobal), fields: &[(&[u8], &[u8])]) -> Hea
     headers
 }
 
-fn names_of(rt: &(impl Abort + AllocGlobal), targets: &[&[u8]]) -> Vec<HeaderName> {
+pub(crate) fn names_of(rt: &(impl Abort + AllocGlobal), targets: &[&[u8]]) -> Vec<HeaderName> {
     let mut names = Vec::new(rt.alloc());
     for target in targets {
         names.push(name_of(rt, target)).expect(rt, "room");

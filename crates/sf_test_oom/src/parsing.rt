@@ -198,6 +198,98 @@ fn refused_behind_long(rt: HostRuntime) -> Result<(), Fail> {
     Ok(())
 }
 
+/// Texts that are refused for their last byte, at this place, behind a key of more than 16 bytes: in an
+/// Inner List, behind other parameters, before an Inner List, or behind parts that allocate too.
+const REFUSED_BEHIND_KEYS: [(Kind, &[u8], u64); 14] = [
+    (Kind::List, b"(a;a_key_of_more_than_16_bytes=#", 31),
+    (Kind::List, b"(a;b;a_key_of_more_than_16_bytes=#", 33),
+    (Kind::List, b"(a;b=2;c;a_key_of_more_than_16_bytes=#", 37),
+    (Kind::List, b"(a b;a_key_of_more_than_16_bytes=#", 33),
+    (Kind::List, b"(a);a_key_of_more_than_16_bytes=#", 32),
+    (Kind::List, b"(a);b;a_key_of_more_than_16_bytes=#", 34),
+    (Kind::Dict, b"a_key_of_more_than_16_bytes=(#", 29),
+    (Kind::Dict, b"a_key_of_more_than_16_bytes=(a #", 31),
+    (Kind::Dict, b"a_key_of_more_than_16_bytes=(a;#", 31),
+    (Kind::Dict, b"k=(a;a_key_of_more_than_16_bytes=#", 33),
+    (Kind::Dict, b"k=a;b;a_key_of_more_than_16_bytes=#", 34),
+    (
+        Kind::Dict,
+        b"a_key_of_more_than_16_bytes=(a;a_key_of_more_than_16_bytes=#",
+        59,
+    ),
+    (
+        Kind::List,
+        b"(\"a string of more than 16 bytes\";a_key_of_more_than_16_bytes=#",
+        62,
+    ),
+    (Kind::Item, b"1;b;a_key_of_more_than_16_bytes=#", 32),
+];
+
+/// The field of a text that is fed byte by byte, so that the levels of the parser read all of it.
+fn parse_bytes(
+    alloc: Global,
+    seed: &RandomState,
+    kind: Kind,
+    text: &[u8],
+) -> Result<Field, Refusal> {
+    let mut parser = Parser::new(alloc, seed, kind, u64::MAX);
+    for byte in text {
+        parser.feed(&[*byte])?;
+    }
+    parser.finish()
+}
+
+/// The field of a text that is fed as one chunk.
+fn parse_chunk(
+    alloc: Global,
+    seed: &RandomState,
+    kind: Kind,
+    text: &[u8],
+) -> Result<Field, Refusal> {
+    let mut parser = Parser::new(alloc, seed, kind, u64::MAX);
+    parser.feed(text)?;
+    parser.finish()
+}
+
+/// The levels return the first of a failed allocation and of a mistake behind it.
+#[test]
+fn refused_behind_keys(rt: HostRuntime) -> Result<(), Fail> {
+    let alloc = rt.alloc();
+    let seed = RandomState::new(&rt)?;
+    for (kind, text, place) in REFUSED_BEHIND_KEYS {
+        expect_refusals(&rt, || {
+            seen_syntax(parse_bytes(alloc, &seed, kind, text), place, b'#')
+        });
+    }
+    Ok(())
+}
+
+/// So does a text that is read as a whole.
+#[test]
+fn refused_behind_keys_of_a_text(rt: HostRuntime) -> Result<(), Fail> {
+    let alloc = rt.alloc();
+    let seed = RandomState::new(&rt)?;
+    for (kind, text, place) in REFUSED_BEHIND_KEYS {
+        expect_refusals(&rt, || {
+            seen_syntax(parse_text(alloc, &seed, kind, text), place, b'#')
+        });
+    }
+    Ok(())
+}
+
+/// So does one chunk.
+#[test]
+fn refused_behind_keys_of_a_chunk(rt: HostRuntime) -> Result<(), Fail> {
+    let alloc = rt.alloc();
+    let seed = RandomState::new(&rt)?;
+    for (kind, text, place) in REFUSED_BEHIND_KEYS {
+        expect_refusals(&rt, || {
+            seen_syntax(parse_chunk(alloc, &seed, kind, text), place, b'#')
+        });
+    }
+    Ok(())
+}
+
 /// The Dictionary of a text that a reader gives a byte a call.
 fn read(alloc: Global, seed: &RandomState, text: &[u8]) -> Result<Field, Refusal> {
     let mut source = Paced::new(text, 1, 0, 0);

@@ -1,7 +1,7 @@
 // Values that are made, put and copied.
 use crate::expecting::{LISTED, MEMBERS, SINGLE, expect_no_need, expect_refusals, seen_if};
 use sf_parse::{Refusal, parse_text};
-use sf_test_alloc::{Seen, refusals};
+use sf_test_alloc::{Scarcity, Seen, refusals};
 use sf_value::{
     Bare, Blob, Entries, Field, Int, Item, Key, Kind, Member, OutOfMemory, Part, Reading, Sequence,
     Shown, Text, TextFault, Token, Writing, copy, same,
@@ -394,8 +394,19 @@ struct CopiedParts {
     items: Sequence<Item>,
 }
 
-/// Two times copies of so many of each.
-fn copies_of(alloc: Global, seed: &RandomState, count: usize) -> Result<Vec<CopiedParts>, Fail> {
+/// How many can be added to each of these until one is refused.
+#[derive(Clone, Copy, Debug, PartialEq, Eq)]
+struct Room {
+    params: usize,
+    members: usize,
+    items: usize,
+}
+
+/// More keys than any of these has room for.
+const MORE_NAMES: &[u8] = b"abcdefghijklmnopqrstuvwxyz";
+
+/// Copies of so many of each.
+fn copies_of(alloc: Global, seed: &RandomState, count: usize) -> Result<CopiedParts, Fail> {
     let params = entries_of(alloc, seed, count)?;
     let mut members = Sequence::new(alloc);
     let mut items = Sequence::new(alloc);
@@ -403,15 +414,11 @@ fn copies_of(alloc: Global, seed: &RandomState, count: usize) -> Result<Vec<Copi
         members.push(Member::Item(plain(alloc, seed)))?;
         items.push(plain(alloc, seed))?;
     }
-    let mut copies = Vec::new(alloc);
-    for _ in 0..2u32 {
-        copies.push(CopiedParts {
-            params: params.copy(alloc, seed)?,
-            members: members.copy(alloc, seed)?,
-            items: items.copy(alloc, seed)?,
-        })?;
-    }
-    Ok(copies)
+    Ok(CopiedParts {
+        params: params.copy(alloc, seed)?,
+        members: members.copy(alloc, seed)?,
+        items: items.copy(alloc, seed)?,
+    })
 }
 
 /// An Item in place.
@@ -419,26 +426,90 @@ fn plain(alloc: Global, seed: &RandomState) -> Item {
     Item::new(alloc, seed, Bare::Boolean(false))
 }
 
-/// Adds one more to each of the next copies.
-fn grow_next(alloc: Global, seed: &RandomState, copies: &mut Vec<CopiedParts>) -> bool {
-    let Some(mut next) = copies.pop() else {
-        return false;
-    };
-    let Ok(key) = Key::new(alloc, b"more") else {
-        return false;
-    };
-    next.params.set(key, Bare::Boolean(true)).is_ok()
-        && next.members.push(Member::Item(plain(alloc, seed))).is_ok()
-        && next.items.push(plain(alloc, seed)).is_ok()
+/// How many entries with new keys can be added.
+fn room_of_params(alloc: Global, params: &mut Entries<Bare>) -> usize {
+    let len = params.len();
+    for name in MORE_NAMES {
+        if params
+            .set_named(alloc, &[b'*', *name], Bare::Boolean(true))
+            .is_err()
+        {
+            break;
+        }
+    }
+    params.len().saturating_sub(len)
 }
 
+/// How many members can be added.
+fn room_of_members(alloc: Global, seed: &RandomState, members: &mut Sequence<Member>) -> usize {
+    let len = members.len();
+    for _ in MORE_NAMES {
+        if members.push(Member::Item(plain(alloc, seed))).is_err() {
+            break;
+        }
+    }
+    members.len().saturating_sub(len)
+}
+
+/// How many Items can be added.
+fn room_of_items(alloc: Global, seed: &RandomState, items: &mut Sequence<Item>) -> usize {
+    let len = items.len();
+    for _ in MORE_NAMES {
+        if items.push(plain(alloc, seed)).is_err() {
+            break;
+        }
+    }
+    items.len().saturating_sub(len)
+}
+
+/// How many can be added to each, at most as many as there are more names.
+fn room_of(alloc: Global, seed: &RandomState, copies: &mut CopiedParts) -> Room {
+    Room {
+        params: room_of_params(alloc, &mut copies.params),
+        members: room_of_members(alloc, seed, &mut copies.members),
+        items: room_of_items(alloc, seed, &mut copies.items),
+    }
+}
+
+/// The same with no memory left; `None` if memory could not be made scarce.
+fn room_without_memory(
+    alloc: Global,
+    seed: &RandomState,
+    copies: &mut CopiedParts,
+) -> Option<Room> {
+    let mut scarcity = Scarcity::new(alloc).ok()?;
+    if !scarcity.leave(alloc, 0) {
+        return None;
+    }
+    Some(room_of(alloc, seed, copies))
+}
+
+// A vector grows to 4, 8, 16 and so on; more than 8 entries are in a map, with 9, 18 and so on.
 #[test]
-fn copies_have_room_for_one_more(rt: HostRuntime) -> Result<(), Fail> {
+fn copies_have_the_room_of_additions(rt: HostRuntime) -> Result<(), Fail> {
     let alloc = rt.alloc();
     let seed = RandomState::new(&rt)?;
-    for count in [1, 3, 4, 7usize] {
+    // What is needed of the stack is taken before memory is scarce.
+    let with_memory = room_of(alloc, &seed, &mut copies_of(alloc, &seed, 1)?);
+    assert!(rt; with_memory.params == MORE_NAMES.len());
+    for (count, entries, values) in [
+        (1, 3, 3),
+        (2, 2, 2),
+        (4, 0, 0),
+        (5, 3, 3),
+        (8, 0, 0),
+        (9, 0, 7),
+        (10, 8, 6),
+        (16, 2, 0usize),
+    ] {
+        let want = Room {
+            params: entries,
+            members: values,
+            items: values,
+        };
         let mut copies = copies_of(alloc, &seed, count)?;
-        expect_no_need(&rt, || seen_if(grow_next(alloc, &seed, &mut copies)));
+        let found = room_without_memory(alloc, &seed, &mut copies);
+        assert!(rt; found == Some(want), "{count}");
     }
     Ok(())
 }

@@ -576,11 +576,11 @@ fn long_strings_as_by_levels(rt: HostRuntime) -> Result<(), Fail> {
     Ok(())
 }
 
-// On both sides of the numbers of characters that are tested at a time, of groups, and of the groups
-// that are decoded at a time.
-static CHARACTERS: [usize; 27] = [
-    0, 1, 2, 3, 4, 5, 14, 15, 16, 17, 18, 31, 32, 33, 34, 63, 64, 65, 66, 79, 80, 81, 127, 128,
-    129, 130, 1030,
+// On both sides of the numbers of characters that are tested at a time, of groups, of the groups that
+// are decoded at a time, and of what is found at once.
+static CHARACTERS: [usize; 34] = [
+    0, 1, 2, 3, 4, 5, 14, 15, 16, 17, 18, 31, 32, 33, 34, 63, 64, 65, 66, 79, 80, 81, 92, 93, 94,
+    95, 96, 97, 98, 127, 128, 129, 130, 1030,
 ];
 
 // How a Byte Sequence ends: whole if its last group needs so many `=`, broken off, and with a mistake.

@@ -12,6 +12,8 @@ mod cursors;
 #[cfg(test)]
 mod declined;
 #[cfg(test)]
+mod growing;
+#[cfg(test)]
 mod memory;
 #[cfg(test)]
 mod nodes;

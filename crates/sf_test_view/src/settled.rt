@@ -218,11 +218,12 @@ fn other_texts_are_scanned(rt: HostRuntime) -> Result<(), Fail> {
     // A key of parameters that is repeated is declined.
     assert!(&rt; !is_scanned(alloc, Kind::Item, b"1;a;b;a=2", b"1;a=2;b")?);
     assert!(&rt; !is_scanned(alloc, Kind::Dict, b"a;x;x, a", b"a")?);
-    // So is what is malformed, and a buffer with too few nodes.
+    // So is what is malformed.
     assert!(&rt; !is_scanned(alloc, Kind::Dict, b"a=1, b, a=", b"")?);
+    // Nodes are added to a buffer that has too few.
     let mut nodes = Vec::from_slice(alloc, &[Node::NONE; 2])?;
-    let short = scan_settled(alloc, Dialect::Rfc9651, Kind::Dict, b"a,b,a", &mut nodes);
-    assert!(&rt; short.is_none());
+    let added = scan_settled(alloc, Dialect::Rfc9651, Kind::Dict, b"a,b,a", &mut nodes);
+    assert!(&rt; added.is_some());
     // A scan that does not allocate declines a repeated key.
     let mut nodes = Vec::from_slice(alloc, &[Node::NONE; 8])?;
     let scan = View::scan(Dialect::Rfc9651, Kind::Dict, b"a,b,a", nodes.as_mut_slice());

@@ -24,7 +24,7 @@ use sf_field::{AskFault, UseFault};
 use sf_parse::Refusal;
 use sf_use::{CachePath, Policy, Priority};
 use sf_value::{Dialect, Field, Kind, Sink};
-use sf_view::{Node, Unviewed, node_buffer, scan_settled};
+use sf_view::{Node, Unviewed, scan_settled};
 use sf_write::{Sent, put, put_field};
 use std::alloc::Global;
 
@@ -135,7 +135,7 @@ fn answer_many_nodes<W: Sink>(
         (λ status. ReportsCanonical dialect kind text.now
         (W.state sink.old) (W.state sink.new) status) }
 {
-    let mut nodes = node_buffer(alloc, text).ok()?;
+    let mut nodes = Vec::new(alloc);
     let view = scan_settled(alloc, dialect, kind, text, &mut nodes)?;
     Some(answer_viewed(&view, kind, sink))
 }

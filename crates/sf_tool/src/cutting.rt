@@ -7,7 +7,7 @@ ghost use Rattle.sf_tool.specs.Lines.{without_lead as all_but_lead, trim};
 ghost use Rattle.sf_tool.specs.Lines.{without_trail as all_but_trail, lines_of as lines_in};
 
 use memchr::memchr;
-use sf_field::FieldLines;
+use sf_field::{AskingCost, FieldLines};
 use sf_value::is_ows;
 use std::marker::Model;
 
@@ -107,6 +107,12 @@ impl<'a> InputLines<'a> {
         ensures { result ≡ lines_in input.now }
     {
         InputLines { rest: input }
+    }
+}
+
+impl<'a> AskingCost for InputLines<'a> {
+    fn asking_is_free(&self) -> bool {
+        true
     }
 }
 

@@ -5,3 +5,7 @@ pub mod Firsts
 pub mod Deciding
 pub mod WrittenPriorities
 pub mod Scanning
+pub mod ResponsePriorities
+pub mod Decisions
+pub mod RulesChoosing
+pub mod RulesScanning

@@ -2,7 +2,7 @@
 use Rattle.std.proofs.Common.{◌≡◌, ◌≢◌, ℕ, pos, negsuc, Bool, true, false, List, [], ◌∷◌}
 use Rattle.std.proofs.Common.{Option, Some, None, refl, sym, ap, ◌∙◌, subst, fold, codes}
 use Rattle.std.specs.Prelude.{unwrap_or}
-use Rattle.sf_value.specs.declared.dialect.Dialect.TheVariants.{Rfc9651}
+use Rattle.sf_value.specs.declared.dialect.Dialect.{Dialect}
 use Rattle.sf_value.specs.declared.value.Bare.{Bare}
 use Rattle.sf_value.specs.declared.value.Bare.TheVariants.{Integer}
 use Rattle.sf_value.specs.declared.value.Dict.{Dict}
@@ -28,38 +28,39 @@ use Rattle.sf_use.specs.Priority.{params_of_dict, urgency, urgency_in, increment
 use Rattle.sf_value.specs.Lookups.{as_boolean, as_integer}
 use Rattle.sf_use.specs.Targeted.{policy, nothing, delta_seconds, whole, is_set, not_false}
 use Rattle.sf_use.specs.TargetedChoice.{MayOffer}
-use Rattle.sf_use.specs.Scanning.{IsScanned, urgency_by, seconds_by, sets_by, with_member}
+use Rattle.sf_use.specs.Scanning.{IsScannedIn, urgency_by, seconds_by, sets_by, with_member}
 use Rattle.sf_use.specs.Scanning.{with_directive}
 
 -- a Dictionary of the pairs that a text spells
-pub scanned : {A : Type 0} (P : Field → A → Type 0) (text : List ℕ) (a : A) (ps : Pairs Member)
-    → SpellsWhole (SpellsEntry Rfc9651) text ps → P (dict_of (settle ps)) a → IsScanned P text a
-scanned P text a ps s h =
-    let spelled : SpellsField Rfc9651 kind.Dict text (dict_of (settle ps)) = (ps, refl, s) in (
+pub scanned : {A : Type 0} (d : Dialect) (P : Field → A → Type 0) (text : List ℕ) (a : A)
+    (ps : Pairs Member) → SpellsWhole (SpellsEntry d) text ps → P (dict_of (settle ps)) a
+    → IsScannedIn d P text a
+scanned d P text a ps s h =
+    let spelled : SpellsField d kind.Dict text (dict_of (settle ps)) = (ps, refl, s) in (
       dict_of (settle ps),
       record {
         spelled = spelled;
-        only = λ w i. one_value Rfc9651 kind.Dict text w (dict_of (settle ps)) i spelled;
+        only = λ w i. one_value d kind.Dict text w (dict_of (settle ps)) i spelled;
       },
       h,
     )
 
 -- whatever members remain, the text spells some, and F of them is what f makes of the answer so far
 -- and those that remain
-pub record ReadSoFar {A : Type 0} (f : A → List ℕ × Member → A) (F : Pairs Member → A)
-    (text : List ℕ) (c : DictCursor) (a : A) : Type 0 where
-  pub dialect : c.dialect ≡ Rfc9651
+pub record ReadSoFar {A : Type 0} (d : Dialect) (f : A → List ℕ × Member → A)
+    (F : Pairs Member → A) (text : List ℕ) (c : DictCursor) (a : A) : Type 0 where
+  pub dialect : c.dialect ≡ d
   pub reads : (ps : Pairs Member) → RemainsInDict c ps
-      → (all : Pairs Member) × SpellsWhole (SpellsEntry Rfc9651) text all × (fold f a ps ≡ F all)
+      → (all : Pairs Member) × SpellsWhole (SpellsEntry d) text all × (fold f a ps ≡ F all)
 
-module _ {A : Type 0} (f : A → List ℕ × Member → A) (F : Pairs Member → A) where
+module _ {A : Type 0} (d : Dialect) (f : A → List ℕ × Member → A) (F : Pairs Member → A) where
   pub read_all : (text : List ℕ) (c e : DictCursor) (a : A) (o : Option EntryView)
-      → ReadSoFar f F text c a → ReadsNextEntry c e o → o ≡ None → (P : Field → A → Type 0)
-      → ((all : Pairs Member) → a ≡ F all → P (dict_of (settle all)) a) → IsScanned P text a
+      → ReadSoFar d f F text c a → ReadsNextEntry c e o → o ≡ None → (P : Field → A → Type 0)
+      → ((all : Pairs Member) → a ≡ F all → P (dict_of (settle all)) a) → IsScannedIn d P text a
   read_all text c e a o s n none P h =
       let left : RemainsInDict c [] = subst (ReadsNextEntry c e) none n in
       let all = s.reads [] left in
-      scanned P text a all.0 all.1 (h all.0 all.2)
+      scanned d P text a all.0 all.1 (h all.0 all.2)
 
 -- the parts of what is asked for
 params_parts : (a : Asked) (ps : Pairs Member)
@@ -141,7 +142,7 @@ policies : (a b : Option ℕ) (c d e f : Bool) (g h : Option ℕ) (i j k l : Boo
     → c ≡ i → d ≡ j → e ≡ k → f ≡ l → policy_by a b c d e f ≡ policy_by g h i j k l
 policies a b c d e f g h i j k l p q r s t u = cc
 
-all_directives : (ps : Pairs Member)
+pub all_directives : (ps : Pairs Member)
     → fold with_directive (policy nothing) ps ≡ policy (settled_dict ps)
 all_directives ps =
     policy_parts (policy nothing) ps
@@ -187,11 +188,11 @@ may_offer o ps e = subst (MayOffer (dict_of (settle ps))) (sym e) (by ps)
         some : (qs : Pairs Member) → qs ≡ settle (p ∷ ps) → qs ≢ []
         some qs e n = let z : [] ≡ settle (p ∷ ps) = sym n ∙ e in cc
 
-pub read_none : {A : Type 0} (f : A → List ℕ × Member → A) (F : Pairs Member → A)
-    (text : List ℕ) (c : DictCursor) (a : A) → c.dialect ≡ Rfc9651
-    → ((ps : Pairs Member) → RemainsInDict c ps → SpellsWhole (SpellsEntry Rfc9651) text ps)
-    → ((ps : Pairs Member) → fold f a ps ≡ F ps) → ReadSoFar f F text c a
-read_none f F text c a same h e = record {
+pub read_none : {A : Type 0} (d : Dialect) (f : A → List ℕ × Member → A) (F : Pairs Member → A)
+    (text : List ℕ) (c : DictCursor) (a : A) → c.dialect ≡ d
+    → ((ps : Pairs Member) → RemainsInDict c ps → SpellsWhole (SpellsEntry d) text ps)
+    → ((ps : Pairs Member) → fold f a ps ≡ F ps) → ReadSoFar d f F text c a
+read_none d f F text c a same h e = record {
   dialect = same;
   reads = λ ps r. (ps, h ps r, e ps);
 }

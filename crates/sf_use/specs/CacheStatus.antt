@@ -8,5 +8,6 @@ pub mod Reasons
 pub mod Hops
 pub mod Served
 pub mod Members
+pub mod Appended
 pub mod Laws
 pub mod Views

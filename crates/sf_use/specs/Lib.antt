@@ -9,3 +9,8 @@ pub mod Priority
 pub mod PriorityLaws
 pub mod Scanning
 pub mod PriorityUpdate
+pub mod ResponsePriority
+pub mod Caching
+pub mod CachingLaws
+pub mod TargetedRules
+pub mod Expires

@@ -23,6 +23,14 @@ greatest_status = 999
 abbrev pub IsHopStatus : ℕ → Type 0
 IsHopStatus n = (least_status ≤ n) × (n ≤ greatest_status)
 
+-- "Values outside the range 100..599 are invalid" (RFC 9110 section 15)
+abbrev pub greatest_valid_status : ℕ
+greatest_valid_status = 599
+
+-- whether a number is a valid status code
+abbrev pub is_valid_status : ℕ → Bool
+is_valid_status n = nat_le least_status n && nat_le n greatest_valid_status
+
 -- whether a number is a status code
 abbrev pub is_hop_status : ℕ → Bool
 is_hop_status n = nat_le least_status n && nat_le n greatest_status

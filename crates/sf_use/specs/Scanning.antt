@@ -1,6 +1,7 @@
 -- Dictionaries whose members are read from a text one after another.
 use Rattle.std.specs.Prelude.{ℕ, ℤ, pos, nat_le, if◌then◌else◌, Bool, true, List, codes}
 use Rattle.std.specs.Prelude.{Option, Some, None, unwrap_or}
+use Rattle.sf_value.specs.declared.dialect.Dialect.{Dialect}
 use Rattle.sf_value.specs.declared.dialect.Dialect.TheVariants.{Rfc9651}
 use Rattle.sf_value.specs.declared.value.Field.{Field}
 use Rattle.sf_value.specs.declared.value.Kind.TheVariants as kind
@@ -13,9 +14,14 @@ use Rattle.sf_use.specs.Priority.{urgency, incremental}
 use Rattle.sf_use.specs.Ranges.{least_urgent}
 use Rattle.sf_use.specs.Targeted.{delta_seconds, is_set}
 
--- the text spells a Dictionary and no other value, and the answer for it is as P says
+-- in the dialect the text spells a Dictionary and no other value, and the answer for it is as P
+-- says
+abbrev pub IsScannedIn : {A : Type 0} → Dialect → (Field → A → Type 0) → List ℕ → A → Type 0
+IsScannedIn d P text a = (v : Field) × IsOnly d kind.Dict text v × P v a
+
+-- the same by RFC 9651
 abbrev pub IsScanned : {A : Type 0} → (Field → A → Type 0) → List ℕ → A → Type 0
-IsScanned P text a = (v : Field) × IsOnly Rfc9651 kind.Dict text v × P v a
+IsScanned P text a = IsScannedIn Rfc9651 P text a
 
 -- an Integer as an urgency
 abbrev pub urgency_by : Option ℤ → Option ℕ

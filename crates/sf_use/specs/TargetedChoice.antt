@@ -2,6 +2,7 @@
 use Rattle.std.specs.Prelude.{◌≡◌, ◌≢◌, ◌⊎◌, ℕ, ◌+◌, ◌<◌, List as Seq, [], ◌∷◌, All, length, take}
 use Rattle.std.specs.Prelude.{get_or, Option, Some, None, Result, Ok, Err, IsErr, ⊤}
 use Rattle.http_header.specs.HeaderMap.{ContainsKey}
+use Rattle.sf_value.specs.declared.dialect.Dialect.{Dialect}
 use Rattle.sf_value.specs.declared.dialect.Dialect.TheVariants.{Rfc9651}
 use Rattle.sf_value.specs.declared.fault.OutOfMemory.{OutOfMemory as NoMemory}
 use Rattle.sf_value.specs.declared.value.Dict.{Dict}
@@ -24,26 +25,40 @@ use Rattle.sf_use.specs.declared.targeted.Policy.{Policy}
 use Rattle.sf_use.specs.declared.targeted.Choice.{Choice}
 use Rattle.sf_use.specs.declared.targeted.Choice.TheVariants as choice
 
--- the field of this name is present, its joined values spell this Dictionary, and it has a member;
--- any other field is ignored (section 2.1)
-pub record Usable (headers : Headers) (name : Seq ℕ) (d : Dict) : Type 0 where
+-- in the dialect: the field of this name is present, its joined values spell this Dictionary, and
+-- it has a member; any other field is ignored (section 2.1)
+pub record UsableIn (dialect : Dialect) (headers : Headers) (name : Seq ℕ) (d : Dict) : Type 0 where
   pub present : ContainsKey headers name
-  pub spelled : SpellsField Rfc9651 kind.Dict (join (lines_under headers name)) (field.Dict d)
+  pub spelled : SpellsField dialect kind.Dict (join (lines_under headers name)) (field.Dict d)
   pub filled : d.members ≢ []
 
 -- the policy of the field of this name, if its Dictionary can be used, otherwise none
-abbrev pub IsOffer : Headers → Seq ℕ → Option Policy → Type 0
-IsOffer headers name (Some p) = (d : Dict) × Usable headers name d × (p ≡ policy d)
-IsOffer headers name None = (d : Dict) → Usable headers name d → ⊥
+abbrev pub IsOfferIn : Dialect → Headers → Seq ℕ → Option Policy → Type 0
+IsOfferIn dialect headers name (Some p) =
+    (d : Dict) × UsableIn dialect headers name d × (p ≡ policy d)
+IsOfferIn dialect headers name None = (d : Dict) → UsableIn dialect headers name d → ⊥
 
 -- the choice among these targets, whose first has this index: the first target with an offer
-abbrev pub IsChosenFrom : ℕ → Seq (Seq ℕ) → Headers → Choice → Type 0
-IsChosenFrom index [] headers c = c ≡ choice.Fallback
-IsChosenFrom index (name ∷ names) headers c =
-    ((p : Policy) × IsOffer headers name (Some p) × (c ≡ choice.Field index p))
-    ⊎ (IsOffer headers name None × IsChosenFrom (index + 1) names headers c)
+abbrev pub IsChosenFromIn : Dialect → ℕ → Seq (Seq ℕ) → Headers → Choice → Type 0
+IsChosenFromIn dialect index [] headers c = c ≡ choice.Fallback
+IsChosenFromIn dialect index (name ∷ names) headers c =
+    ((p : Policy) × IsOfferIn dialect headers name (Some p) × (c ≡ choice.Field index p))
+    ⊎ (IsOfferIn dialect headers name None × IsChosenFromIn dialect (index + 1) names headers c)
 
 -- the choice among the targets
+abbrev pub IsChosenIn : Dialect → Seq (Seq ℕ) → Headers → Choice → Type 0
+IsChosenIn dialect = IsChosenFromIn dialect 0
+
+-- the same by RFC 9651
+abbrev pub Usable : Headers → Seq ℕ → Dict → Type 0
+Usable headers name d = UsableIn Rfc9651 headers name d
+
+abbrev pub IsOffer : Headers → Seq ℕ → Option Policy → Type 0
+IsOffer headers name offered = IsOfferIn Rfc9651 headers name offered
+
+abbrev pub IsChosenFrom : ℕ → Seq (Seq ℕ) → Headers → Choice → Type 0
+IsChosenFrom index names headers c = IsChosenFromIn Rfc9651 index names headers c
+
 abbrev pub IsChosen : Seq (Seq ℕ) → Headers → Choice → Type 0
 IsChosen = IsChosenFrom 0
 
@@ -53,22 +68,30 @@ MayOffer f (Some p) = (d : Dict) × (f ≡ field.Dict d) × (d.members ≢ []) �
 MayOffer f None = (d : Dict) → f ≡ field.Dict d → d.members ≡ []
 
 -- the field of this target is read: it is present, and no target before it has an offer
-abbrev pub IsReached : Seq (Seq ℕ) → Headers → Type 0
-IsReached targets headers =
+abbrev pub IsReachedIn : Dialect → Seq (Seq ℕ) → Headers → Type 0
+IsReachedIn dialect targets headers =
     (index : ℕ)
     × (index < length targets)
     × ContainsKey headers (get_or targets index [])
-    × All (λ n. IsOffer headers n None) (take index targets)
+    × All (λ n. IsOfferIn dialect headers n None) (take index targets)
 
--- the policy, if there is a member
-abbrev pub unless_empty : Pairs Member → Policy → Option Policy
-unless_empty [] p = None
-unless_empty (m ∷ ms) p = Some p
+-- the same by RFC 9651
+abbrev pub IsReached : Seq (Seq ℕ) → Headers → Type 0
+IsReached targets headers = IsReachedIn Rfc9651 targets headers
+
+-- the answer, if there is a member
+abbrev pub unless_empty : {A : Type 0} → Pairs Member → A → Option A
+unless_empty [] a = None
+unless_empty (m ∷ ms) a = Some a
+
+-- the answer for a Dictionary with a member, otherwise none
+abbrev pub offer_by : {A : Type 0} → (Dict → A) → Field → Option A
+offer_by answer (field.Dict d) = unless_empty d.members (answer d)
+offer_by answer f = None
 
 -- the policy of a Dictionary with a member, otherwise none
 abbrev pub offer : Field → Option Policy
-offer (field.Dict d) = unless_empty d.members (policy d)
-offer f = None
+offer = offer_by policy
 
 -- a fault of the offer of what is in memory: no source was read, and each Dictionary has an answer
 abbrev pub IsOfTarget : AskFault → Type 0
@@ -79,7 +102,7 @@ IsOfTarget (fault.Answer use_fault.OutOfMemory) = ⊤
 
 -- what the field of a name offers if its offer was asked for with this result: nothing if the field
 -- is refused (section 2.1), whatever memory is left
-abbrev pub OffersAsAsked : Result (Option Policy) AskFault → Result (Option Policy) NoMemory
+abbrev pub OffersAsAsked : {A : Type 0} → Result (Option A) AskFault → Result (Option A) NoMemory
     → Type 0
 OffersAsAsked (Ok o) r = r ≡ Ok o
 OffersAsAsked (Err (fault.Field (Syntax place found expected may_end))) r = r ≡ Ok None

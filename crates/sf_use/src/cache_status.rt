@@ -3,7 +3,8 @@
 //! The field is a List. Each member is a cache, named by a String or a Token; the first is the
 //! cache nearest the origin, and the last the one nearest the user. The parameters of a member say
 //! what that cache did. [`CacheStatus`] reads the field as a [`CachePath`], with a [`Hop`] for each
-//! member, and [`append_hop`] appends the member of your own cache.
+//! member. [`append_to_lines`] appends the member of your own cache to the lines of the field, and
+//! [`append_hop`] to its List.
 //!
 //! ```
 //! let path = sf_field::ask(alloc, &seed, &CacheStatus, lines.as_slice())?;
@@ -12,6 +13,7 @@
 //! }
 //! ```
 
+mod appended;
 mod appending;
 mod hop;
 mod params;
@@ -21,6 +23,7 @@ mod scanning;
 mod status;
 mod view;
 
+pub use appended::{AppendFault, Appended, append_to_lines};
 pub use appending::append_hop;
 pub use hop::{Forward, Hop, Name, Outcome, Passed};
 pub use path::{CachePath, CacheStatus};

@@ -6,8 +6,8 @@ ghost use Rattle.sf_value.specs.Grammar.Pairs.{put};
 ghost use Rattle.sf_use.specs.Priority.{params_of_dict, priority_with_defaults, incremental};
 ghost use Rattle.sf_use.specs.Priority.{merge_params, bare_member, prio, urgency, params_of_field};
 ghost use Rattle.sf_use.specs.Ranges.{IsUrgency, usual_urgency};
-ghost use Rattle.sf_use.specs.Scanning.{IsScanned, urgency_by, with_member};
-ghost use Rattle.sf_value.specs.declared.dialect.Dialect.TheVariants.{Rfc9651 as rfc9651};
+ghost use Rattle.sf_use.specs.Scanning.{IsScanned, IsScannedIn, urgency_by, with_member};
+ghost use Rattle.sf_value.specs.declared.dialect.Dialect.{Dialect as Which};
 ghost use Rattle.sf_value.specs.declared.value.Member.{Member as MemberValue};
 ghost use Rattle.sf_view.specs.Reads.{ShowsMember};
 
@@ -69,8 +69,8 @@ pub struct Priority {
     pub incremental: bool,
 }
 
-/// Reads the Priority field (RFC 9218 section 5), a Dictionary. `answer` and `answer_text` do not
-/// allocate.
+/// Reads the Priority field (RFC 9218 section 5), a Dictionary. `answer`, `answer_text` and
+/// `answer_text_in` do not allocate.
 ///
 /// ```
 /// let asked = ask(alloc, &seed, &PriorityField, lines.as_slice())?;
@@ -119,7 +119,21 @@ impl PriorityField {
         // The text spells a Dictionary, and no other value, and this is what it sets.
         ensures { IfSome result (IsScanned (λ v a. a ≡ params_of_field v) text.now) }
     {
-        let mut cursor = DictCursor::new(Dialect::Rfc9651, text);
+        PriorityField::scan_in(Dialect::Rfc9651, text)
+    }
+
+    /// Reads the text of a Priority field in a dialect, as [`PriorityField::scan`] does. RFC 9218
+    /// cites RFC 8941, by which a text with a Date or a Display String is refused.
+    ///
+    /// ```
+    /// PriorityField::scan_in(Dialect::Rfc8941, b"u=5, x=@1") // None
+    /// ```
+    pub fn scan_in(dialect: Dialect, text: &[u8]) -> Option<Asked>
+        // In the dialect the text spells a Dictionary, and no other value, and this is what it
+        // sets.
+        ensures { IfSome result (IsScannedIn dialect (λ v a. a ≡ params_of_field v) text.now) }
+    {
+        let mut cursor = DictCursor::new(dialect, text);
         let mut asked = Asked {
             urgency: None,
             incremental: None,
@@ -226,6 +240,11 @@ impl Consumer for PriorityField {
     fn answer_text(&self, _alloc: Global, text: &[u8]) -> Option<Asked> {
         PriorityField::scan(text)
     }
+
+    /// Returns what [`PriorityField::scan_in`] does.
+    fn answer_text_in(&self, _alloc: Global, dialect: Dialect, text: &[u8]) -> Option<Asked> {
+        PriorityField::scan_in(dialect, text)
+    }
 }
 
 /// Merges the priorities of a client and a server: each parameter is the server's if the server
@@ -276,7 +295,7 @@ pub fn priority_field(
 /// set.
 #[inline]
 fn asked_with(asked: Asked, member: EntryView) -> Asked
-    ensures { (m : MemberValue) → ShowsMember rfc9651 member.entry.bare m
+    ensures { (d : Which) (m : MemberValue) → ShowsMember d member.entry.bare m
         → result ≡ with_member asked (member.entry.key.now, m) }
 {
     if member.key == b"u".as_slice() {

@@ -3,18 +3,21 @@ ghost use Rattle.std.specs.Prelude.{◌≡◌, All, Ok, IfOk, IfErr, IfSome, IsO
 ghost use Rattle.std.specs.Option.{option_copied};
 ghost use Rattle.http_header.specs.HeaderMap.{ContainsKey};
 ghost use Rattle.sf_field.specs.Meaning.{Gives};
-ghost use Rattle.sf_use.specs.Scanning.{IsScanned, seconds_by, sets_by, with_directive};
-ghost use Rattle.sf_use.specs.Targeted.{delta_seconds, directives, is_set as member_sets, life, policy};
-ghost use Rattle.sf_use.specs.TargetedChoice.{IsChosen, IsReached, MayOffer, IsOffer};
+ghost use Rattle.sf_use.specs.Scanning.{IsScanned, IsScannedIn, seconds_by, sets_by};
+ghost use Rattle.sf_use.specs.Scanning.{with_directive};
+ghost use Rattle.sf_use.specs.Targeted.{delta_seconds, directives, is_set as member_sets};
+ghost use Rattle.sf_use.specs.Targeted.{life, policy};
+ghost use Rattle.sf_use.specs.TargetedChoice.{IsChosen, IsChosenIn, IsReached, IsReachedIn};
+ghost use Rattle.sf_use.specs.TargetedChoice.{MayOffer, IsOfferIn};
 ghost use Rattle.sf_use.specs.TargetedChoice.{IsOfTarget, OffersAsAsked};
 ghost use Rattle.sf_use.specs.declared.targeted.Choice.TheVariants.{Fallback};
-ghost use Rattle.sf_value.specs.declared.dialect.Dialect.TheVariants.{Rfc9651 as rfc9651};
+ghost use Rattle.sf_value.specs.declared.dialect.Dialect.{Dialect as Which};
 ghost use Rattle.sf_value.specs.declared.value.Member.{Member as MemberValue};
 ghost use Rattle.sf_view.specs.Cursors.{boolean_in};
 ghost use Rattle.sf_view.specs.Reads.{ShowsMember};
 
 use http_header::{HeaderMap, HeaderName};
-use sf_field::{AskFault, Consumer, UseFault, ask_from};
+use sf_field::{AskFault, Consumer, UseFault, ask_from_in};
 use sf_parse::Refusal;
 use sf_value::{Bare, Dialect, Dict, Field, Kind, Member, OutOfMemory};
 use sf_view::{DictCursor, EntryView};
@@ -41,8 +44,8 @@ pub struct Policy {
     pub is_private: bool,
 }
 
-/// Reads a targeted field (RFC 9213 section 2.1), a Dictionary. `answer` and `answer_text` do
-/// not allocate.
+/// Reads a targeted field (RFC 9213 section 2.1), a Dictionary. `answer`, `answer_text` and
+/// `answer_text_in` do not allocate.
 ///
 /// ```
 /// let policy = ask(alloc, &seed, &Directives, lines.as_slice())?;
@@ -65,7 +68,7 @@ pub enum Choice {
 }
 
 /// A policy without directives.
-const NO_DIRECTIVE: Policy = Policy {
+pub(crate) const NO_DIRECTIVE: Policy = Policy {
     max_age: None,
     s_maxage: None,
     must_revalidate: false,
@@ -89,7 +92,21 @@ impl Directives {
         // member.
         ensures { IfSome result (IsScanned MayOffer text.now) }
     {
-        let mut cursor = DictCursor::new(Dialect::Rfc9651, text);
+        Directives::scan_in(Dialect::Rfc9651, text)
+    }
+
+    /// Reads the text of one targeted field in a dialect, as [`Directives::scan`] does. RFC 9213
+    /// cites RFC 8941, by which a text with a Date or a Display String is refused.
+    ///
+    /// ```
+    /// Directives::scan_in(Dialect::Rfc8941, b"max-age=60, x=@1") // None
+    /// ```
+    pub fn scan_in(dialect: Dialect, text: &[u8]) -> Option<Option<Policy>>
+        // In the dialect the text spells a Dictionary, and no other value, and this is its policy,
+        // if it has a member.
+        ensures { IfSome result (IsScannedIn dialect MayOffer text.now) }
+    {
+        let mut cursor = DictCursor::new(dialect, text);
         let mut policy = None;
         while let Some(member) = cursor.next()? {
             policy = Some(policy_with(policy.unwrap_or(NO_DIRECTIVE), member));
@@ -170,8 +187,13 @@ impl Consumer for Directives {
     }
 
     /// Returns the directives that [`Directives::scan`] reads; an empty Dictionary has none.
-    fn answer_text(&self, _alloc: Global, text: &[u8]) -> Option<Policy> {
-        let policy = Directives::scan(text)?;
+    fn answer_text(&self, alloc: Global, text: &[u8]) -> Option<Policy> {
+        self.answer_text_in(alloc, Dialect::Rfc9651, text)
+    }
+
+    /// Returns the directives that [`Directives::scan_in`] reads; an empty Dictionary has none.
+    fn answer_text_in(&self, _alloc: Global, dialect: Dialect, text: &[u8]) -> Option<Policy> {
+        let policy = Directives::scan_in(dialect, text)?;
         Some(policy.unwrap_or(NO_DIRECTIVE))
     }
 }
@@ -200,6 +222,15 @@ impl Consumer for Offer {
 
     fn answer_text(&self, _alloc: Global, text: &[u8]) -> Option<Option<Policy>> {
         Directives::scan(text)
+    }
+
+    fn answer_text_in(
+        &self,
+        _alloc: Global,
+        dialect: Dialect,
+        text: &[u8],
+    ) -> Option<Option<Policy>> {
+        Directives::scan_in(dialect, text)
     }
 }
 
@@ -232,8 +263,35 @@ pub fn select(
     ensures absent { All (λ name. ¬ (ContainsKey headers.now name)) targets.now
         → result ≡ Ok Fallback }
 {
+    select_in(alloc, seed, Dialect::Rfc9651, targets, headers)
+}
+
+/// Returns the field that a cache obeys, as [`select`] does, where the fields are those of a
+/// dialect: a field that the dialect refuses is passed over. RFC 9213 cites RFC 8941, by which a
+/// field with a Date or a Display String is refused.
+///
+/// ```
+/// // cdn-cache-control: max-age=60, x=@1
+/// select_in(alloc, &seed, Dialect::Rfc8941, &targets, &headers)? // Choice::Fallback
+/// ```
+pub fn select_in(
+    alloc: Global,
+    seed: &RandomState,
+    dialect: Dialect,
+    targets: &[HeaderName],
+    headers: &HeaderMap,
+) -> Result<Choice, OutOfMemory>
+    // The first target of the list whose field can be used, or Fallback if there is none.
+    ensures chosen { IfOk result (IsChosenIn dialect targets.now headers.now) }
+    // OutOfMemory only for the field of a target that is present, if no target before it has a
+    // field that can be used.
+    ensures reached { IfErr result (λ _. IsReachedIn dialect targets.now headers.now) }
+    // If no field of a target is present, the call does not allocate.
+    ensures absent { All (λ name. ¬ (ContainsKey headers.now name)) targets.now
+        → result ≡ Ok Fallback }
+{
     for (index, target) in targets.iter().enumerate() {
-        match offered(alloc, seed, target, headers)? {
+        match offered(alloc, seed, dialect, target, headers)? {
             Some(policy) => return Ok(Choice::Field { index, policy }),
             None => {}
         }
@@ -243,8 +301,8 @@ pub fn select(
 
 /// Returns the policy after one more member, which overwrites what an earlier one with its key set.
 #[inline]
-fn policy_with(policy: Policy, member: EntryView) -> Policy
-    ensures { (m : MemberValue) → ShowsMember rfc9651 member.entry.bare m
+pub(crate) fn policy_with(policy: Policy, member: EntryView) -> Policy
+    ensures { (d : Which) (m : MemberValue) → ShowsMember d member.entry.bare m
         → result ≡ with_directive policy (member.entry.key.now, m) }
 {
     if member.key == b"max-age".as_slice() {
@@ -288,22 +346,23 @@ fn policy_with(policy: Policy, member: EntryView) -> Policy
 
 /// Returns whether a member is not an Item of Boolean false.
 #[inline]
-fn is_set(member: EntryView) -> bool
-    ensures { (m : MemberValue) → ShowsMember rfc9651 member.entry.bare m → result ≡ sets_by (boolean_in m) }
+pub(crate) fn is_set(member: EntryView) -> bool
+    ensures { (d : Which) (m : MemberValue) → ShowsMember d member.entry.bare m
+        → result ≡ sets_by (boolean_in m) }
 {
     member.as_boolean().unwrap_or(true)
 }
 
 /// Returns a number of seconds that is not negative.
 #[inline]
-fn seconds_of(number: Option<i64>) -> Option<u64>
+pub(crate) fn seconds_of(number: Option<i64>) -> Option<u64>
     ensures { result ≡ seconds_by number }
 {
     u64::try_from(number?).ok()
 }
 
 /// Returns the seconds that a member sets: an Integer that is not negative.
-fn seconds(member: Option<&Member>) -> Option<u64>
+pub(crate) fn seconds(member: Option<&Member>) -> Option<u64>
     ensures { result ≡ delta_seconds (option_copied member.entry) }
 {
     let number = member?.as_item()?.bare.as_integer()?;
@@ -311,7 +370,7 @@ fn seconds(member: Option<&Member>) -> Option<u64>
 }
 
 /// Returns whether a member is present and not an Item of Boolean false.
-fn sets(member: Option<&Member>) -> bool
+pub(crate) fn sets(member: Option<&Member>) -> bool
     ensures { result ≡ member_sets (option_copied member.entry) }
 {
     match member {
@@ -336,9 +395,11 @@ fn policy_in(field: &Field) -> Option<Policy>
     Some(Policy::from_dict(dict))
 }
 
-/// Returns the policy of a field whose offer was asked for with this result; None if the field is
+/// Returns what a field offers whose offer was asked for with this result; None if the field is
 /// refused or empty.
-fn offer_in(asked: Result<Option<Policy>, AskFault>) -> Result<Option<Policy>, OutOfMemory>
+pub(crate) fn offer_in<A: Drop>(
+    asked: Result<Option<A>, AskFault>,
+) -> Result<Option<A>, OutOfMemory>
     // A header map is in memory, so no read of a source failed; and each Dictionary has an answer.
     requires { IfErr asked IsOfTarget }
     // A refused or empty field is passed over; only an allocation that failed, and a field that no
@@ -359,16 +420,17 @@ fn offer_in(asked: Result<Option<Policy>, AskFault>) -> Result<Option<Policy>, O
 fn offered(
     alloc: Global,
     seed: &RandomState,
+    dialect: Dialect,
     name: &HeaderName,
     headers: &HeaderMap,
 ) -> Result<Option<Policy>, OutOfMemory>
     // The policy of the name's field if it can be used, otherwise None.
-    ensures offer { IfOk result (IsOffer headers.now name.now) }
+    ensures offer { IfOk result (IsOfferIn dialect headers.now name.now) }
     // OutOfMemory only if the name is present.
     ensures present { IfErr result (λ _. ContainsKey headers.now name.now) }
 {
     if !headers.contains_key(name) {
         return Ok(None);
     }
-    offer_in(ask_from(alloc, seed, &Offer, headers.get_all(name).iter()))
+    offer_in(ask_from_in(alloc, seed, dialect, &Offer, headers.get_all(name).iter()))
 }

@@ -6,6 +6,7 @@ pub mod Digits
 pub mod Utf8States
 pub mod Entries
 pub mod Stores
+pub mod Capacities
 pub mod Lending
 pub mod Faults
 pub mod InPlace

@@ -1,7 +1,11 @@
 -- How contracts see stored entries as pairs.
-use Rattle.std.specs.Prelude.{ℕ, ◌<◌, List, [], length, map, vec_len, vec_capacity}
+use Rattle.std.specs.Prelude.{ℕ, ◌≡◌, ◌<◌, ◌≤◌, None, Some, List, [], length, map, vec_len, vec_capacity}
+use Rattle.std.specs.List.{All, position}
+use Rattle.std.specs.Str.{bytes_eq}
 use Rattle.std.specs.Slice.Iter.{iter_rest}
 use Rattle.std.specs.Vec.Iter.{into_iter_items}
+use Rattle.std.specs.declared.random_state.RandomState.{RandomState}
+use Rattle.indexmap.specs.IndexMap.{hasher_of}
 use Rattle.sf_value.specs.declared.store.Slot.{Slot}
 use Rattle.sf_value.specs.declared.store.Store.{Store}
 use Rattle.sf_value.specs.declared.store.Store.TheVariants as store
@@ -9,6 +13,7 @@ use Rattle.sf_value.specs.declared.store.Lent.{Lent}
 use Rattle.sf_value.specs.declared.store.Lent.TheVariants as lent
 use Rattle.sf_value.specs.declared.store.Left.{Left}
 use Rattle.sf_value.specs.declared.store.Left.TheVariants as left
+use Rattle.sf_value.specs.Capacities.{HasGrown}
 use Rattle.sf_value.specs.Grammar.Pairs.{Pairs}
 
 module _ {V : Type 0} where
@@ -40,6 +45,31 @@ module _ {V : Type 0} where
   HasRoom (store.Fresh _ _) = ⊥
   HasRoom (store.Few slots) = vec_len slots < vec_capacity slots
   HasRoom (store.Many _) = ⊥
+
+  -- whether a key has this place in the vector, or is new and goes there, and there is room for it
+  abbrev pub HasPlace : List ℕ → ℕ → Store V → Type 0
+  HasPlace k i (store.Fresh _ _) = ⊥
+  HasPlace k i (store.Few slots) =
+      let place = position (λ s. bytes_eq k s.key) slots.items in
+      (i < length slots.items → place ≡ Some i)
+      × (length slots.items ≤ i → (place ≡ None) × (vec_len slots < vec_capacity slots))
+  HasPlace k i (store.Many _) = ⊥
+
+  -- whether it is a vector that has the capacity of one that grew
+  abbrev pub HasGrownRoom : Store V → Type 0
+  HasGrownRoom (store.Fresh _ _) = Unit {0}
+  HasGrownRoom (store.Few slots) = HasGrown (length slots.items) (vec_capacity slots)
+  HasGrownRoom (store.Many _) = Unit {0}
+
+  -- whether each slot has this seed
+  abbrev pub HaveSeed : RandomState → List (Slot V) → Type 0
+  HaveSeed seed ss = All (λ s. s.seed ≡ seed) ss
+
+  -- whether this is the seed of the map that there is, or will be
+  abbrev pub IsSeedOf : RandomState → Store V → Type 0
+  IsSeedOf seed (store.Fresh _ own) = own ≡ seed
+  IsSeedOf seed (store.Few slots) = HaveSeed seed slots.items
+  IsSeedOf seed (store.Many map) = hasher_of map.value ≡ seed
 
   -- what remains of an iteration by reference
   abbrev pub lent_pairs : Lent V → Pairs V

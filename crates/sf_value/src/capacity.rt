@@ -1,16 +1,23 @@
 //! How much capacity copies have.
-ghost use Rattle.std.specs.Prelude.{◌≡◌, ◌≤◌};
+ghost use Rattle.std.specs.Prelude.{◌≤◌};
+ghost use Rattle.sf_value.specs.Capacities.{HasGrown};
 
-/// The capacity for a copy of so many values: one more has room, since a copy is often made to be
-/// changed.
+/// The capacity of a vector after the first addition.
+const FIRST: usize = 4;
+
+/// The capacity for a copy of so many values: that which as many additions one by one would have
+/// given. So what is added to a copy is moved as rarely as what is added to its source.
 #[inline]
 pub(crate) fn capacity_for(len: usize) -> usize
     ensures enough { len ≤ result }
-    // A copy of none does not allocate.
-    ensures none { len ≡ 0 → result ≡ 0 }
+    ensures grown { HasGrown len result }
 {
     if len == 0 {
         return 0;
     }
-    len.saturating_add(1)
+    match len.max(FIRST).checked_next_power_of_two() {
+        Some(capacity) => capacity,
+        // No memory has as many.
+        None => len,
+    }
 }

@@ -1,7 +1,7 @@
 //! Values in order.
 ghost use Rattle.std.specs.Prelude.{◌≡◌, List, [], ◌∷◌, ◌++◌, ◌↔◌, IsTrue, length, slice_get};
 ghost use Rattle.std.specs.Prelude.{◌+◌, ◌<◌, ◌≤◌, take, drop, Some};
-ghost use Rattle.std.specs.Prelude.{IfOk, IfErr, OnOk, OnErr, MatchOption};
+ghost use Rattle.std.specs.Prelude.{IfOk, IfErr, OnOk, OnErr, IsOk, MatchOption, vec_capacity};
 ghost use Rattle.std.specs.Slice.Iter.{iter_rest};
 ghost use Rattle.std.specs.Vec.Iter.{into_iter_items, into_iter_steps};
 ghost use Rattle.std.specs.Iterator.Runs.{EveryRun, ItemsAre};
@@ -9,6 +9,7 @@ ghost use Rattle.std.specs.declared.alloc.Global.{Global};
 ghost use Rattle.std.specs.Iterator.Adapters.{IterYieldsInOrder};
 ghost use Rattle.std.specs.Borrow.{sem};
 ghost use Rattle.sf_value.specs.Lending.{LendsItems};
+ghost use Rattle.sf_value.specs.Capacities.{HasGrown};
 ghost use Rattle.std.specs.Cmp.Lexicographic.{pointwise_decides};
 
 use crate::capacity::capacity_for;
@@ -263,11 +264,23 @@ impl<T: Part> Part for Sequence<T> {
     }
 
     fn copy(&self, alloc: Global, seed: &RandomState) -> Result<Sequence<T>, OutOfMemory> {
-        let sources = self.as_slice();
-        let mut items = Vec::with_capacity(alloc, capacity_for(sources.len()))?;
-        for item in sources {
-            items.push_reserved(item.copy(alloc, seed)?);
-        }
-        Ok(Sequence { items })
+        Ok(Sequence {
+            items: copies(self.as_slice(), alloc, seed)?,
+        })
     }
+}
+
+/// Copies of these values.
+#[inline(always)]
+fn copies<T: Part>(sources: &[T], alloc: Global, seed: &RandomState) -> Result<Vec<T>, OutOfMemory>
+    ensures copied { IfOk result (λ copies. copies.items ≡ sources.now) }
+    ensures room { IfOk result (λ copies. HasGrown (length sources.now) (vec_capacity copies)) }
+    // No values are not refused as out of memory.
+    ensures none { sources.now ≡ [] → IsOk result }
+{
+    let mut items = Vec::with_capacity(alloc, capacity_for(sources.len()))?;
+    for item in sources {
+        items.push_reserved(item.copy(alloc, seed)?);
+    }
+    Ok(items)
 }

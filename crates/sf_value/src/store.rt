@@ -9,12 +9,14 @@ ghost use Rattle.std.specs.Map.{keys_of};
 ghost use Rattle.std.specs.Str.{bytes_eq};
 ghost use Rattle.std.specs.Borrow.{sem};
 ghost use Rattle.sf_value.specs.Lending.{LendsStored};
-ghost use Rattle.indexmap.specs.IndexMap.{insert_entry, spare};
+ghost use Rattle.indexmap.specs.IndexMap.{insert_entry, spare, hasher_of};
 ghost use Rattle.sf_value.specs.Grammar.Pairs.{settle, without, value_at, HasDistinctKeys};
 ghost use Rattle.sf_value.specs.Grammar.Tokens.{IsKey};
 ghost use Rattle.sf_value.specs.Entries.{deref_entry, AreEntries};
 ghost use Rattle.sf_value.specs.Stores.{slot_pairs, stored, HasSeed, HasSlotSeed, HasRoom};
-ghost use Rattle.sf_value.specs.Stores.{lent_pairs, left_pairs};
+ghost use Rattle.sf_value.specs.Stores.{lent_pairs, left_pairs, HaveSeed, IsSeedOf, HasGrownRoom};
+ghost use Rattle.sf_value.specs.Stores.{HasPlace};
+ghost use Rattle.sf_value.specs.Capacities.{HasGrown};
 
 use crate::bytes::{IN_PLACE, ShortBytes};
 use crate::capacity::capacity_for;
@@ -275,8 +277,7 @@ impl<V: Drop> Store<V> {
     }
 
     /// Puts a value at the key with these bytes, as `Entries::set_named` does. It is inlined for the
-    /// common way, in which neither the key nor the slot is moved: a short key that is new, and
-    /// first or among a few.
+    /// common ways, in which neither the key nor the slot is moved: a short key, first or among a few.
     #[inline(always)]
     pub(crate) fn set_named(
         &mut self,
@@ -306,13 +307,18 @@ impl<V: Drop> Store<V> {
             return self.set_made(alloc, key, value);
         }
         let seed = self.seed();
-        if !self.reserve_last(key)? {
+        let at = self.reserve(key)?;
+        if at >= FEW {
             return self.set_made(alloc, key, value);
         }
         // There is no other outcome: it is a vector, and a short key does not allocate.
         let Store::Few(slots) = self else {
             unreachable!()
         };
+        if at < slots.len() {
+            overwrite(&mut slots[at], value);
+            return Ok(());
+        }
         let Ok(bytes) = ShortBytes::from_slice(alloc, key) else {
             unreachable!()
         };
@@ -336,16 +342,15 @@ impl<V: Drop> Store<V> {
         }
     }
 
-    /// Whether a key is new and goes last among a few, for which there is then room.
+    /// The place of a key among a few: where it is or, if it is new, where it goes, for which there is
+    /// then room. It is `FEW` if the key has no place there.
     #[inline(never)]
-    fn reserve_last(&mut self, key: &[u8]) -> Result<bool, OutOfMemory>
+    fn reserve(&mut self, key: &[u8]) -> Result<usize, OutOfMemory>
         requires { HasSeed self.old }
         ensures same { stored self.new ≡ stored self.old }
-        ensures last { IfOk result (λ last. IsTrue last → HasRoom self.new) }
-        ensures new { IfOk result (λ last. IsTrue last
-            → value_at key.now (stored self.old) ≡ None) }
-        // Without room for a slot there is a seed as before.
-        ensures other { IfOk result (λ last. last ≡ false → HasSeed self.new) }
+        ensures place { IfOk result (λ place. place < FEW → HasPlace key.now place self.new) }
+        // Without a place there is a seed as before.
+        ensures other { IfOk result (λ place. FEW ≤ place → HasSeed self.new) }
         ensures seed { OnErr result (HasSeed self.new) }
         // It fails only if the key is new.
         ensures absent { OnErr result (value_at key.now (stored self.old) ≡ None) }
@@ -354,16 +359,19 @@ impl<V: Drop> Store<V> {
             Store::Fresh(alloc, seed) => {
                 let (alloc, seed) = (*alloc, *seed);
                 self.reserve_first(alloc, seed)?;
-                return Ok(true);
+                return Ok(0);
             }
             Store::Few(slots) => {
-                if slots.len() >= FEW || place_of(slots, key).is_some() {
-                    return Ok(false);
+                if let Some(present) = place_of(slots, key) {
+                    return Ok(present);
+                }
+                if slots.len() >= FEW {
+                    return Ok(FEW);
                 }
                 slots.reserve(1)?;
-                return Ok(true);
+                return Ok(slots.len());
             }
-            Store::Many(_) => return Ok(false),
+            Store::Many(_) => return Ok(FEW),
         }
     }
 
@@ -387,8 +395,8 @@ impl<V: Drop> Store<V> {
         Ok(())
     }
 
-    /// The same as `set_named`, for a long key, a key that is present, or one more than a few: the key
-    /// is made before its place is known.
+    /// The same as `set_named`, for a long key, or one more than a few: the key is made before its
+    /// place is known.
     #[inline(never)]
     fn set_made(&mut self, alloc: Global, key: &[u8], value: V) -> Result<(), OutOfMemory>
         requires key { IsKey key.now }
@@ -467,14 +475,16 @@ impl<V: Drop> Store<V> {
 }
 
 impl<V: Part> Store<V> {
-    /// Other entries, equal to these, with another seed, in a vector or a map that does not grow. It
-    /// is not inlined: a copy of no entries would pay for its stack.
+    /// Other entries, equal to these, with another seed, in memory as if they had been put one by one.
+    /// It is not inlined: a copy of no entries would pay for its stack.
     #[inline(never)]
     pub(crate) fn copy(&self, alloc: Global, seed: &RandomState) -> Result<Store<V>, OutOfMemory>
         // Each key is one, and none occurs twice.
         requires entries { AreEntries (stored self.now) }
         requires seed { HasSeed self.now }
         ensures seed { IfOk result HasSeed }
+        ensures given { IfOk result (IsSeedOf seed.now) }
+        ensures room { IfOk result HasGrownRoom }
         ensures copied { IfOk result (λ copy. stored copy ≡ stored self.now) }
         // No entries are not refused as out of memory.
         ensures none { stored self.now ≡ [] → IsOk result }
@@ -495,13 +505,6 @@ impl<V: Part> Store<V> {
     }
 }
 
-/// The capacity for a copy of a few entries: no more than a few are ever in a vector.
-fn few_capacity(len: usize) -> usize
-    ensures { len ≤ result }
-{
-    capacity_for(len).min(FEW).max(len)
-}
-
 /// Copies of a few entries, in a vector.
 #[inline(never)]
 fn copy_few<V: Part>(
@@ -509,9 +512,11 @@ fn copy_few<V: Part>(
     alloc: Global,
     seed: &RandomState,
 ) -> Result<Vec<Slot<V>>, OutOfMemory>
-    ensures { IfOk result (λ copies. slot_pairs copies.items ≡ slot_pairs sources.now) }
+    ensures copied { IfOk result (λ copies. slot_pairs copies.items ≡ slot_pairs sources.now) }
+    ensures seeds { IfOk result (λ copies. HaveSeed seed.now copies.items) }
+    ensures room { IfOk result (λ copies. HasGrown (length copies.items) (vec_capacity copies)) }
 {
-    let mut copies = Vec::with_capacity(alloc, few_capacity(sources.len()))?;
+    let mut copies = Vec::with_capacity(alloc, capacity_for(sources.len()))?;
     for source in sources {
         push_copy(&mut copies, &source.key, &source.value, alloc, seed)?;
     }
@@ -525,9 +530,11 @@ fn copy_left<V: Part>(
     alloc: Global,
     seed: &RandomState,
 ) -> Result<Vec<Slot<V>>, OutOfMemory>
-    ensures { IfOk result (λ copies. slot_pairs copies.items ≡ map.now.entries) }
+    ensures copied { IfOk result (λ copies. slot_pairs copies.items ≡ map.now.entries) }
+    ensures seeds { IfOk result (λ copies. HaveSeed seed.now copies.items) }
+    ensures room { IfOk result (λ copies. HasGrown (length copies.items) (vec_capacity copies)) }
 {
-    let mut copies = Vec::with_capacity(alloc, few_capacity(map.len()))?;
+    let mut copies = Vec::with_capacity(alloc, capacity_for(map.len()))?;
     for (key, value) in map.iter() {
         push_copy(&mut copies, key, value, alloc, seed)?;
     }
@@ -547,6 +554,7 @@ fn push_copy<V: Part>(
     requires { vec_len copies.old < vec_capacity copies.old }
     ensures added { OnOk result (slot_pairs copies.new.items
         ≡ slot_pairs copies.old.items ++ (key.now, value.now) ∷ []) }
+    ensures seeds { HaveSeed seed.now copies.old.items → HaveSeed seed.now copies.new.items }
     ensures room { vec_capacity copies.new ≡ vec_capacity copies.old }
 {
     let bytes = key.as_bytes();
@@ -577,6 +585,7 @@ fn push_long_copy<V: Part>(
     requires { vec_len copies.old < vec_capacity copies.old }
     ensures added { OnOk result (slot_pairs copies.new.items
         ≡ slot_pairs copies.old.items ++ (key.now, value.now) ∷ []) }
+    ensures seeds { HaveSeed seed.now copies.old.items → HaveSeed seed.now copies.new.items }
     ensures room { vec_capacity copies.new ≡ vec_capacity copies.old }
 {
     let key = key.copy(alloc)?;
@@ -589,7 +598,8 @@ fn push_long_copy<V: Part>(
     Ok(())
 }
 
-/// Copies of the entries of a map, in one that has capacity for them.
+/// Copies of the entries of a map, in one that has capacity for them. It is no larger than one that
+/// grew, since maps grow to what they are made with at first.
 #[inline(never)]
 fn copy_many<V: Part>(
     map: &Many<V>,
@@ -598,7 +608,8 @@ fn copy_many<V: Part>(
 ) -> Result<Box<Many<V>>, OutOfMemory>
     // No key occurs twice.
     requires distinct { HasDistinctKeys map.now.entries }
-    ensures { IfOk result (λ copies. copies.value.entries ≡ map.now.entries) }
+    ensures copied { IfOk result (λ copies. copies.value.entries ≡ map.now.entries) }
+    ensures given { IfOk result (λ copies. hasher_of copies.value ≡ seed.now) }
 {
     let empty = IndexMap::with_capacity_and_hasher(alloc, map.len(), *seed)?;
     let Ok(mut copies) = Box::new(alloc, empty) else {
@@ -640,6 +651,7 @@ fn insert<V: Drop>(map: &mut Many<V>, key: Key, value: V)
     requires room { 0 < spare map.old }
     ensures entries { map.new.entries ≡ insert_entry bytes_eq map.old.entries key value }
     ensures room { spare map.old ≤ spare map.new + 1 }
+    ensures seed { hasher_of map.new ≡ hasher_of map.old }
 {
     let Ok(_) = map.insert(key, value) else {
         unreachable!()

@@ -399,10 +399,10 @@ decoded_more code next rest later done done' t b takes e d =
       remains = h.remains;
     }
 
-pub decoded_run : (code : Coding) (rest later done done' run t : List ℕ)
-    → ((s : List ℕ) → Remains code rest s → TakesRun run (Remains code later) s)
-    → done' ≡ done ++ run → Decoded code rest done t → Decoded code later done' t
-decoded_run code rest later done done' run t takes e d =
+pub decoded_part : (code next : Coding) (rest later done done' run t : List ℕ)
+    → ((s : List ℕ) → Remains code rest s → TakesRun run (Remains next later) s)
+    → done' ≡ done ++ run → Decoded code rest done t → Decoded next later done' t
+decoded_part code next rest later done done' run t takes e d =
     let h = takes d.left d.remains in
     record {
       left = h.left;
@@ -413,3 +413,15 @@ decoded_run code rest later done done' run t takes e d =
           ∙ ap (λ y. y ++ h.left) (sym e);
       remains = h.remains;
     }
+
+-- all of them
+pub decoded_all : (code : Coding) (rest done done' run t : List ℕ)
+    → ((s : List ℕ) → Remains code rest s → s ≡ run) → done' ≡ done ++ run
+    → Decoded code rest done t → done' ≡ t
+decoded_all code rest done done' run t takes e d =
+    e ∙ ap (λ y. done ++ y) (sym (takes d.left d.remains)) ∙ sym d.split
+
+-- bytes that were decoded from the start
+pub decoded_taken : (code : Coding) (rest done t : List ℕ) → Decoded code rest done t
+    → TakesRun done (Remains code rest) t
+decoded_taken code rest done t d = record { left = d.left; split = d.split; remains = d.remains }

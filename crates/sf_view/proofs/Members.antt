@@ -21,7 +21,8 @@ use Rattle.sf_value.specs.Grammar.Fields.{SpellsEntry, SpellsField, list_of, dic
 use Rattle.sf_parse.specs.Parsers.{IsOnly}
 use Rattle.sf_parse.proofs.GrammarLaws.{one_value}
 use Rattle.sf_value.specs.Grammar.Pairs.{settle}
-use Rattle.sf_value.proofs.Settling.{settle-distinct}
+use Rattle.sf_value.proofs.Settling.{settle-distinct, settle_settle, distinct-settle}
+use Rattle.std.proofs.lemmas.List.{take-take, take_all}
 use Rattle.sf_view.specs.declared.item.KeyPlace.{KeyPlace}
 use Rattle.sf_view.specs.declared.node.Node.{Node}
 use Rattle.sf_view.specs.declared.node_types.Role.TheVariants as role_is
@@ -30,10 +31,10 @@ use Rattle.sf_view.specs.Scans.{Behind, IsEnd, ScansItem, ScansMember, ScansEntr
 use Rattle.sf_view.specs.Scans.{keys_from, DistinguishKeys}
 use Rattle.sf_view.specs.declared.keys.Marks.{Marks}
 use Rattle.sf_view.specs.Marks.{mark_of, HaveMarks}
-use Rattle.sf_view.specs.Accepts.{Accepts, SoFar, DescribesMarked}
+use Rattle.sf_view.specs.Accepts.{Accepts, SoFar, DescribesMarked, AreEntries}
 use Rattle.sf_view.specs.Settling.{IsRaw, HasParts}
 use Rattle.sf_view.proofs.KeyMarks.{keys_push}
-use Rattle.sf_view.proofs.Putting.{puts_none, puts_then}
+use Rattle.sf_view.proofs.Putting.{puts_none, puts_then, puts_behind}
 
 module _ {X : Type 0} (P : List ℕ → X → Type 0) where
   commas_push : (t before behind g : List ℕ) (xs : List X) (y : X) → SpellsCommas P t xs
@@ -155,6 +156,53 @@ module _ {X : Type 0} (P : List ℕ → X → Type 0) where
         ∙ ap (λ y. s.gap ++ y)
         (ap (λ y. s.prefix ++ y) e ∙ sym (append_assoc s.prefix f after)))
         s.spaces (s.glue f x h) (subst (Every is_ows) (sym tail) a.each)
+
+-- the same nodes at the start, in other nodes
+pub so_far_kept : {X : Type 0} {P : List ℕ → X → Type 0} {T : List Node → List X → Type 0}
+    (text rest : List ℕ) (old mid new : List Node) (count : ℕ) → SoFar X P T text rest old mid count
+    → take count new ≡ take count mid → length new ≡ length mid
+    → SoFar X P T text rest new new count
+so_far_kept text rest old mid new count s e l =
+    let p = s.puts in
+    let w = p.within in record {
+      gap = s.gap;
+      prefix = s.prefix;
+      values = s.values;
+      nodes = s.nodes;
+      split = s.split;
+      spaces = s.spaces;
+      glue = s.glue;
+      puts = record { within = omega arith; from = p.from; there = e ∙ p.there };
+      describes = s.describes;
+    }
+
+-- after other nodes
+pub so_far_same : {X : Type 0} {P : List ℕ → X → Type 0} {T : List Node → List X → Type 0}
+    (text rest : List ℕ) (old new : List Node) (count : ℕ) → SoFar X P T text rest old new count
+    → SoFar X P T text rest new new count
+so_far_same text rest old new count s = so_far_kept text rest old new new count s refl refl
+
+-- with more nodes after them
+pub so_far_longer : {X : Type 0} {P : List ℕ → X → Type 0} {T : List Node → List X → Type 0}
+    (text rest : List ℕ) (mid new : List Node) (count : ℕ) → SoFar X P T text rest mid mid count
+    → take (length mid) new ≡ mid → length mid ≤ length new → SoFar X P T text rest new new count
+so_far_longer text rest mid new count s e l =
+    let p = s.puts in
+    let w = p.within in record {
+      gap = s.gap;
+      prefix = s.prefix;
+      values = s.values;
+      nodes = s.nodes;
+      split = s.split;
+      spaces = s.spaces;
+      glue = s.glue;
+      puts = record {
+        within = omega arith;
+        from = p.from;
+        there = sym (take-take count (length mid) new w) ∙ ap (take count) e ∙ p.there;
+      };
+      describes = s.describes;
+    }
 
 -- a rest is an end of the text
 pub rest_ends : {X : Type 0} {P : List ℕ → X → Type 0} {T : List Node → List X → Type 0}
@@ -292,18 +340,32 @@ list_last d text rest after white place old mid new between count s m zero none 
           (member_there d text m.nodes m.value place zero none (m.describes i)));
     }
 
--- the mark of one more key
-marked_with : (marks marks_2 : Marks) (mark : ℕ) (ps : Pairs Member) (k : List ℕ) (x : Member)
-    → HaveMarks marks (keys_of ps) → mark ≡ mark_of k
+-- one more member
+settle_push : (qs ps : Pairs Member) (x : List ℕ × Member) → settle qs ≡ settle ps
+    → settle (qs ++ x ∷ []) ≡ settle (ps ++ x ∷ [])
+settle_push qs ps x e =
+    sym (settle_settle qs (x ∷ []))
+    ∙ ap (λ y. settle (y ++ x ∷ [])) e
+    ∙ settle_settle ps (x ∷ [])
+
+marked_more : (d : Dialect) (text : List ℕ) (marks marks_2 : Marks) (mark : ℕ)
+    (ns ms : List Node) (ps : Pairs Member) (k : List ℕ) (x : Member)
+    → DescribesMarked d text marks ns ps → mark ≡ mark_of k
     → ((ks : List (List ℕ)) (q : List ℕ) → mark ≡ mark_of q → HaveMarks marks ks
     → HaveMarks marks_2 (ks ++ q ∷ []))
-    → HaveMarks marks_2 (keys_of (ps ++ (k, x) ∷ []))
-marked_with marks marks_2 mark ps k x h e w =
-    subst (HaveMarks marks_2) (sym (keys_push ps k x)) (w (keys_of ps) k e h)
+    → DescribesMember d text k ms x → DescribesMarked d text marks_2 (ns ++ ms) (ps ++ (k, x) ∷ [])
+marked_more d text marks marks_2 mark ns ms ps k x h e w t = record {
+  kept = h.kept ++ (k, x) ∷ [];
+  same = settle_push h.kept ps (k, x) h.same;
+  describes = entries_more d text ns ms h.kept (k, x) h.describes t;
+  marked =
+      subst (HaveMarks marks_2) (sym (keys_push h.kept k x)) (w (keys_of h.kept) k e h.marked);
+}
 
 pub dict_none : (d : Dialect) (text : List ℕ) (marks : Marks) → DescribesMarked d text marks [] []
 unfolding IsDistinct
-dict_none d text marks = (refl, λ n. (tt, tt))
+dict_none d text marks =
+    record { kept = []; same = refl; describes = refl; marked = λ n. (tt, tt) }
 
 pub dict_more : (d : Dialect) (text rest after white more left : List ℕ)
     (old mid new : List Node) (between count mark : ℕ) (marks marks_2 : Marks)
@@ -317,10 +379,9 @@ dict_more d text rest after white more left old mid new between count mark marks
     let i = rest_ends text rest old mid between s in
     so_far_more (SpellsEntry d) (DescribesMarked d text marks) text rest m.prefix after white more left
     (m.key, m.value) old mid new between count m.nodes (DescribesMarked d text marks_2) s m.split
-    (m.spelled i) m.puts (
-      entries_more d text s.nodes m.nodes s.values (m.key, m.value) s.describes.0 (m.describes i),
-      marked_with marks marks_2 mark s.values m.key m.value s.describes.1 m.mark w,
-    )
+    (m.spelled i) m.puts
+    (marked_more d text marks marks_2 mark s.nodes m.nodes s.values m.key m.value s.describes m.mark w
+    (m.describes i))
     a c b
 
 -- the keys that the nodes of a Dictionary describe
@@ -355,6 +416,36 @@ entry_keys d source ns (q ∷ raw) (prefix, suffix, e, h, r) =
     ∙ member_key d source q.0 prefix suffix q.1 h
     ∙ ap (λ y. q.0 ∷ y) (entry_keys d source suffix raw r)
 
+-- the whole text, and what the nodes have of its members
+record Read (d : Dialect) (text : List ℕ) (marks : Marks) (new : List Node) (count : ℕ) : Type 0 where
+  within : count ≤ length new
+  raw : Pairs Member
+  whole : SpellsWhole (SpellsEntry d) text raw
+  described : DescribesMarked d text marks (take count new) raw
+
+read_all : (d : Dialect) (text rest after white : List ℕ)
+    (old mid new : List Node) (between count mark : ℕ) (marks marks_2 : Marks)
+    → SoFar (List ℕ × Member) (SpellsEntry d) (DescribesMarked d text marks) text rest old mid between
+    → ScansEntry d text rest after mark mid new between count
+    → ((ks : List (List ℕ)) (k : List ℕ) → mark ≡ mark_of k → HaveMarks marks ks
+    → HaveMarks marks_2 (ks ++ k ∷ []))
+    → Behind is_ows after white → white ≡ [] → Read d text marks_2 new count
+read_all d text rest after white old mid new between count mark marks marks_2 s m w a n =
+    let i = rest_ends text rest old mid between s in
+    let p = puts_then old mid new 0 between count s.nodes m.nodes s.puts m.puts in
+    let raw = s.values ++ (m.key, m.value) ∷ [] in record {
+      within = p.within;
+      raw = raw;
+      whole =
+          so_far_last (SpellsEntry d) (DescribesMarked d text marks) text rest m.prefix after white
+          (m.key, m.value) old mid between s m.split (m.spelled i) a n;
+      described =
+          subst (λ y. DescribesMarked d text marks_2 y raw)
+          (sym (prefix_there old new count (s.nodes ++ m.nodes) p))
+          (marked_more d text marks marks_2 mark s.nodes m.nodes s.values m.key m.value s.describes
+          m.mark w (m.describes i));
+    }
+
 pub dict_last : (d : Dialect) (text rest after white : List ℕ)
     (old mid new : List Node) (between count mark : ℕ) (marks marks_2 : Marks)
     → SoFar (List ℕ × Member) (SpellsEntry d) (DescribesMarked d text marks) text rest old mid between
@@ -364,50 +455,36 @@ pub dict_last : (d : Dialect) (text rest after white : List ℕ)
     → Behind is_ows after white
     → white ≡ [] → DistinguishKeys marks_2 text (take count new) → Accepts d kind.Dict text new count
 dict_last d text rest after white old mid new between count mark marks marks_2 s m w a n apart =
-    let i = rest_ends text rest old mid between s in
-    let p = puts_then old mid new 0 between count s.nodes m.nodes s.puts m.puts in
-    let raw = s.values ++ (m.key, m.value) ∷ [] in
-    let described = subst (λ y. DescribesEntries d text y raw)
-    (sym (prefix_there old new count (s.nodes ++ m.nodes) p))
-    (entries_more d text s.nodes m.nodes s.values (m.key, m.value) s.describes.0 (m.describes i)) in
-    let keys = entry_keys d text (take count new) raw described in
-    let marked = marked_with marks marks_2 mark s.values m.key m.value s.describes.1 m.mark w in
-    let distinct : IsDistinct bytes_eq (keys_of raw) =
-    ⊎_elim (λ f. f (keys_of raw) marked) (subst (IsDistinct bytes_eq) keys) apart in record {
-      within = p.within;
-      value = dict_of raw;
-      only = only_of d kind.Dict text (dict_of raw) (
-        raw,
-        sym (settle-distinct raw distinct),
-        so_far_last (SpellsEntry d) (DescribesMarked d text marks) text rest m.prefix after white
-            (m.key, m.value) old mid between s m.split (m.spelled i) a n,
-      );
-      describes = described;
+    let r = read_all d text rest after white old mid new between count mark marks marks_2 s m w a n in
+    let t = r.described in
+    let keys = entry_keys d text (take count new) t.kept t.describes in
+    let distinct : IsDistinct bytes_eq (keys_of t.kept) =
+    ⊎_elim (λ f. f (keys_of t.kept) t.marked) (subst (IsDistinct bytes_eq) keys) apart in record {
+      within = r.within;
+      value = dict_of t.kept;
+      only =
+          only_of d kind.Dict text (dict_of t.kept)
+          (r.raw, sym (settle-distinct t.kept distinct) ∙ t.same, r.whole);
+      describes = t.describes;
     }
 
--- all members, one by one
+-- members that are settled to those of the text
 pub dict_raw : (d : Dialect) (text rest after white : List ℕ)
-    (old mid new : List Node) (between count mark : ℕ) (marks : Marks)
+    (old mid new : List Node) (between count mark : ℕ) (marks marks_2 : Marks)
     → SoFar (List ℕ × Member) (SpellsEntry d) (DescribesMarked d text marks) text rest old mid between
-    → ScansEntry d text rest after mark mid new between count → Behind is_ows after white
+    → ScansEntry d text rest after mark mid new between count
+    → ((ks : List (List ℕ)) (k : List ℕ) → mark ≡ mark_of k → HaveMarks marks ks
+    → HaveMarks marks_2 (ks ++ k ∷ []))
+    → Behind is_ows after white
     → white ≡ [] → IsRaw d kind.Dict text (take count new)
-dict_raw d text rest after white old mid new between count mark marks s m a n =
-    let i = rest_ends text rest old mid between s in
-    let p = puts_then old mid new 0 between count s.nodes m.nodes s.puts m.puts in
-    let raw = s.values ++ (m.key, m.value) ∷ [] in record {
+dict_raw d text rest after white old mid new between count mark marks marks_2 s m w a n =
+    let r = read_all d text rest after white old mid new between count mark marks marks_2 s m w a n in
+    let t = r.described in record {
       is_dict = refl;
-      raw = raw;
-      only = only_of d kind.Dict text (dict_of (settle raw)) (
-        raw,
-        refl,
-        so_far_last (SpellsEntry d) (DescribesMarked d text marks) text rest m.prefix after white
-            (m.key, m.value) old mid between s m.split (m.spelled i) a n,
-      );
-      describes =
-          subst (λ y. DescribesEntries d text y raw)
-          (sym (prefix_there old new count (s.nodes ++ m.nodes) p))
-          (entries_more d text s.nodes m.nodes s.values (m.key, m.value) s.describes.0
-          (m.describes i));
+      raw = t.kept;
+      only =
+          only_of d kind.Dict text (dict_of (settle t.kept)) (r.raw, t.same, r.whole);
+      describes = t.describes;
     }
 
 -- nodes that describe the field
@@ -429,3 +506,66 @@ parts_raw d k text new count r w raw = record {
   described = λ e. absurd (let z : true ≡ false = sym r ∙ e in cc);
   raw = λ e. raw;
 }
+
+-- a member that is put after the first nodes
+pub member_put : (d : Dialect) (text rest after : List ℕ) (place : KeyPlace)
+    (old front back new : List Node) (at count : ℕ) → old ≡ front ++ back → length front ≡ at
+    → ScansMember d text rest after place back new 0 count
+    → ScansMember d text rest after place old (front ++ new) at (at + count)
+member_put d text rest after place old front back new at count e l m = record {
+  prefix = m.prefix;
+  value = m.value;
+  nodes = m.nodes;
+  split = m.split;
+  spelled = m.spelled;
+  puts = puts_behind old front back new at count m.nodes e l m.puts;
+  describes = m.describes;
+}
+
+pub entry_put : (d : Dialect) (text rest after : List ℕ) (mark : ℕ)
+    (old front back new : List Node) (at count : ℕ) → old ≡ front ++ back → length front ≡ at
+    → ScansEntry d text rest after mark back new 0 count
+    → ScansEntry d text rest after mark old (front ++ new) at (at + count)
+entry_put d text rest after mark old front back new at count e l m = record {
+  prefix = m.prefix;
+  key = m.key;
+  value = m.value;
+  nodes = m.nodes;
+  split = m.split;
+  spelled = m.spelled;
+  puts = puts_behind old front back new at count m.nodes e l m.puts;
+  describes = m.describes;
+  mark = m.mark;
+}
+
+-- the members so far, settled
+pub entries_settled : (d : Dialect) (text rest : List ℕ) (marks all : Marks)
+    (nodes raw settled : List Node) (count : ℕ) → AreEntries d text rest marks nodes count
+    → raw ≡ take count nodes → all.bits ≡ 0xffff_ffff_ffff_ffff
+    → ((ps : Pairs Member) → DescribesEntries d text raw ps
+    → DescribesEntries d text settled (settle ps))
+    → AreEntries d text rest all settled (length settled)
+entries_settled d text rest marks all nodes raw settled count s e bits t =
+    let m = s.describes in
+    let there : DescribesEntries d text raw m.kept =
+    subst (λ y. DescribesEntries d text y m.kept) (sym (e ∙ s.puts.there)) m.describes in
+    record {
+      gap = s.gap;
+      prefix = s.prefix;
+      values = s.values;
+      nodes = settled;
+      split = s.split;
+      spaces = s.spaces;
+      glue = s.glue;
+      puts = record {
+        within = omega arith;
+        from = omega arith;
+        there = take_all (length settled) settled (omega arith);
+      };
+      describes = record {
+        kept = settle m.kept;
+        same = settle-distinct (settle m.kept) (distinct-settle m.kept) ∙ m.same;
+        describes = t m.kept there;
+        marked = λ n. absurd (n bits);
+      };
+    }

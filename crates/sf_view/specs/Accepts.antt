@@ -8,13 +8,15 @@ use Rattle.sf_value.specs.Grammar.Classes.{is_sp}
 use Rattle.sf_value.specs.Grammar.Series.{SpellsSeries}
 use Rattle.sf_parse.specs.Parsers.{IsOnly}
 use Rattle.sf_view.specs.declared.node.Node.{Node}
-use Rattle.sf_view.specs.View.{DescribesField, DescribesEntries}
+use Rattle.sf_view.specs.View.{DescribesField, DescribesEntries, DescribesMembers}
 use Rattle.sf_view.specs.declared.keys.Marks.{Marks}
 use Rattle.sf_view.specs.Marks.{HaveMarks}
 use Rattle.sf_view.specs.Scans.{Puts}
 use Rattle.std.specs.Map.{keys_of}
 use Rattle.sf_value.specs.declared.value.Member.{Member}
-use Rattle.sf_value.specs.Grammar.Pairs.{Pairs}
+use Rattle.sf_value.specs.Grammar.Pairs.{Pairs, settle}
+use Rattle.sf_value.specs.Grammar.InnerLists.{SpellsMember}
+use Rattle.sf_value.specs.Grammar.Fields.{SpellsEntry}
 
 -- the text spells a field and no other, and the first nodes, count many, describe it
 pub record Accepts (d : Dialect) (kind : Kind) (text : List ℕ) (nodes : List Node) (count : ℕ)
@@ -37,6 +39,22 @@ pub record SoFar (X : Type 0) (P : List ℕ → X → Type 0) (T : List Node →
   pub puts : Puts old new 0 count nodes
   pub describes : T nodes values
 
--- the nodes describe the members of a Dictionary, and these are the marks of their keys
-abbrev pub DescribesMarked : Dialect → List ℕ → Marks → List Node → Pairs Member → Type 0
-DescribesMarked d text marks ns ps = DescribesEntries d text ns ps × HaveMarks marks (keys_of ps)
+-- the members of a List up to the rest were read, and the first nodes, count many, describe them
+abbrev pub IsListed : Dialect → List ℕ → List ℕ → List Node → ℕ → Type 0
+IsListed d text rest nodes count =
+    SoFar Member (SpellsMember d) (DescribesMembers d text) text rest nodes nodes count
+
+-- the nodes describe these members of a Dictionary or fewer, of which as much is left when they are
+-- settled, and these are the marks of the keys that the nodes have
+pub record DescribesMarked (d : Dialect) (text : List ℕ) (marks : Marks) (ns : List Node)
+    (ps : Pairs Member) : Type 0 where
+  pub kept : Pairs Member
+  pub same : settle kept ≡ settle ps
+  pub describes : DescribesEntries d text ns kept
+  pub marked : HaveMarks marks (keys_of kept)
+
+-- the members of a Dictionary up to the rest were read, and the first nodes, count many, describe
+-- those of them that are kept
+abbrev pub AreEntries : Dialect → List ℕ → List ℕ → Marks → List Node → ℕ → Type 0
+AreEntries d text rest marks nodes count =
+    SoFar (List ℕ × Member) (SpellsEntry d) (DescribesMarked d text marks) text rest nodes nodes count

@@ -30,7 +30,7 @@ pub fn node_buffer(alloc: Global, text: &[u8]) -> Result<Vec<Node>, OutOfMemory>
 
 /// The largest number of nodes of a text: before each node but the first is a comma, a semicolon or
 /// an opening bracket, or, in an Inner List, a space.
-fn most_nodes(text: &[u8]) -> usize {
+pub(crate) fn most_nodes(text: &[u8]) -> usize {
     let lists = occurrences(text, b'(');
     let spaces = if lists == 0 {
         0

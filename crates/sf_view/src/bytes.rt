@@ -1,6 +1,6 @@
 //! The bytes of Strings, Byte Sequences and Display Strings, read from their text.
 ghost use Rattle.std.specs.Iterator.{at_most};
-ghost use Rattle.std.specs.Prelude.{◌≡◌, ◌++◌, ◌∷◌, [], ◌≤◌, ◌<◌, ◌/◌, ◌%◌, ℕ, List, length, take, IfSome, IfNone};
+ghost use Rattle.std.specs.Prelude.{◌≡◌, ◌++◌, ◌∷◌, [], ◌≤◌, ◌<◌, ◌/◌, ◌%◌, ℕ, List, length, take, IfSome, IfNone, true, false};
 ghost use Rattle.sf_value.specs.declared.dialect.Dialect.{Dialect as Which};
 ghost use Rattle.sf_view.specs.declared.bytes.Coding.TheVariants as coding_is;
 ghost use Rattle.sf_value.specs.Grammar.ByteSequences.{letter};
@@ -168,6 +168,53 @@ pub(crate) fn fill(start: Coding, text: &[u8], buffer: &mut [u8]) -> Option<usiz
         count += 1;
         coding = next;
         rest = later;
+    }
+}
+
+/// What was decoded into a buffer: how many bytes, and how the rest of the text spells those after
+/// them, of which there are none if they are whole.
+#[derive(Clone, Copy, Drop)]
+pub(crate) struct Filled<'a> {
+    pub count: usize,
+    pub coding: Coding,
+    pub rest: &'a [u8],
+    pub whole: bool,
+}
+
+/// Decodes as many bytes into the buffer as it has room for.
+#[inline]
+pub(crate) fn fill_part<'a>(start: Coding, text: &'a [u8], buffer: &mut [u8]) -> Filled<'a>
+    requires some { 1 ≤ length buffer.old }
+    ensures same { length buffer.new ≡ length buffer.old }
+    ensures within { result.count ≤ length buffer.new }
+    ensures shorter { result.whole ≡ false → length result.rest.now < length text.now }
+    ensures decoded { (t : List ℕ) → Remains start text.now t
+        → TakesRun (take result.count buffer.new) (Remains result.coding result.rest.now) t }
+    ensures whole { result.whole ≡ true → (t : List ℕ) → Remains start text.now t
+        → t ≡ take result.count buffer.new }
+{
+    let mut coding = start;
+    let mut rest = text;
+    let mut count = 0;
+    while count < buffer.len() {
+        let Some((byte, next, later)) = take_byte(coding, rest) else {
+            return Filled {
+                count,
+                coding,
+                rest,
+                whole: true,
+            };
+        };
+        buffer[count] = byte;
+        count += 1;
+        coding = next;
+        rest = later;
+    }
+    Filled {
+        count,
+        coding,
+        rest,
+        whole: false,
     }
 }
 

@@ -20,7 +20,7 @@ ghost use Rattle.sf_view.specs.Decoding.{HasBytes, Remains};
 ghost use Rattle.sf_view.specs.Views.{IsBorrowed, IsViewed};
 ghost use Rattle.sf_view.specs.Copies.{IsCopy, IsFieldOf, list_of, dict_of};
 
-use crate::bytes::{Coding, take_byte, take_run};
+use crate::bytes::{Coding, fill_part, take_run};
 use crate::view::{BareView, Slice, View};
 use sf_value::{
     Bare, Blob, Dict, Entries, Field, Inner, Int, Item, Key, Kind, List, Member, OutOfMemory,
@@ -460,11 +460,16 @@ fn decoded(alloc: Global, slice: Slice) -> Result<ShortBytes, OutOfMemory>
     collect(alloc, start.coding, start.rest)
 }
 
+/// The number of bytes that are decoded one by one before a run of bytes that are spelled as themselves
+/// is looked for again.
+const BLOCK: usize = 16;
+
 /// The bytes that a text spells.
 fn collect(alloc: Global, start: Coding, text: &[u8]) -> Result<ShortBytes, OutOfMemory>
     ensures { (t : Seq ℕ) → Remains start text.now t → IfOk result (λ bytes. bytes ≡ t) }
 {
     let mut all = ShortBytes::new(alloc);
+    let mut block = [0u8; BLOCK];
     let mut coding = start;
     let mut rest = text;
     loop {
@@ -472,11 +477,12 @@ fn collect(alloc: Global, start: Coding, text: &[u8]) -> Result<ShortBytes, OutO
         if !run.is_empty() {
             all.extend(run)?;
         }
-        let Some((byte, next, later)) = take_byte(coding, behind) else {
+        let part = fill_part(coding, behind, &mut block);
+        all.extend(&block[..part.count])?;
+        if part.whole {
             return Ok(all);
-        };
-        all.push(byte)?;
-        coding = next;
-        rest = later;
+        }
+        coding = part.coding;
+        rest = part.rest;
     }
 }

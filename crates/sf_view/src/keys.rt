@@ -18,6 +18,9 @@ impl Marks {
     /// Those of no keys.
     pub(crate) const NONE: Marks = Marks { bits: 0 };
 
+    /// Those of keys of which nothing is known.
+    pub(crate) const ALL: Marks = Marks { bits: u64::MAX };
+
     /// Those of the keys and of one more, with this mark.
     #[inline]
     pub(crate) fn with(self, mark: u32) -> Marks

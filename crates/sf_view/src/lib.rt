@@ -12,6 +12,7 @@ mod copies;
 mod cursor;
 mod declined;
 mod display_string;
+mod growing;
 mod item;
 mod item_cursor;
 mod keys;

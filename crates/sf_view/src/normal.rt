@@ -10,8 +10,8 @@ ghost use Rattle.sf_view.specs.Views.{IsViewed};
 ghost use Rattle.sf_view.specs.CanonicalParts.{IsCanonicalOf};
 ghost use Rattle.sf_view.specs.Settling.{IsRaw};
 
-use crate::buffer::node_buffer;
 use crate::declined::parse_declined;
+use crate::growing::grown_parts;
 use crate::node::Node;
 use crate::series::scan_parts;
 use crate::settling::{FEW, scan_or_settle, settle_few};
@@ -110,11 +110,19 @@ fn by_many_nodes(
     ensures { IfOk result
         (λ found. IfSome found (λ c. IsCanonicalOf dialect kind text.now c.items)) }
 {
-    let mut nodes = node_buffer(alloc, text)?;
-    match View::scan(dialect, kind, text, nodes.as_mut_slice()) {
-        Ok(view) => return Ok(Some(view_text(alloc, &view, kind)?)),
-        Err(_) => return Ok(None),
+    let mut nodes = Vec::new(alloc);
+    let mut repeated = false;
+    let Some(count) = grown_parts(alloc, dialect, kind, &mut repeated, text, &mut nodes)? else {
+        return Ok(None);
+    };
+    if repeated {
+        return Ok(None);
     }
+    let view = View {
+        text,
+        nodes: &nodes.as_slice()[..count],
+    };
+    Ok(Some(view_text(alloc, &view, kind)?))
 }
 
 /// Returns the canonical text as [`canonical_text`] does, also if a key of the Dictionary is
@@ -187,9 +195,9 @@ fn by_settled_buffer(
     ensures { IfOk result
         (λ found. IfSome found (λ c. IsCanonicalOf dialect kind text.now c.items)) }
 {
-    let mut nodes = node_buffer(alloc, text)?;
+    let mut nodes = Vec::new(alloc);
     let mut repeated = false;
-    let Some(view) = scan_or_settle(alloc, dialect, kind, &mut repeated, text, &mut nodes) else {
+    let Some(view) = scan_or_settle(alloc, dialect, kind, &mut repeated, text, &mut nodes)? else {
         return Ok(None);
     };
     if repeated {

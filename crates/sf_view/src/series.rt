@@ -13,7 +13,7 @@ use sf_value::{Dialect, Kind};
 
 /// An Item.
 #[inline]
-fn whole_item(dialect: Dialect, text: &[u8], nodes: &mut [Node]) -> Option<usize>
+pub(crate) fn whole_item(dialect: Dialect, text: &[u8], nodes: &mut [Node]) -> Option<usize>
     requires small { length text.now < 2 ^ 32 }
     ensures same { length nodes.new ≡ length nodes.old }
     ensures accepts { IfSome result (λ n. Accepts dialect kind_is.Item text.now nodes.new n) }

@@ -1,6 +1,7 @@
 //! Nodes of a Dictionary in which a key is repeated: the last value is at the place of the first
 //! one (RFC 9651 section 4.2.2).
-ghost use Rattle.std.specs.Prelude.{◌≡◌, ◌≤◌, ◌<◌, ℕ, IfSome, length, take, false};
+ghost use Rattle.std.specs.Prelude.{◌≡◌, ◌≤◌, ◌<◌, ◌*◌, ◌^◌, ℕ, List as Seq, IfOk, IfSome, length};
+ghost use Rattle.std.specs.Prelude.{take, false};
 ghost use Rattle.sf_value.specs.declared.dialect.Dialect.{Dialect as Which};
 ghost use Rattle.sf_value.specs.declared.value.Member.{Member};
 ghost use Rattle.sf_value.specs.Grammar.Pairs.{Pairs, settle as settled_pairs};
@@ -11,13 +12,13 @@ ghost use Rattle.sf_view.specs.Keys.{tag_of};
 ghost use Rattle.sf_view.specs.Settling.{key_from, run_from, runs_of, RunsDescribe};
 ghost use Rattle.sf_view.specs.Settling.{IsPlace, HoldsPlace, HoldsPlaces, IsIndex};
 
+use crate::growing::grown_parts;
 use crate::item::put;
 use crate::keys::{bytes_at, tag};
 use crate::lookup::hop;
 use crate::node::Node;
-use crate::series::scan_parts;
 use crate::view::View;
-use sf_value::{Dialect, Kind};
+use sf_value::{Dialect, Kind, OutOfMemory};
 use std::alloc::Global;
 
 /// The number of members up to which each two keys are compared.
@@ -86,7 +87,9 @@ fn place_among(source: &[u8], nodes: &[Node], order: &[u32], key: &[u8]) -> Opti
 
 /// What a search of one slot costs: one, and one for each 16 bytes of the key, which may have to be
 /// compared.
-fn search_cost(key: &[u8]) -> usize {
+fn search_cost(key: &[u8]) -> usize
+    ensures { length key.now ≤ result * 16 }
+{
     (key.len() / 16).saturating_add(1)
 }
 
@@ -159,9 +162,24 @@ fn place_of(
     place_by_table(source, nodes, order, table, searches, key)
 }
 
+/// What may be searched for nodes of a text of this length.
+fn searches_for(nodes: &[Node], length: usize) -> usize {
+    nodes
+        .len()
+        .saturating_add(length / 16)
+        .saturating_mul(SEARCHES)
+        .saturating_add(PROBES * PROBES)
+}
+
 /// Puts the first node of each member that stays in the order of the first places of their keys,
-/// and returns the number of these members.
-fn put_order(source: &[u8], nodes: &[Node], order: &mut [u32], table: &mut [u32]) -> Option<usize>
+/// and returns the number of these members; `None` also if more had to be searched.
+fn put_order(
+    source: &[u8],
+    nodes: &[Node],
+    order: &mut [u32],
+    table: &mut [u32],
+    most_searches: usize,
+) -> Option<usize>
     ensures same { length order.new ≡ length order.old }
     ensures within { IfSome result (λ n. n ≤ length order.new) }
     ensures settled { (d : Which) (ps : Pairs Member)
@@ -171,11 +189,7 @@ fn put_order(source: &[u8], nodes: &[Node], order: &mut [u32], table: &mut [u32]
 {
     let mut rest = nodes;
     let mut count = 0;
-    let mut searches = nodes
-        .len()
-        .saturating_add(source.len() / 16)
-        .saturating_mul(SEARCHES)
-        .saturating_add(PROBES * PROBES);
+    let mut searches = most_searches;
     loop {
         let Some((key, _, later)) = hop(source, rest) else {
             return Some(count);
@@ -218,6 +232,18 @@ fn put_runs(raw: &[Node], order: &[u32], nodes: &mut [Node]) -> Option<usize>
     Some(count)
 }
 
+/// The same, if the parts are members: then the nodes describe these.
+fn put_members(raw: &[Node], order: &[u32], nodes: &mut [Node]) -> Option<usize>
+    ensures same { length nodes.new ≡ length nodes.old }
+    ensures within { IfSome result (λ n. n ≤ length nodes.new) }
+    ensures described { (d : Which) (source : Seq ℕ) (ps : Pairs Member)
+        → RunsDescribe d source raw.now order.now ps
+        → IfSome result (λ n. DescribesEntries d source (take n nodes.new) ps) }
+{
+    let count = put_runs(raw, order, nodes)?;
+    Some(count)
+}
+
 /// Puts the nodes of the members that stay if a later value of a key overwrites an earlier one, and
 /// takes its place; `None` also if there are too many, or the table has too few slots.
 fn settle(
@@ -234,8 +260,9 @@ fn settle(
         → IfSome result (λ n. DescribesEntries d source.now (take n nodes.new)
         (settled_pairs ps)) }
 {
-    let members = put_order(source, raw, order, table)?;
-    let count = put_runs(raw, &order[..members], nodes)?;
+    let searches = searches_for(raw, source.len());
+    let members = put_order(source, raw, order, table, searches)?;
+    let count = put_members(raw, &order[..members], nodes)?;
     Some(count)
 }
 
@@ -288,28 +315,39 @@ fn parts(nodes: &[Node]) -> usize {
 }
 
 /// The number of slots for so many keys: none if each two are compared.
-fn slots(members: usize) -> usize {
+fn slots(members: usize) -> usize
+    ensures { 8 < members → members < 2 ^ 61 → 2 * members ≤ result }
+{
     if members <= PAIRWISE {
         return 0;
     }
     members.saturating_mul(2).min(1 << 62).next_power_of_two()
 }
 
-/// Settled nodes, in memory of their own; `None` also if an allocation fails.
+/// Settled nodes of members of `read` bytes, in memory of their own; `None` also if an allocation fails
+/// or, where only half of the members are to stay, if more do.
 #[inline(never)]
-fn settled_nodes(alloc: Global, source: &[u8], raw: &[Node]) -> Option<Vec<Node>>
+pub(crate) fn settled_nodes(
+    alloc: Global,
+    source: &[u8],
+    read: usize,
+    raw: &[Node],
+    only_half: bool,
+) -> Option<Vec<Node>>
     ensures { (d : Which) (ps : Pairs Member)
         → DescribesEntries d source.now raw.now ps
         → IfSome result (λ nodes. DescribesEntries d source.now nodes.items (settled_pairs ps)) }
 {
     let members = parts(raw);
-    let mut index = vec![in alloc; 0u32; members.saturating_add(slots(members))].ok()?;
-    if members > index.len() {
+    let most = if only_half { members / 2 } else { members };
+    let mut index = vec![in alloc; 0u32; most.saturating_add(slots(most))].ok()?;
+    if most > index.len() {
         return None;
     }
+    let (order, table) = index.as_mut_slice().split_at_mut(most);
+    let stay = put_order(source, raw, order, table, searches_for(raw, read))?;
     let mut nodes = Vec::from_slice(alloc, raw).ok()?;
-    let (order, table) = index.as_mut_slice().split_at_mut(members);
-    let count = settle(source, raw, order, table, nodes.as_mut_slice())?;
+    let count = put_members(raw, &order[..stay], nodes.as_mut_slice())?;
     nodes.truncate(count);
     Some(nodes)
 }
@@ -317,14 +355,13 @@ fn settled_nodes(alloc: Global, source: &[u8], raw: &[Node]) -> Option<Vec<Node>
 /// Scans a whole text as a field of this kind, as [`View::scan`] does, but also if a key is
 /// repeated in a Dictionary, or there are many keys: then the nodes are those of the members that
 /// stay if a later value of a key overwrites an earlier one and takes its place (RFC 9651 section
-/// 4.2.2). The buffer has to have enough nodes for the text, as [`crate::node_buffer`] returns it;
-/// if a key is repeated, it is replaced by one of its own length at most. `None` if the text is
-/// malformed, a key of parameters is repeated, an allocation failed or, rarely, there are many keys
-/// with one hash; nothing is claimed then. It allocates only if a key is repeated or there are many
-/// keys, in proportion to the number of nodes.
+/// 4.2.2). Nodes are added to the buffer as they are needed, so it may be empty; the number of them
+/// is bounded by what was read of the text and, if a key is repeated, by the number of different
+/// keys. `None` if the text is malformed, a key of parameters is repeated, an allocation failed or,
+/// rarely, there are many keys with one hash; nothing is claimed then.
 ///
 /// ```
-/// let mut nodes = node_buffer(alloc, b"u=1, i, u=2")?;
+/// let mut nodes = Vec::new(alloc);
 /// let view = scan_settled(alloc, Dialect::Rfc9651, Kind::Dict, b"u=1, i, u=2", &mut nodes)?;
 /// view_text(alloc, &view, Kind::Dict)? // u=2, i
 /// ```
@@ -339,10 +376,14 @@ pub fn scan_settled<'a>(
     ensures { IfSome result (λ v. IsViewed dialect kind text.now v) }
 {
     let mut repeated = false;
-    scan_or_settle(alloc, dialect, kind, &mut repeated, text, nodes)
+    match scan_or_settle(alloc, dialect, kind, &mut repeated, text, nodes) {
+        Ok(view) => return view,
+        Err(_) => return None,
+    }
 }
 
-/// As [`scan_settled`]; the flag is set if the nodes had to be settled.
+/// As [`scan_settled`]; the flag is set if the nodes had to be settled. It fails only if an allocation
+/// of nodes fails.
 pub(crate) fn scan_or_settle<'a>(
     alloc: Global,
     dialect: Dialect,
@@ -350,20 +391,26 @@ pub(crate) fn scan_or_settle<'a>(
     repeated: &mut bool,
     text: &'a [u8],
     nodes: &'a mut Vec<Node>,
-) -> Option<View<'a>>
+) -> Result<Option<View<'a>>, OutOfMemory>
     requires unset { repeated.old ≡ false }
-    ensures { IfSome result (λ v. IsViewed dialect kind text.now v) }
+    ensures { IfOk result (λ found. IfSome found (λ v. IsViewed dialect kind text.now v)) }
 {
-    let count = scan_parts(dialect, kind, repeated, text, nodes.as_mut_slice())?;
+    let Some(count) = grown_parts(alloc, dialect, kind, repeated, text, nodes)? else {
+        return Ok(None);
+    };
     if *repeated {
-        *nodes = settled_nodes(alloc, text, &nodes.as_slice()[..count])?;
-        return Some(View {
+        let (raw, _) = nodes.as_slice().split_at(count);
+        let Some(settled) = settled_nodes(alloc, text, text.len(), raw, false) else {
+            return Ok(None);
+        };
+        *nodes = settled;
+        return Ok(Some(View {
             text,
             nodes: nodes.as_slice(),
-        });
+        }));
     }
-    Some(View {
+    Ok(Some(View {
         text,
         nodes: &nodes.as_slice()[..count],
-    })
+    }))
 }

@@ -1,8 +1,10 @@
 -- Texts in which some bytes stand for themselves: a run of these goes out at once.
 use Rattle.std.proofs.Common.{◌≡◌, ℕ, suc, ◌+◌, Bool, true, false, not, List, [], ◌∷◌, ◌++◌}
-use Rattle.std.proofs.Common.{◌/◌, ◌%◌, length, take, drop, refl, sym, ap, ◌∙◌, subst, arith}
+use Rattle.std.proofs.Common.{◌/◌, ◌%◌, ◌<◌, ◌≤◌, length, take, drop, refl, sym, ap, ◌∙◌, subst}
+use Rattle.std.proofs.Common.{arith}
 use Rattle.std.proofs.lemmas.Bool.{and_parts}
-use Rattle.std.specs.List.{prefix_len}
+use Rattle.std.proofs.lemmas.List.{take-append-drop}
+use Rattle.std.specs.List.{prefix_len, IsSplitAt}
 use Rattle.sf_value.specs.Grammar.Words.{Every}
 use Rattle.sf_value.specs.Grammar.Classes.{is_visible}
 use Rattle.sf_value.specs.Grammar.Strings.{escaped, is_escaped, is_unescaped}
@@ -18,6 +20,51 @@ prefix_behind p s prefix behind e h = known prefix h ∙ sym (ap (prefix_len p) 
         → length t + prefix_len p behind ≡ prefix_len p (t ++ behind)
     known [] k = omega arith
     known (b ∷ t) k = rw k.0 (omega (arith, known t k.1))
+
+-- a run that ends within what is near
+prefix_within : (p : ℕ → Bool) (s near far : List ℕ) → s ≡ near ++ far
+    → prefix_len p near < length near → prefix_len p near ≡ prefix_len p s
+prefix_within p s near far e h = known near h ∙ sym (ap (prefix_len p) e)
+  where
+    known : (t : List ℕ) → prefix_len p t < length t → prefix_len p t ≡ prefix_len p (t ++ far)
+    known [] k = absurd (omega (arith, k))
+    known (b ∷ t) k = by (p b) refl (λ l. known t l)
+      where
+        by : (r : Bool) → p b ≡ r
+            → (prefix_len p t < length t → prefix_len p t ≡ prefix_len p (t ++ far))
+            → prefix_len p (b ∷ t) ≡ prefix_len p (b ∷ t ++ far)
+        by true q rest =
+            let l : 1 + prefix_len p t < length (b ∷ t) = rw q at k in
+            rw q (ap (λ n. 1 + n) (rest (omega (arith, l))))
+        by false q rest = rw q
+
+-- a run that is all of what is near
+prefix_whole : (p : ℕ → Bool) (t : List ℕ) → length t ≤ prefix_len p t → Every p t
+prefix_whole p [] h = tt
+prefix_whole p (b ∷ t) h = by (p b) refl (λ l. prefix_whole p t l)
+  where
+    by : (r : Bool) → p b ≡ r → (length t ≤ prefix_len p t → Every p t) → Every p (b ∷ t)
+    by true q rest =
+        let l : length (b ∷ t) ≤ 1 + prefix_len p t = rw q at h in
+        (q, rest (omega (arith, l)))
+    by false q rest = absurd (let l : length (b ∷ t) ≤ 0 = rw q at h in omega (arith, l))
+
+near_far : (s near far : List ℕ) (n : ℕ) → near ≡ take n s → far ≡ drop n s → s ≡ near ++ far
+near_far s near far n e f = rw (e, f) (sym (take-append-drop n s))
+
+-- a run that is found in what is near
+pub run_near : (p : ℕ → Bool) (s near far : List ℕ) (n len : ℕ) → IsSplitAt s n near far
+    → len ≡ prefix_len p near → len < n → len ≡ prefix_len p s
+run_near p s near far n len (_, e, f, k, _) found less =
+    found ∙ prefix_within p s near far (near_far s near far n e f) (omega (arith, found, less, k))
+
+-- a run that goes on behind it
+pub run_far : (p : ℕ → Bool) (s near far : List ℕ) (n len more : ℕ) → IsSplitAt s n near far
+    → len ≡ prefix_len p near → n ≤ len → more ≡ prefix_len p far → n + more ≡ prefix_len p s
+run_far p s near far n len more (_, e, f, k, _) found all behind =
+    rw (sym k, behind)
+    (prefix_behind p s near far (near_far s near far n e f)
+    (prefix_whole p near (omega (arith, found, all, k))))
 
 -- what is unescaped and visible is unescaped
 pub unescaped_prefix : (s : List ℕ) → Every is_unescaped s → Every (λ b. not (is_escaped b)) s

@@ -7,7 +7,7 @@ ghost use Rattle.sf_value.specs.Grammar.Canonical.{canon_shown};
 ghost use Rattle.sf_write.specs.Writing.{Follows};
 
 use crate::sending::{Sent, put};
-use crate::strings::{CHUNK, LONG};
+use crate::strings::{CHUNK, LONG, NEAR};
 use sf_value::classes::{UnencodedByte, long_prefix};
 use sf_value::{Sink, hex_digits, stands_for_itself};
 
@@ -39,6 +39,22 @@ fn unencoded_len(bytes: &[u8]) -> usize
     let (unencoded, rest) = long_prefix::<UnencodedByte>(bytes);
     let more = unencoded_len_by_byte(rest);
     unencoded.len() + more
+}
+
+/// The same behind an escape, where the next is likely to be near.
+#[inline(always)]
+fn unencoded_len_behind_escape(bytes: &[u8]) -> usize
+    ensures len { result ≡ prefix_len is_unencoded bytes.now }
+    ensures within { result ≤ length bytes.now }
+{
+    let Some((near, far)) = bytes.split_at_checked(NEAR) else {
+        return unencoded_len_by_byte(bytes);
+    };
+    let run = unencoded_len_by_byte(near);
+    if run < NEAR {
+        return run;
+    }
+    NEAR + unencoded_len(far)
 }
 
 /// The same, byte by byte.
@@ -75,8 +91,9 @@ pub fn put_display_string<W: Sink>(text: &[u8], before: Sent, out: &mut W) -> Se
 {
     let mut sent = put(b"%\"", before, out);
     let mut rest = text;
+    let mut len = unencoded_len(text);
     loop {
-        let (unencoded, behind) = rest.split_at(unencoded_len(rest));
+        let (unencoded, behind) = rest.split_at(len);
         sent = put(unencoded, sent, out);
         let Some((byte, more)) = behind.split_first() else {
             return put(b"\"", sent, out);
@@ -84,5 +101,6 @@ pub fn put_display_string<W: Sink>(text: &[u8], before: Sent, out: &mut W) -> Se
         let escape = percent_escape(*byte);
         sent = put(&escape, sent, out);
         rest = more;
+        len = unencoded_len_behind_escape(more);
     }
 }

@@ -1,5 +1,5 @@
 //! Whole fields (RFC 9651 section 4.1).
-ghost use Rattle.std.specs.Prelude.{◌≡◌, IfOk};
+ghost use Rattle.std.specs.Prelude.{◌≡◌, [], IfOk, IsTrue};
 ghost use Rattle.sf_value.specs.declared.dialect.Dialect.TheVariants.{Rfc9651};
 ghost use Rattle.sf_value.specs.Grammar.Fields.{SpellsField, kind_of};
 ghost use Rattle.sf_value.specs.Grammar.Valid.{Valid};
@@ -9,10 +9,14 @@ ghost use Rattle.sf_write.specs.Writing.{Follows, WritesText};
 use crate::dicts::put_entries;
 use crate::gathered::Gathered;
 use crate::items::put_item;
+use crate::length::{bare_len, field_len};
 use crate::lists::put_members;
 use crate::sending::{Sent, WriteFault};
-use sf_value::{Field, OutOfMemory, Sink};
+use sf_value::{Field, Item, Member, OutOfMemory, Sink, Writing};
 use std::alloc::Global;
+
+/// The length of a bare item from which on its text is measured: fewer than four share a block.
+const LONG_ITEM: usize = 160;
 
 /// Writes the canonical text of a field, as [`write_field`] does, after what was sent before, as
 /// [`crate::put`] does. Does not allocate.
@@ -60,9 +64,82 @@ pub fn write_field<W: Sink>(field: &Field, out: &mut W) -> Result<u64, WriteFaul
 /// ```
 /// let text = to_text(rt.alloc(), &field)?;
 /// ```
+#[inline(always)]
 pub fn to_text(alloc: Global, field: &Field) -> Result<Vec<u8>, OutOfMemory>
     ensures canon { IfOk result (λ text. text.items ≡ canon field.now) }
     // The text spells the field, so parsing it returns the field again.
+    ensures spells { IfOk result
+        (λ text. SpellsField Rfc9651 (kind_of field.now) text.items field.now) }
+    ensures valid { IfOk result (λ _. Valid Rfc9651 (kind_of field.now) field.now) }
+{
+    if has_no_text(field) {
+        return Ok(Vec::new(alloc));
+    }
+    if is_measured(field) {
+        return measured_text(alloc, field);
+    }
+    gathered_text(alloc, field)
+}
+
+/// Whether a field is a List or a Dictionary without members.
+#[inline(always)]
+fn has_no_text(field: &Field) -> bool
+    ensures canon { IsTrue result → canon field.now ≡ [] }
+    ensures valid { IsTrue result → Valid Rfc9651 (kind_of field.now) field.now }
+{
+    match field {
+        Field::Item(_) => false,
+        Field::List(list) => list.members.is_empty(),
+        Field::Dict(dict) => dict.members.is_empty(),
+    }
+}
+
+/// Whether to measure a text costs less than to gather it.
+#[inline(always)]
+fn is_measured(field: &Field) -> bool {
+    match field {
+        Field::Item(item) => item.params.is_empty(),
+        Field::List(list) => match list.members.as_slice().first() {
+            Some(first) => are_measured(list.members.len(), first),
+            None => true,
+        },
+        Field::Dict(dict) => match dict.members.at(0) {
+            Some((_, first)) => are_measured(dict.members.len(), first),
+            None => true,
+        },
+    }
+}
+
+/// The same of so many members with this one as their first: one or two plain Items, or Items of
+/// which few would share a block, as far as the first shows.
+#[inline(always)]
+fn are_measured(count: usize, first: &Member) -> bool {
+    match first {
+        Member::Item(item) if count <= 2 && item.params.is_empty() => true,
+        Member::Item(item) => bare_len(&item.bare) >= LONG_ITEM,
+        Member::Inner(_) => false,
+    }
+}
+
+/// The text of a field, written into memory of its length, which is computed first.
+fn measured_text(alloc: Global, field: &Field) -> Result<Vec<u8>, OutOfMemory>
+    ensures canon { IfOk result (λ text. text.items ≡ canon field.now) }
+    ensures spells { IfOk result
+        (λ text. SpellsField Rfc9651 (kind_of field.now) text.items field.now) }
+    ensures valid { IfOk result (λ _. Valid Rfc9651 (kind_of field.now) field.now) }
+{
+    let mut out = Writing::new(Vec::with_capacity(alloc, field_len(field))?);
+    match write_field(field, &mut out) {
+        Ok(_) => Ok(out.into_inner()),
+        Err(_) => Err(OutOfMemory),
+    }
+}
+
+/// The same, gathered in a block. It is not inlined: a function clears all its stack at its entry,
+/// and the block is large.
+#[inline(never)]
+fn gathered_text(alloc: Global, field: &Field) -> Result<Vec<u8>, OutOfMemory>
+    ensures canon { IfOk result (λ text. text.items ≡ canon field.now) }
     ensures spells { IfOk result
         (λ text. SpellsField Rfc9651 (kind_of field.now) text.items field.now) }
     ensures valid { IfOk result (λ _. Valid Rfc9651 (kind_of field.now) field.now) }

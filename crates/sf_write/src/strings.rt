@@ -15,6 +15,10 @@ pub(crate) const CHUNK: usize = 128;
 /// The number of bytes from which on they are tested many at a time.
 pub(crate) const LONG: usize = 16;
 
+/// The number of bytes behind an escape that are tested one by one: where there are many escapes,
+/// most runs are shorter.
+pub(crate) const NEAR: usize = 8;
+
 /// Returns whether a backslash is written before this byte: `"` and `\`.
 fn needs_backslash(byte: u8) -> bool
     ensures { result ≡ is_escaped byte }
@@ -53,6 +57,22 @@ fn unescaped_len(bytes: &[u8]) -> usize
     visible.len() + more
 }
 
+/// The same behind an escape, where the next is likely to be near.
+#[inline(always)]
+fn unescaped_len_behind_escape(bytes: &[u8]) -> usize
+    ensures len { result ≡ prefix_len (λ b. not (is_escaped b)) bytes.now }
+    ensures within { result ≤ length bytes.now }
+{
+    let Some((near, far)) = bytes.split_at_checked(NEAR) else {
+        return unescaped_len_by_byte(bytes);
+    };
+    let run = unescaped_len_by_byte(near);
+    if run < NEAR {
+        return run;
+    }
+    NEAR + unescaped_len(far)
+}
+
 /// The same, byte by byte, and for bytes that no String has.
 fn unescaped_len_by_byte(bytes: &[u8]) -> usize
     ensures len { result ≡ prefix_len (λ b. not (is_escaped b)) bytes.now }
@@ -74,13 +94,15 @@ pub fn put_string<W: Sink>(text: &[u8], before: Sent, out: &mut W) -> Sent
 {
     let mut sent = put(b"\"", before, out);
     let mut rest = text;
+    let mut len = unescaped_len(text);
     loop {
-        let (unescaped, behind) = rest.split_at(unescaped_len(rest));
+        let (unescaped, behind) = rest.split_at(len);
         sent = put(unescaped, sent, out);
         let Some((byte, more)) = behind.split_first() else {
             return put(b"\"", sent, out);
         };
         sent = put(&[b'\\', *byte], sent, out);
         rest = more;
+        len = unescaped_len_behind_escape(more);
     }
 }

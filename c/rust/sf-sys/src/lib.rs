@@ -1,8 +1,11 @@
-//! The functions and structs of `sf.h`, the header of the library for C, which documents them. The sizes
-//! of the structs are asserted below and the offsets of their members tested, by the numbers that the
-//! tests of the library for C have for the header. The crate `sf` has safe functions over these.
-use std::ffi::c_void;
-use std::mem::size_of;
+//! The functions and structs of `sf.h`, the header of the library for C, which documents them. The
+//! sizes of the structs are asserted below and the offsets of their members tested, by the numbers
+//! that the tests of the library for C have for the header. The crate `sf` has safe functions over
+//! these.
+#![cfg_attr(not(test), no_std)]
+
+use core::ffi::c_void;
+use core::mem::size_of;
 
 #[repr(C)]
 pub struct Refusal {

@@ -1,9 +1,12 @@
-//! A caching proxy's decisions on a request that it forwards, and on the response, by their fields on
-//! standard input: a line `> Name: value` is of the request, and `< Name: value` of the response.
+//! A caching proxy's decisions on a request that it forwards, and on the response, by their fields
+//! on standard input: a line `> Name: value` is of the request, and `< Name: value` of the
+//! response.
 
-use sf::{Error, Forward, Forwarded, Hop, Name, Priority};
+use sf::{Error, Forward, Forwarded, Hop, Priority, TokenRef};
 use std::io::{self, BufRead};
 
+/// This cache.
+const NAME: &TokenRef = TokenRef::constant("ExampleCDN");
 /// This cache's own field, and the one of all caches of its kind (RFC 9213 section 2.2).
 const TARGET_LIST: [&str; 2] = ["ExampleCDN-Cache-Control", "CDN-Cache-Control"];
 
@@ -28,9 +31,7 @@ fn main() -> Result<(), Box<dyn std::error::Error>> {
     let name = choice
         .index()
         .map_or("no targeted field", |index| TARGET_LIST[index]);
-    let stored = choice
-        .policy()
-        .filter(|policy| !policy.no_store && !policy.is_private);
+    let stored = choice.policy().filter(sf::Policy::may_store_shared);
     let lifetime = stored.and_then(|policy| policy.lifetime(true));
     let what = ["don't store it", "store it"][usize::from(stored.is_some())];
     let fresh = lifetime.map(|seconds| format!(", fresh for {seconds} s"));
@@ -45,8 +46,8 @@ fn main() -> Result<(), Box<dyn std::error::Error>> {
         println!("Priority: {text}");
     }
     let forwarded = Forwarded::new(Forward::UriMiss).with_stored(stored.is_some());
-    let mut hop = Hop::new(Name::Token("ExampleCDN")).with_outcome(forwarded);
-    hop.ttl = lifetime.map(i64::try_from).transpose()?;
+    let mut hop = Hop::new(NAME).with_outcome(forwarded);
+    hop.ttl = lifetime.map(Into::into);
     let path = hop.append_to([field('<', "Cache-Status")?])?;
     println!("Cache-Status: {}", String::from_utf8_lossy(&path));
     Ok(())

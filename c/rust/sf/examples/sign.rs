@@ -1,11 +1,11 @@
-//! Adds a signature's parameters to a Signature-Input field (RFC 9421 section 4.1), and prints the field: what
-//! it had, but for a member of the same label, then the new member.
+//! Adds a signature's parameters to a Signature-Input field (RFC 9421 section 4.1), and prints the
+//! field: what it had, but for a member of the same label, then the new member.
 //!
 //! ```text
 //! sign 'old=();created=1' sig1 @method @path
 //! ```
 
-use sf::{Dictionary, InnerList, Text};
+use sf::{Dictionary, InnerList, StringRef};
 
 fn main() -> Result<(), Box<dyn std::error::Error>> {
     let words: Vec<String> = std::env::args().skip(1).collect();
@@ -13,13 +13,13 @@ fn main() -> Result<(), Box<dyn std::error::Error>> {
         [text, label, components @ ..] => (text, label, components),
         _ => return Err("usage: sign SIGNATURE-INPUT LABEL [COMPONENT ..]".into()),
     };
-    let components: Vec<Text> = components
+    let components: Vec<&StringRef> = components
         .iter()
-        .map(Text::try_from)
+        .map(|component| StringRef::new(component))
         .collect::<Result<_, _>>()?;
     let member = InnerList::new(components)
         .with_param("created", 1_618_884_473)?
-        .with_param("keyid", Text::new("test-key")?)?;
+        .with_param("keyid", StringRef::constant("test-key"))?;
 
     let mut field = Dictionary::parse(text)?;
     field.remove(label);

@@ -1,413 +1,87 @@
-//! Keys and bare items. Each is checked when it is made, so it can be written.
+//! Bare items, owned, borrowed, or partly borrowed from a text.
 
-use crate::call::{copied, copied_text};
-use crate::{Error, Type};
-use std::borrow::Borrow;
-use std::fmt;
-use std::ops::Deref;
-use std::str::FromStr;
-use std::time::{Duration, SystemTime};
+use crate::{Date, Decimal, Integer, StringRef, TokenRef};
+#[cfg(feature = "alloc")]
+use crate::{Error, String, Token};
+#[cfg(feature = "alloc")]
+use alloc::{
+    borrow::{Cow, ToOwned},
+    string::String as DisplayText,
+    vec::Vec,
+};
+use core::borrow::Borrow;
 
-/// The largest Integer, thousandths of a Decimal, or seconds of a Date.
-const NUMBER_MAX: i64 = 999_999_999_999_999;
-
-fn in_range(number: i64) -> Result<i64, Error> {
-    if (-NUMBER_MAX..=NUMBER_MAX).contains(&number) {
-        Ok(number)
-    } else {
-        Err(Error::Invalid)
-    }
-}
-
-fn is_key(text: &[u8]) -> bool {
-    let is_first = |byte: &u8| byte.is_ascii_lowercase() || *byte == b'*';
-    text.first().map_or(false, is_first)
-        && text.iter().all(|byte| {
-            byte.is_ascii_lowercase() || byte.is_ascii_digit() || b"_-.*".contains(byte)
-        })
-}
-
-fn is_token(text: &[u8]) -> bool {
-    let is_first = |byte: &u8| byte.is_ascii_alphabetic() || *byte == b'*';
-    text.first().map_or(false, is_first)
-        && text
-            .iter()
-            .all(|byte| byte.is_ascii_alphanumeric() || b"!#$%&'*+-.^_`|~:/".contains(byte))
-}
-
-fn is_text(text: &[u8]) -> bool {
-    text.iter().all(|byte| (b' '..=b'~').contains(byte))
-}
-
-macro_rules! checked_text {
-    ($name:ident, $is_valid:ident, $what:literal, $good:literal, $bad:literal) => {
-        #[doc = $what]
-        ///
-        /// ```
-        #[doc = concat!("let it = sf::", stringify!($name), "::new(\"", $good, "\").unwrap();")]
-        #[doc = concat!("assert_eq!(it.as_str(), \"", $good, "\");")]
-        #[doc = concat!("assert_eq!(sf::", stringify!($name), "::new(\"", $bad, "\"), Err(sf::Error::Invalid));")]
-        /// ```
-        #[derive(Clone, Debug, PartialEq, Eq, PartialOrd, Ord, Hash)]
-        pub struct $name(String);
-
-        impl $name {
-            /// Checks a text, and keeps it.
-            ///
-            /// # Errors
-            ///
-            /// [`Error::Invalid`] if it is not valid.
-            ///
-            /// ```
-            #[doc = concat!("assert!(sf::", stringify!($name), "::new(\"", $good, "\").is_ok());")]
-            #[doc = concat!("assert!(sf::", stringify!($name), "::new(\"", $bad, "\").is_err());")]
-            /// ```
-            pub fn new(text: impl Into<String>) -> Result<$name, Error> {
-                let text = text.into();
-                if $is_valid(text.as_bytes()) {
-                    Ok($name(text))
-                } else {
-                    Err(Error::Invalid)
-                }
-            }
-
-            /// A copy of what the library gave.
-            pub(crate) fn known(text: &str) -> Result<$name, Error> {
-                copied_text(text.as_bytes()).map($name)
-            }
-
-            /// Its text.
-            ///
-            /// ```
-            #[doc = concat!("let it = sf::", stringify!($name), "::new(\"", $good, "\").unwrap();")]
-            #[doc = concat!("assert_eq!(it.as_str(), \"", $good, "\");")]
-            /// ```
-            #[must_use]
-            pub fn as_str(&self) -> &str {
-                &self.0
-            }
-        }
-
-        impl Deref for $name {
-            type Target = str;
-
-            fn deref(&self) -> &str {
-                &self.0
-            }
-        }
-
-        impl AsRef<str> for $name {
-            fn as_ref(&self) -> &str {
-                &self.0
-            }
-        }
-
-        impl Borrow<str> for $name {
-            fn borrow(&self) -> &str {
-                &self.0
-            }
-        }
-
-        impl PartialEq<str> for $name {
-            fn eq(&self, other: &str) -> bool {
-                self.0 == *other
-            }
-        }
-
-        impl PartialEq<&str> for $name {
-            fn eq(&self, other: &&str) -> bool {
-                self.0 == **other
-            }
-        }
-
-        impl fmt::Display for $name {
-            fn fmt(&self, f: &mut fmt::Formatter<'_>) -> fmt::Result {
-                f.pad(&self.0)
-            }
-        }
-
-        impl From<$name> for String {
-            fn from(text: $name) -> String {
-                text.0
-            }
-        }
-
-        impl TryFrom<&str> for $name {
-            type Error = Error;
-
-            fn try_from(text: &str) -> Result<$name, Error> {
-                $name::new(text)
-            }
-        }
-
-        impl TryFrom<&String> for $name {
-            type Error = Error;
-
-            fn try_from(text: &String) -> Result<$name, Error> {
-                $name::new(text.as_str())
-            }
-        }
-
-        impl TryFrom<String> for $name {
-            type Error = Error;
-
-            fn try_from(text: String) -> Result<$name, Error> {
-                $name::new(text)
-            }
-        }
-
-        impl FromStr for $name {
-            type Err = Error;
-
-            fn from_str(text: &str) -> Result<$name, Error> {
-                $name::new(text)
-            }
-        }
-    };
-}
-
-checked_text!(
-    Key,
-    is_key,
-    "The key of a parameter or of a member of a Dictionary (RFC 9651 sections 3.1.2 and 3.2): lowercase \
-     letters, digits, `_`, `-`, `.` and `*`, of which the first is a letter or `*`.",
-    "max-age",
-    "Max-Age"
-);
-checked_text!(
-    Text,
-    is_text,
-    "The text of a String (RFC 9651 section 3.3.3), unescaped: printable characters of ASCII.",
-    "a b",
-    "f\u{fc}"
-);
-checked_text!(
-    Token,
-    is_token,
-    "A Token (RFC 9651 section 3.3.4): letters, digits and some other characters of ASCII, of which the \
-     first is a letter or `*`.",
-    "text/html",
-    "a b"
-);
-
-/// An Integer (RFC 9651 section 3.3.1), from -999,999,999,999,999 to 999,999,999,999,999. Numbers of at
-/// most 32 bits are Integers; others are checked.
+/// A bare item (RFC 9651 section 3.3), by what it has its Strings, Byte Sequences, Tokens and
+/// Display Strings as. Programs use `BareItem`, which owns them, [`RefBareItem`], which borrows
+/// them, and `BareItemFromInput`, which borrows what it can from a text that was parsed.
 ///
 /// ```
-/// assert_eq!(sf::Integer::from(7).get(), 7);
-/// assert_eq!(sf::Integer::try_from(1_000_000_000_000_000_u64), Err(sf::Error::Invalid));
-/// ```
-#[derive(Clone, Copy, Debug, PartialEq, Eq, PartialOrd, Ord, Hash)]
-pub struct Integer(i64);
-
-impl Integer {
-    /// The Integer of this number.
-    ///
-    /// # Errors
-    ///
-    /// [`Error::Invalid`] if it is out of range.
-    ///
-    /// ```
-    /// assert!(sf::Integer::new(999_999_999_999_999).is_ok());
-    /// assert!(sf::Integer::new(1_000_000_000_000_000).is_err());
-    /// ```
-    pub fn new(number: i64) -> Result<Integer, Error> {
-        in_range(number).map(Integer)
-    }
-
-    /// Its number.
-    ///
-    /// ```
-    /// assert_eq!(sf::Integer::from(-7).get(), -7);
-    /// ```
-    #[must_use]
-    pub fn get(self) -> i64 {
-        self.0
-    }
-}
-
-macro_rules! integer {
-    ($($small:ident)* | $($large:ident)*) => {
-        $(
-            impl From<$small> for Integer {
-                fn from(number: $small) -> Integer {
-                    Integer(i64::from(number))
-                }
-            }
-
-            impl From<$small> for BareItem {
-                fn from(number: $small) -> BareItem {
-                    BareItem::Integer(number.into())
-                }
-            }
-        )*
-        $(
-            impl TryFrom<$large> for Integer {
-                type Error = Error;
-
-                fn try_from(number: $large) -> Result<Integer, Error> {
-                    Integer::new(i64::try_from(number).map_err(|_| Error::Invalid)?)
-                }
-            }
-        )*
-    };
-}
-
-integer!(i8 i16 i32 u8 u16 u32 | i64 isize i128 u64 usize u128);
-
-impl From<Integer> for i64 {
-    fn from(number: Integer) -> i64 {
-        number.0
-    }
-}
-
-impl fmt::Display for Integer {
-    fn fmt(&self, f: &mut fmt::Formatter<'_>) -> fmt::Result {
-        self.0.fmt(f)
-    }
-}
-
-/// A Decimal (RFC 9651 section 3.3.2), which is a whole number of thousandths.
-///
-/// ```
-/// let item = sf::Item::parse("1.5").unwrap();
-/// let decimal = item.bare_item.as_decimal().unwrap();
-/// assert_eq!(decimal.thousandths(), 1500);
-/// ```
-#[derive(Clone, Copy, Debug, PartialEq, Eq, PartialOrd, Ord, Hash)]
-pub struct Decimal(i64);
-
-impl Decimal {
-    /// The Decimal of so many thousandths, from -999,999,999,999,999 to 999,999,999,999,999.
-    ///
-    /// # Errors
-    ///
-    /// [`Error::Invalid`] if they are out of range.
-    ///
-    /// ```
-    /// let half = sf::Decimal::from_thousandths(500).unwrap();
-    /// assert_eq!(sf::Item::new(half).to_string(), "0.5");
-    /// ```
-    pub fn from_thousandths(thousandths: i64) -> Result<Decimal, Error> {
-        in_range(thousandths).map(Decimal)
-    }
-
-    /// What the library gave.
-    pub(crate) fn known(thousandths: i64) -> Decimal {
-        Decimal(thousandths)
-    }
-
-    /// Its thousandths.
-    ///
-    /// ```
-    /// let item = sf::Item::parse("-0.5").unwrap();
-    /// assert_eq!(item.bare_item.as_decimal().map(|it| it.thousandths()), Some(-500));
-    /// ```
-    #[must_use]
-    pub fn thousandths(self) -> i64 {
-        self.0
-    }
-
-    /// The nearest `f64`.
-    ///
-    /// ```
-    /// let item = sf::Item::parse("0.5").unwrap();
-    /// assert_eq!(item.bare_item.as_decimal().map(|it| it.as_f64()), Some(0.5));
-    /// ```
-    #[must_use]
-    #[allow(clippy::cast_precision_loss)] // a field's thousandths are below 2^53
-    pub fn as_f64(self) -> f64 {
-        self.0 as f64 / 1000.0
-    }
-}
-
-/// A Date (RFC 9651 section 3.3.7), in seconds since 1970-01-01T00:00:00Z.
-///
-/// ```
-/// let item = sf::Item::parse("@1659578233").unwrap();
-/// assert_eq!(item.bare_item.as_date().map(|date| date.unix_seconds()), Some(1_659_578_233));
-/// ```
-#[derive(Clone, Copy, Debug, PartialEq, Eq, PartialOrd, Ord, Hash)]
-pub struct Date(i64);
-
-impl Date {
-    /// The Date of so many seconds, from -999,999,999,999,999 to 999,999,999,999,999.
-    ///
-    /// # Errors
-    ///
-    /// [`Error::Invalid`] if they are out of range.
-    ///
-    /// ```
-    /// let date = sf::Date::from_unix_seconds(1_659_578_233).unwrap();
-    /// assert_eq!(sf::Item::new(date).to_string(), "@1659578233");
-    /// ```
-    pub fn from_unix_seconds(seconds: i64) -> Result<Date, Error> {
-        in_range(seconds).map(Date)
-    }
-
-    /// What the library gave.
-    pub(crate) fn known(seconds: i64) -> Date {
-        Date(seconds)
-    }
-
-    /// Its seconds; negative before 1970.
-    ///
-    /// ```
-    /// let item = sf::Item::parse("@-1").unwrap();
-    /// assert_eq!(item.bare_item.as_date().map(|date| date.unix_seconds()), Some(-1));
-    /// ```
-    #[must_use]
-    pub fn unix_seconds(self) -> i64 {
-        self.0
-    }
-
-    /// The same time for the standard library, or `None` if it has no such time.
-    ///
-    /// ```
-    /// let item = sf::Item::parse("@0").unwrap();
-    /// let time = item.bare_item.as_date().and_then(|date| date.system_time());
-    /// assert_eq!(time, Some(std::time::UNIX_EPOCH));
-    /// ```
-    #[must_use]
-    pub fn system_time(self) -> Option<SystemTime> {
-        let distance = Duration::from_secs(self.0.unsigned_abs());
-        if self.0 < 0 {
-            SystemTime::UNIX_EPOCH.checked_sub(distance)
-        } else {
-            SystemTime::UNIX_EPOCH.checked_add(distance)
-        }
-    }
-}
-
-/// A bare item (RFC 9651 section 3.3).
-///
-/// ```
-/// use sf::{BareItem, Item, Text, Token};
+/// use sf::{BareItem, Item, String, Token};
 ///
 /// let tea = Item::parse("tea").unwrap().bare_item;
 /// assert_eq!(tea, BareItem::Token(Token::new("tea").unwrap()));
-/// assert_ne!(tea, BareItem::String(Text::new("tea").unwrap()));
+/// assert_ne!(tea, BareItem::String(String::new("tea").unwrap()));
 /// assert_eq!(BareItem::from(7), BareItem::Integer(7.into()));
 /// ```
-#[derive(Clone, Debug, PartialEq, Eq, Hash)]
-pub enum BareItem {
+#[derive(Clone, Copy, Debug, PartialEq, Eq, Hash)]
+pub enum GenericBareItem<S, B, T, D> {
     /// An Integer (3.3.1).
     Integer(Integer),
     /// A Decimal (3.3.2).
     Decimal(Decimal),
     /// A String (3.3.3), unescaped.
-    String(Text),
+    String(S),
     /// A Token (3.3.4).
-    Token(Token),
+    Token(T),
     /// A Byte Sequence (3.3.5), decoded.
-    ByteSequence(Vec<u8>),
+    ByteSequence(B),
     /// A Boolean (3.3.6).
     Boolean(bool),
     /// A Date (3.3.7).
     Date(Date),
     /// A Display String (3.3.8), decoded.
-    DisplayString(String),
+    DisplayString(D),
 }
+
+/// A bare item that owns what it has.
+///
+/// ```
+/// let item: sf::BareItem = ":YQ==:".parse().unwrap();
+/// assert_eq!(item, sf::BareItem::ByteSequence(b"a".to_vec()));
+/// assert_eq!(item.to_string(), ":YQ==:");
+/// ```
+#[cfg(feature = "alloc")]
+pub type BareItem = GenericBareItem<String, Vec<u8>, Token, DisplayText>;
+
+/// A bare item that is borrowed, as from a [`View`](crate::View), a tree or a `BareItem`.
+///
+/// ```
+/// let tree = sf::Parser::new().tree(sf::Kind::Item, "tea").unwrap();
+/// let item = tree.members().next().unwrap().bare_item();
+/// assert_eq!(item.unwrap().as_token(), Some("tea"));
+/// ```
+pub type RefBareItem<'a> = GenericBareItem<&'a StringRef, &'a [u8], &'a TokenRef, &'a str>;
+
+/// A bare item of a text that was parsed, which lives as long as that text: it borrows from it what
+/// is there as it is, and owns what was escaped or encoded. If a key of the text is repeated, it
+/// owns all.
+///
+/// ```
+/// use sf::{BareItemFromInput, Error, Kind, Parser};
+///
+/// // The tree is dropped before the result.
+/// fn key_id(text: &str) -> Result<Option<BareItemFromInput<'_>>, Error> {
+///     let tree = Parser::new().tree(Kind::Item, text)?;
+///     let item = tree.members().next().unwrap();
+///     let param = item.params().find(|param| param.key() == "keyid");
+///     param.map_or(Ok(None), |param| param.bare_item_from_input())
+/// }
+/// let text = String::from("1;keyid=\"k\"");
+/// assert_eq!(key_id(&text).unwrap().unwrap().as_string(), Some("k"));
+/// ```
+#[cfg(feature = "alloc")]
+pub type BareItemFromInput<'t> =
+    GenericBareItem<Cow<'t, StringRef>, Cow<'t, [u8]>, Cow<'t, TokenRef>, Cow<'t, str>>;
 
 macro_rules! accessor {
     ($name:ident, $variant:ident, $value:ident: $type:ty = $given:expr, $words:literal, $example:literal) => {
@@ -415,14 +89,20 @@ macro_rules! accessor {
         #[must_use]
         pub fn $name(&self) -> Option<$type> {
             match self {
-                BareItem::$variant($value) => Some($given),
+                GenericBareItem::$variant($value) => Some($given),
                 _ => None,
             }
         }
     };
 }
 
-impl BareItem {
+impl<S, B, T, D> GenericBareItem<S, B, T, D>
+where
+    S: Borrow<StringRef>,
+    B: Borrow<[u8]>,
+    T: Borrow<TokenRef>,
+    D: Borrow<str>,
+{
     accessor!(
         as_integer, Integer, number: i64 = number.get(), "Its number, if it is an Integer",
         "assert_eq!(sf::Item::parse(\"42\").unwrap().bare_item.as_integer(), Some(42));"
@@ -432,15 +112,16 @@ impl BareItem {
         "assert!(sf::Item::parse(\"42\").unwrap().bare_item.as_decimal().is_none());"
     );
     accessor!(
-        as_string, String, text: &str = text, "Its text, if it is a String",
+        as_string, String, text: &str = text.borrow().as_str(), "Its text, if it is a String",
         "assert_eq!(sf::Item::parse(r#\"\"a\\\"b\"\"#).unwrap().bare_item.as_string(), Some(\"a\\\"b\"));"
     );
     accessor!(
-        as_token, Token, text: &str = text, "Its text, if it is a Token",
+        as_token, Token, text: &str = text.borrow().as_str(), "Its text, if it is a Token",
         "assert_eq!(sf::Item::parse(\"a/b\").unwrap().bare_item.as_token(), Some(\"a/b\"));"
     );
     accessor!(
-        as_byte_sequence, ByteSequence, bytes: &[u8] = bytes, "Its bytes, if it is a Byte Sequence",
+        as_byte_sequence, ByteSequence, bytes: &[u8] = bytes.borrow(),
+        "Its bytes, if it is a Byte Sequence",
         "assert_eq!(sf::Item::parse(\":YQ==:\").unwrap().bare_item.as_byte_sequence(), Some(&b\"a\"[..]));"
     );
     accessor!(
@@ -452,32 +133,82 @@ impl BareItem {
         "assert!(sf::Item::parse(\"@7\").unwrap().bare_item.as_date().is_some());"
     );
     accessor!(
-        as_display_string, DisplayString, text: &str = text, "Its text, if it is a Display String",
+        as_display_string, DisplayString, text: &str = text.borrow(),
+        "Its text, if it is a Display String",
         "assert_eq!(sf::Item::parse(\"%\\\"f%c3%bc\\\"\").unwrap().bare_item.as_display_string(), Some(\"fü\"));"
     );
 
-    /// The bare item of a node; `None` for an Inner List.
-    pub(crate) fn of_type(value: Type<'_>) -> Result<Option<BareItem>, Error> {
-        Ok(Some(match value {
-            Type::InnerList => return Ok(None),
-            Type::Integer(number) => BareItem::Integer(Integer(number)),
-            Type::Decimal(number) => BareItem::Decimal(number),
-            Type::String(text) => BareItem::String(Text::known(text)?),
-            Type::Token(text) => BareItem::Token(Token::known(text)?),
-            Type::ByteSequence(bytes) => BareItem::ByteSequence(copied(bytes)?),
-            Type::Boolean(is_true) => BareItem::Boolean(is_true),
-            Type::Date(date) => BareItem::Date(date),
-            Type::DisplayString(text) => BareItem::DisplayString(copied_text(text.as_bytes())?),
-        }))
+    /// The same, borrowed from this.
+    ///
+    /// ```
+    /// let item = sf::Item::parse("tea").unwrap().bare_item;
+    /// let token = sf::TokenRef::constant("tea");
+    /// assert_eq!(item.to_ref(), sf::RefBareItem::Token(token));
+    /// ```
+    #[must_use]
+    pub fn to_ref(&self) -> RefBareItem<'_> {
+        match self {
+            GenericBareItem::Integer(number) => GenericBareItem::Integer(*number),
+            GenericBareItem::Decimal(number) => GenericBareItem::Decimal(*number),
+            GenericBareItem::String(text) => GenericBareItem::String(text.borrow()),
+            GenericBareItem::Token(text) => GenericBareItem::Token(text.borrow()),
+            GenericBareItem::ByteSequence(bytes) => GenericBareItem::ByteSequence(bytes.borrow()),
+            GenericBareItem::Boolean(is_true) => GenericBareItem::Boolean(*is_true),
+            GenericBareItem::Date(date) => GenericBareItem::Date(*date),
+            GenericBareItem::DisplayString(text) => GenericBareItem::DisplayString(text.borrow()),
+        }
+    }
+}
+
+#[cfg(feature = "alloc")]
+impl BareItem {
+    /// A copy, or the error if memory is short.
+    pub(crate) fn copy_of(value: RefBareItem<'_>) -> Result<BareItem, Error> {
+        use crate::buffer::{copied, copied_text};
+        Ok(match value {
+            GenericBareItem::Integer(number) => GenericBareItem::Integer(number),
+            GenericBareItem::Decimal(number) => GenericBareItem::Decimal(number),
+            GenericBareItem::String(text) => GenericBareItem::String(String::copy_of(text)?),
+            GenericBareItem::Token(text) => GenericBareItem::Token(Token::copy_of(text)?),
+            GenericBareItem::ByteSequence(bytes) => GenericBareItem::ByteSequence(copied(bytes)?),
+            GenericBareItem::Boolean(is_true) => GenericBareItem::Boolean(is_true),
+            GenericBareItem::Date(date) => GenericBareItem::Date(date),
+            GenericBareItem::DisplayString(text) => {
+                GenericBareItem::DisplayString(copied_text(text)?)
+            }
+        })
+    }
+}
+
+#[cfg(feature = "alloc")]
+impl From<RefBareItem<'_>> for BareItem {
+    fn from(value: RefBareItem<'_>) -> BareItem {
+        match value {
+            GenericBareItem::Integer(number) => GenericBareItem::Integer(number),
+            GenericBareItem::Decimal(number) => GenericBareItem::Decimal(number),
+            GenericBareItem::String(text) => GenericBareItem::String(text.to_owned()),
+            GenericBareItem::Token(text) => GenericBareItem::Token(text.to_owned()),
+            GenericBareItem::ByteSequence(bytes) => GenericBareItem::ByteSequence(bytes.to_owned()),
+            GenericBareItem::Boolean(is_true) => GenericBareItem::Boolean(is_true),
+            GenericBareItem::Date(date) => GenericBareItem::Date(date),
+            GenericBareItem::DisplayString(text) => GenericBareItem::DisplayString(text.to_owned()),
+        }
+    }
+}
+
+#[cfg(feature = "alloc")]
+impl From<BareItemFromInput<'_>> for BareItem {
+    fn from(value: BareItemFromInput<'_>) -> BareItem {
+        value.to_ref().into()
     }
 }
 
 macro_rules! into_bare_item {
-    ($($type:ty, $value:ident => $variant:ident($given:expr);)*) => {
+    ($($type:ty => $variant:ident;)*) => {
         $(
-            impl From<$type> for BareItem {
-                fn from($value: $type) -> BareItem {
-                    BareItem::$variant($given)
+            impl<S, B, T, D> From<$type> for GenericBareItem<S, B, T, D> {
+                fn from(value: $type) -> Self {
+                    GenericBareItem::$variant(value.into())
                 }
             }
         )*
@@ -485,12 +216,82 @@ macro_rules! into_bare_item {
 }
 
 into_bare_item! {
-    Integer, number => Integer(number);
-    Decimal, number => Decimal(number);
-    Text, text => String(text);
-    Token, text => Token(text);
-    Vec<u8>, bytes => ByteSequence(bytes);
-    &[u8], bytes => ByteSequence(bytes.to_vec());
-    bool, is_true => Boolean(is_true);
-    Date, date => Date(date);
+    i8 => Integer;
+    i16 => Integer;
+    i32 => Integer;
+    u8 => Integer;
+    u16 => Integer;
+    u32 => Integer;
+    Integer => Integer;
+    Decimal => Decimal;
+    bool => Boolean;
+    Date => Date;
+}
+
+macro_rules! try_into_bare_item {
+    ($($type:ty => $variant:ident;)*) => {
+        $(
+            impl<S, B, T, D> TryFrom<$type> for GenericBareItem<S, B, T, D> {
+                type Error = crate::Error;
+
+                fn try_from(value: $type) -> Result<Self, crate::Error> {
+                    Ok(GenericBareItem::$variant(value.try_into()?))
+                }
+            }
+        )*
+    };
+}
+
+try_into_bare_item! {
+    i64 => Integer;
+    isize => Integer;
+    i128 => Integer;
+    u64 => Integer;
+    usize => Integer;
+    u128 => Integer;
+}
+
+#[cfg(feature = "std")]
+try_into_bare_item! {
+    std::time::SystemTime => Date;
+}
+
+#[cfg(feature = "alloc")]
+macro_rules! owned_into_bare_item {
+    ($($type:ty => $variant:ident;)*) => {
+        $(
+            impl From<$type> for BareItem {
+                fn from(value: $type) -> BareItem {
+                    GenericBareItem::$variant(value.into())
+                }
+            }
+        )*
+    };
+}
+
+#[cfg(feature = "alloc")]
+owned_into_bare_item! {
+    String => String;
+    &StringRef => String;
+    Token => Token;
+    &TokenRef => Token;
+    Vec<u8> => ByteSequence;
+}
+
+macro_rules! ref_into_bare_item {
+    ($($type:ty => $variant:ident;)*) => {
+        $(
+            impl<'a> From<&'a $type> for RefBareItem<'a> {
+                fn from(value: &'a $type) -> RefBareItem<'a> {
+                    GenericBareItem::$variant(value)
+                }
+            }
+        )*
+    };
+}
+
+ref_into_bare_item! {
+    StringRef => String;
+    TokenRef => Token;
+    [u8] => ByteSequence;
 }

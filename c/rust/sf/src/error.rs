@@ -1,6 +1,10 @@
-use crate::call::{start, written};
-use crate::raw;
-use std::fmt;
+use crate::ffi;
+use crate::short::Short;
+use core::fmt;
+use sf_sys as raw;
+
+/// The size of a buffer for any message of a refusal: `SF_REFUSAL_SIZE` of the header.
+const MESSAGE_SIZE: usize = 1024;
 
 /// Where and why a text is refused (RFC 9651 section 4.2). Its `Display` is the error message.
 ///
@@ -36,8 +40,19 @@ impl Refusal {
         byte < 128 && self.expected >> byte & 1 != 0
     }
 
-    /// The error message, then the line of the text with a caret below the offset. Give the text that
-    /// was refused. Each byte of it is one character there: a question mark if it is not printable.
+    /// The bytes that are allowed at the offset, in order.
+    ///
+    /// ```
+    /// let refusal = sf::check(sf::Kind::Item, "?2").unwrap_err().refusal().unwrap();
+    /// assert!(refusal.expected_bytes().eq([b'0', b'1']));
+    /// ```
+    pub fn expected_bytes(&self) -> impl Iterator<Item = u8> + '_ {
+        (0..128).filter(|byte| self.expects(*byte))
+    }
+
+    /// The error message, then the line of the text with a caret below the offset. Give the text
+    /// that was refused. Each byte of it is one character there: a question mark if it is not
+    /// printable.
     ///
     /// ```
     /// let text = "1 2";
@@ -50,6 +65,7 @@ impl Refusal {
     ///      \x20 ^"
     /// );
     /// ```
+    #[cfg(feature = "alloc")]
     #[must_use]
     pub fn in_text<'a>(&self, text: &'a (impl AsRef<[u8]> + ?Sized)) -> RefusalInText<'a> {
         RefusalInText {
@@ -91,12 +107,8 @@ fn halves(set: u128) -> [u64; 2] {
 
 impl fmt::Display for Refusal {
     fn fmt(&self, f: &mut fmt::Formatter<'_>) -> fmt::Result {
-        let refusal = self.into();
-        // SAFETY: as in `Parser::check`; the buffer is borrowed alone.
-        let text = written(|buffer, length, required, _| unsafe {
-            raw::sf_refusal_text(&refusal, buffer, length, required)
-        });
-        f.pad(&text.map_err(|_| fmt::Error)?)
+        let message = Short::<MESSAGE_SIZE>::written(|buffer| ffi::refusal_text(self, buffer));
+        f.pad(message.map_err(|_| fmt::Error)?.as_str())
     }
 }
 
@@ -106,27 +118,20 @@ impl fmt::Display for Refusal {
 /// let refusal = sf::check(sf::Kind::Item, "a\nb").unwrap_err().refusal().unwrap();
 /// assert!(refusal.in_text("a\nb").to_string().ends_with("\na?b\n ^"));
 /// ```
+#[cfg(feature = "alloc")]
 #[derive(Clone, Copy, Debug)]
 pub struct RefusalInText<'a> {
     refusal: Refusal,
     text: &'a [u8],
 }
 
+#[cfg(feature = "alloc")]
 impl fmt::Display for RefusalInText<'_> {
     fn fmt(&self, f: &mut fmt::Formatter<'_>) -> fmt::Result {
-        let refusal = (&self.refusal).into();
-        // SAFETY: as in `Parser::check`; the buffer is borrowed alone.
-        let text = written(|buffer, length, required, _| unsafe {
-            raw::sf_refusal_in_text(
-                &refusal,
-                start(self.text),
-                self.text.len(),
-                buffer,
-                length,
-                required,
-            )
+        let shown = crate::buffer::written(MESSAGE_SIZE, |buffer| {
+            ffi::refusal_in_text(&self.refusal, self.text, buffer)
         });
-        f.pad(&text.map_err(|_| fmt::Error)?)
+        f.pad(&shown.map_err(|_| fmt::Error)?)
     }
 }
 
@@ -141,21 +146,31 @@ impl fmt::Display for RefusalInText<'_> {
 #[non_exhaustive]
 #[derive(Clone, Copy, Debug, PartialEq, Eq)]
 pub enum Error {
-    /// The text is malformed.
+    /// The text is malformed: where, and which bytes are allowed there.
     Refused(Refusal),
     /// Of two texts, the first is well-formed and the second malformed.
     SecondRefused(Refusal),
+    /// The text is well-formed, but its value is of another type than the one that was asked for.
+    OtherType,
+    /// A targeted field without members, which a cache ignores (RFC 9213 section 2.1).
+    Empty,
     /// The index of the first member of a Cache-Status List that does not name a cache.
     NotACache(usize),
-    /// What is to be written is not valid: a key, Token or String has a character that is not allowed in
-    /// it, or a number is out of range.
+    /// A number is out of range, or the dialect has no such type.
     Invalid,
     /// A text to parse, or the keys and bytes of a value to write, of 4 GiB or more.
     TooLong,
+    /// The caller's buffers are too small: how many nodes and bytes are enough.
+    TooSmall {
+        /// The nodes.
+        nodes: usize,
+        /// The bytes.
+        bytes: usize,
+    },
     /// An allocation failed, in the library or for a result.
     OutOfMemory,
-    /// The library that is linked is not of this crate's version: it gave a status or bytes that the
-    /// crate does not know.
+    /// The library that is linked is not of this crate's version: it gave a status or bytes that
+    /// the crate does not know.
     OtherLibrary,
 }
 
@@ -174,13 +189,13 @@ impl Error {
         }
     }
 
-    /// The default if a text was refused, as of a field that is absent; otherwise this error. Most
-    /// definitions of fields let recipients ignore a field that is malformed (RFC 9651 section 4.2), but
-    /// not one for which memory was short.
+    /// The default if the field is malformed, as if it were absent; otherwise this error. Most
+    /// definitions of fields let recipients ignore a field that is malformed (RFC 9651 section
+    /// 4.2), but not one for which memory was short.
     ///
     /// # Errors
     ///
-    /// This error, unless it is [`Error::Refused`].
+    /// This error, unless it is [`Error::Refused`] or [`Error::NotACache`].
     ///
     /// ```
     /// # fn main() -> Result<(), sf::Error> {
@@ -191,7 +206,7 @@ impl Error {
     /// ```
     pub fn as_absent<T: Default>(self) -> Result<T, Error> {
         match self {
-            Error::Refused(_) => Ok(T::default()),
+            Error::Refused(_) | Error::NotACache(_) => Ok(T::default()),
             error => Err(error),
         }
     }
@@ -202,20 +217,32 @@ impl fmt::Display for Error {
         match self {
             Error::Refused(refusal) => refusal.fmt(f),
             Error::SecondRefused(refusal) => write!(f, "the second text: {refusal}"),
+            Error::OtherType => f.write_str("the value is of another type"),
+            Error::Empty => f.write_str("the field has no members"),
             Error::NotACache(index) => write!(f, "member {index} does not name a cache"),
             Error::Invalid => f.write_str("not a value of a structured field"),
             Error::TooLong => f.write_str("4 GiB or more"),
+            Error::TooSmall { nodes, bytes } => {
+                write!(f, "space for {nodes} nodes and {bytes} bytes is required")
+            }
             Error::OutOfMemory => f.write_str("out of memory"),
             Error::OtherLibrary => f.write_str("libsf has another version than the crate sf"),
         }
     }
 }
 
-impl std::error::Error for Error {}
+// The same trait; in `core` it is of a newer Rust than the crate asks for with `std`.
+#[cfg(not(feature = "std"))]
+use core::error::Error as StdError;
+#[cfg(feature = "std")]
+use std::error::Error as StdError;
+
+impl StdError for Refusal {}
+impl StdError for Error {}
 
 // For what is taken as `TryInto<Key>` and is a `Key`.
-impl From<std::convert::Infallible> for Error {
-    fn from(never: std::convert::Infallible) -> Error {
+impl From<core::convert::Infallible> for Error {
+    fn from(never: core::convert::Infallible) -> Error {
         match never {}
     }
 }

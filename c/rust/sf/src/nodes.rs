@@ -1,7 +1,11 @@
 //! The nodes of a value that is to be written.
 
-use crate::call::{append, start, written};
-use crate::{raw, BareItem, Dialect, Error, Kind, Parameters, Seed};
+use crate::buffer::{append, written};
+use crate::ffi::{self, Rules};
+use crate::{Error, GenericBareItem, KeyRef, Parameters, RefBareItem};
+use alloc::string::String;
+use alloc::vec::Vec;
+use sf_sys as raw;
 
 /// Nodes, and the bytes that they point into.
 #[derive(Default)]
@@ -58,94 +62,83 @@ impl Nodes {
         Ok(())
     }
 
-    fn bare_item(&mut self, role: u8, key: &str, value: &BareItem) -> Result<usize, Error> {
+    fn bare_item(&mut self, role: u8, key: &str, value: RefBareItem<'_>) -> Result<usize, Error> {
         let (kind, number, bytes): (u8, i64, &[u8]) = match value {
-            BareItem::Integer(number) => (raw::INTEGER, number.get(), &[]),
-            BareItem::Decimal(number) => (raw::DECIMAL, number.thousandths(), &[]),
-            BareItem::String(text) => (raw::STRING, 0, text.as_bytes()),
-            BareItem::Token(text) => (raw::TOKEN, 0, text.as_bytes()),
-            BareItem::ByteSequence(bytes) => (raw::BYTE_SEQUENCE, 0, bytes),
-            BareItem::Boolean(is_true) => (raw::BOOLEAN, i64::from(*is_true), &[]),
-            BareItem::Date(date) => (raw::DATE, date.unix_seconds(), &[]),
-            BareItem::DisplayString(text) => (raw::DISPLAY_STRING, 0, text.as_bytes()),
+            GenericBareItem::Integer(number) => (raw::INTEGER, number.get(), &[]),
+            GenericBareItem::Decimal(number) => (raw::DECIMAL, number.thousandths(), &[]),
+            GenericBareItem::String(text) => (raw::STRING, 0, text.as_bytes()),
+            GenericBareItem::Token(text) => (raw::TOKEN, 0, text.as_bytes()),
+            GenericBareItem::ByteSequence(bytes) => (raw::BYTE_SEQUENCE, 0, bytes),
+            GenericBareItem::Boolean(is_true) => (raw::BOOLEAN, i64::from(is_true), &[]),
+            GenericBareItem::Date(date) => (raw::DATE, date.unix_seconds(), &[]),
+            GenericBareItem::DisplayString(text) => (raw::DISPLAY_STRING, 0, text.as_bytes()),
         };
         self.begin(role, key, kind, number, bytes)
     }
 
     fn params(&mut self, role: u8, params: &Parameters) -> Result<(), Error> {
-        for (key, value) in params.iter() {
-            self.bare_item(role, key, value)?;
+        for (key, value) in params {
+            self.bare_item(role, key, value.to_ref())?;
         }
         Ok(())
     }
 
     /// Appends an Item with this role.
-    fn item(&mut self, role: u8, key: &str, item: &crate::Item) -> Result<(), Error> {
-        let index = self.bare_item(role, key, &item.bare_item)?;
-        self.params(raw::PARAMETER, &item.params)?;
+    fn item(
+        &mut self,
+        role: u8,
+        key: &str,
+        value: RefBareItem<'_>,
+        params: &Parameters,
+    ) -> Result<(), Error> {
+        let index = self.bare_item(role, key, value)?;
+        self.params(raw::PARAMETER, params)?;
         self.end(index)
     }
 
     /// Appends a member, with the key that it has in a Dictionary.
-    pub(crate) fn member(&mut self, key: &str, member: &crate::Member) -> Result<(), Error> {
+    pub(crate) fn member(
+        &mut self,
+        key: Option<&KeyRef>,
+        member: &crate::ListEntry,
+    ) -> Result<(), Error> {
         match member {
-            crate::Member::Item(item) => self.item(raw::MEMBER, key, item),
-            crate::Member::InnerList(inner) => self.inner_list(key, inner),
+            crate::ListEntry::Item(item) => {
+                self.member_item(key, item.bare_item.to_ref(), &item.params)
+            }
+            crate::ListEntry::InnerList(inner) => self.inner_list(key, inner),
         }
     }
 
     /// Appends an Item that is a member, with the key that it has in a Dictionary.
-    pub(crate) fn member_item(&mut self, key: &str, item: &crate::Item) -> Result<(), Error> {
-        self.item(raw::MEMBER, key, item)
-    }
-
-    /// Appends a bare item that is a member.
-    pub(crate) fn member_bare_item(&mut self, value: &BareItem) -> Result<(), Error> {
-        self.bare_item(raw::MEMBER, "", value).map(|_| ())
+    pub(crate) fn member_item(
+        &mut self,
+        key: Option<&KeyRef>,
+        value: RefBareItem<'_>,
+        params: &Parameters,
+    ) -> Result<(), Error> {
+        self.item(raw::MEMBER, key.map_or("", KeyRef::as_str), value, params)
     }
 
     /// Appends an Inner List, with the key that it has in a Dictionary.
-    pub(crate) fn inner_list(&mut self, key: &str, inner: &crate::InnerList) -> Result<(), Error> {
+    pub(crate) fn inner_list(
+        &mut self,
+        key: Option<&KeyRef>,
+        inner: &crate::InnerList,
+    ) -> Result<(), Error> {
+        let key = key.map_or("", KeyRef::as_str);
         let index = self.begin(raw::MEMBER, key, raw::INNER_LIST, 0, &[])?;
         for item in &inner.items {
-            self.item(raw::INNER_ITEM, "", item)?;
+            self.item(raw::INNER_ITEM, "", item.bare_item.to_ref(), &item.params)?;
         }
         self.params(raw::INNER_PARAMETER, &inner.params)?;
         self.end(index)
     }
 
     /// The canonical text of the value.
-    pub(crate) fn text(&self, seed: &Seed, dialect: Dialect, kind: Kind) -> Result<String, Error> {
-        write(seed, dialect, kind, &self.nodes, &[], &self.bytes)
+    pub(crate) fn text(&self, rules: &Rules) -> Result<String, Error> {
+        written(128, |buffer| {
+            ffi::write(rules, &self.nodes, &[], &self.bytes, buffer)
+        })
     }
-}
-
-/// The canonical text of the value of nodes that point into a text and into bytes.
-pub(crate) fn write(
-    seed: &Seed,
-    dialect: Dialect,
-    kind: Kind,
-    nodes: &[raw::Node],
-    text: &[u8],
-    bytes: &[u8],
-) -> Result<String, Error> {
-    // SAFETY: as in `Parser::check`; the buffer is borrowed alone.
-    written(|buffer, length, required, _| unsafe {
-        let mut invalid = 0;
-        raw::sf_write(
-            &seed.bytes,
-            dialect as u32,
-            kind as u32,
-            nodes.as_ptr(),
-            nodes.len(),
-            start(text),
-            text.len(),
-            start(bytes),
-            bytes.len(),
-            buffer,
-            length,
-            required,
-            &mut invalid,
-        )
-    })
 }

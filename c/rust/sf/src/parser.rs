@@ -1,65 +1,35 @@
-use crate::call::{error, lengthen, resize, seed, start, NO_REFUSAL};
-use crate::nodes::Nodes;
-use crate::{raw, Choice, Error, Path, Policy, Priority, Seed, Tree};
+//! The calls that read a text by a dialect and with a seed.
 
-/// The kind of a field, which the definition of the field states (RFC 9651 section 3).
-///
-/// ```
-/// assert!(sf::check(sf::Kind::List, "a, b").is_ok());
-/// assert!(sf::check(sf::Kind::Item, "a, b").is_err());
-/// ```
-#[derive(Clone, Copy, Debug, PartialEq, Eq, Hash)]
-#[repr(u32)]
-pub enum Kind {
-    /// An Item (section 3.3).
-    Item = raw::ITEM,
-    /// A List (section 3.1).
-    List = raw::LIST,
-    /// A Dictionary (section 3.2).
-    Dict = raw::DICT,
-}
+use crate::ffi::{self, Fit, Rules};
+use crate::seed::SeedSource;
+use crate::{Dialect, Error, Event, Kind, Seed, Space, View};
+use core::ops::ControlFlow;
 
-/// The RFC by which a text is parsed. What RFC 8941 accepts has the same value by RFC 9651.
-///
-/// ```
-/// let old = sf::Parser::new().with_dialect(sf::Dialect::Rfc8941);
-/// assert!(old.check(sf::Kind::Item, "@1").is_err());
-/// assert!(sf::check(sf::Kind::Item, "@1").is_ok());
-/// ```
-#[derive(Clone, Copy, Debug, Default, PartialEq, Eq, Hash)]
-#[repr(u32)]
-pub enum Dialect {
-    /// RFC 9651.
-    #[default]
-    Rfc9651 = raw::RFC9651,
-    /// Its predecessor, without Dates and Display Strings.
-    Rfc8941 = raw::RFC8941,
-}
-
+#[cfg(feature = "alloc")]
 mod sealed {
     pub trait Sealed: Sized {
         const KIND: crate::Kind;
-        fn of_tree(tree: &crate::Tree<'_>) -> Result<Self, crate::Error>;
+        fn of_view(view: crate::View<'_, '_>) -> Result<Self, crate::Error>;
         fn put_into(&self, nodes: &mut crate::nodes::Nodes) -> Result<(), crate::Error>;
     }
 }
+#[cfg(feature = "alloc")]
 pub(crate) use sealed::Sealed;
 
 /// A field of a known kind: an [`Item`](crate::Item), a [`List`](crate::List) or a
 /// [`Dictionary`](crate::Dictionary).
 ///
 /// ```
-/// fn canonical<T: sf::Field>(text: &str) -> Result<String, sf::Error> {
+/// fn canonical<T: sf::FieldType>(text: &str) -> Result<String, sf::Error> {
 ///     let parser = sf::Parser::new();
 ///     parser.serialize(&parser.parse::<T>(text)?)
 /// }
 /// assert_eq!(canonical::<sf::List>("a,b").unwrap(), "a, b");
 /// ```
-pub trait Field: Sealed {}
+#[cfg(feature = "alloc")]
+pub trait FieldType: Sealed {}
 
-impl<T: Sealed> Field for T {}
-
-/// Parses texts by a dialect, RFC 9651 unless another is chosen, and with a seed, a random one for
+/// Parses texts by a dialect, RFC 9651 unless another is chosen, and with a seed: a random one for
 /// each call unless one is chosen.
 ///
 /// ```
@@ -67,21 +37,52 @@ impl<T: Sealed> Field for T {}
 /// let field = parser.parse::<sf::Dictionary>("u=1, i").unwrap();
 /// assert_eq!(field.len(), 2);
 /// ```
-#[derive(Clone, Copy, Debug, Default)]
+#[derive(Clone, Copy, Debug)]
 pub struct Parser {
-    seed: Option<Seed>,
+    seed: SeedSource,
     dialect: Dialect,
 }
 
+#[cfg(feature = "std")]
+impl Default for Parser {
+    fn default() -> Parser {
+        Parser::new()
+    }
+}
+
+/// Texts of no more bytes are parsed without an allocation for their nodes: they have at most 32,
+/// and 64 bytes to be decoded, as `SF_NODES_SIZE` and `SF_BYTES_SIZE` of the header say.
+#[cfg(feature = "alloc")]
+const SMALL: usize = 40;
+
 impl Parser {
-    /// A parser by RFC 9651.
+    /// A parser by RFC 9651, with a random seed for each call.
     ///
     /// ```
     /// assert!(sf::Parser::new().check(sf::Kind::Item, "@1").is_ok());
     /// ```
+    #[cfg(feature = "std")]
     #[must_use]
-    pub fn new() -> Parser {
-        Parser::default()
+    pub const fn new() -> Parser {
+        Parser {
+            seed: SeedSource::Random,
+            dialect: Dialect::Rfc9651,
+        }
+    }
+
+    /// A parser by RFC 9651, with this seed in each call. Attackers must not be able to predict it.
+    /// Without the feature `std` there is no other, since there is no source of random numbers.
+    ///
+    /// ```
+    /// let parser = sf::Parser::seeded(sf::Seed::from_bytes(*b"sixteen bytes of"));
+    /// assert!(parser.check(sf::Kind::Item, "@1").is_ok());
+    /// ```
+    #[must_use]
+    pub const fn seeded(seed: Seed) -> Parser {
+        Parser {
+            seed: SeedSource::Chosen(seed),
+            dialect: Dialect::Rfc9651,
+        }
     }
 
     /// The same parser by another RFC.
@@ -91,8 +92,9 @@ impl Parser {
     /// assert!(old.check(sf::Kind::Item, "%\"a\"").is_err());
     /// ```
     #[must_use]
-    pub fn with_dialect(self, dialect: Dialect) -> Parser {
-        Parser { dialect, ..self }
+    pub const fn with_dialect(self, dialect: Dialect) -> Parser {
+        let seed = self.seed;
+        Parser { seed, dialect }
     }
 
     /// The same parser with this seed in each call. A random seed for each call costs less than a
@@ -103,77 +105,24 @@ impl Parser {
     /// assert!(parser.check(sf::Kind::Item, "1").is_ok());
     /// ```
     #[must_use]
-    pub fn with_seed(self, seed: Seed) -> Parser {
-        let seed = Some(seed);
-        Parser { seed, ..self }
+    pub const fn with_seed(self, seed: Seed) -> Parser {
+        let seed = SeedSource::Chosen(seed);
+        let dialect = self.dialect;
+        Parser { seed, dialect }
     }
 
-    /// Parses a field of the kind of `T`.
-    ///
-    /// # Errors
-    ///
-    /// [`Error::Refused`] if the text is malformed.
-    ///
-    /// ```
-    /// let item = sf::Parser::new().parse::<sf::Item>("1;a").unwrap();
-    /// assert_eq!(item.bare_item.as_integer(), Some(1));
-    /// ```
-    pub fn parse<T: Field>(&self, text: impl AsRef<[u8]>) -> Result<T, Error> {
-        T::of_tree(&self.tree(T::KIND, &text)?)
+    /// A seed for one call.
+    pub(crate) fn seed(&self) -> Seed {
+        self.seed.seed()
     }
 
-    /// Writes the canonical text of a field by the dialect (RFC 9651 section 4.1). If the text of a List
-    /// or Dictionary is empty, the field is not to be sent.
-    ///
-    /// # Errors
-    ///
-    /// [`Error::Invalid`] if it has a Date or Display String, and the dialect does not.
-    ///
-    /// ```
-    /// let parser = sf::Parser::new().with_dialect(sf::Dialect::Rfc8941);
-    /// assert_eq!(parser.serialize(&sf::Item::new(7)).unwrap(), "7");
-    /// let date = sf::Date::from_unix_seconds(7).unwrap();
-    /// assert_eq!(parser.serialize(&sf::Item::new(date)), Err(sf::Error::Invalid));
-    /// ```
-    pub fn serialize<T: Field>(&self, field: &T) -> Result<String, Error> {
-        let mut nodes = Nodes::default();
-        field.put_into(&mut nodes)?;
-        nodes.text(&seed(self.seed), self.dialect, T::KIND)
-    }
-
-    /// Parses the lines of a field: see [`join`].
-    ///
-    /// # Errors
-    ///
-    /// [`Error::Refused`] if they are malformed; its offset is one in the joined text.
-    ///
-    /// ```
-    /// let list = sf::Parser::new().parse_lines::<sf::List>(["a, b", "c"]).unwrap();
-    /// assert_eq!(list.len(), 3);
-    /// ```
-    pub fn parse_lines<T: Field>(
-        &self,
-        lines: impl IntoIterator<Item = impl AsRef<[u8]>>,
-    ) -> Result<T, Error> {
-        self.parse(join(lines)?)
-    }
-
-    /// Parses a field of any kind as a tree, which borrows what it can from the text.
-    ///
-    /// # Errors
-    ///
-    /// [`Error::Refused`] if the text is malformed.
-    ///
-    /// ```
-    /// let tree = sf::Parser::new().tree(sf::Kind::List, "a;q=1, b").unwrap();
-    /// assert_eq!(tree.members().count(), 2);
-    /// ```
-    pub fn tree<'t>(
-        &self,
-        kind: Kind,
-        text: &'t (impl AsRef<[u8]> + ?Sized),
-    ) -> Result<Tree<'t>, Error> {
-        Tree::read(&seed(self.seed), self.dialect, kind, text.as_ref())
+    /// What a call for a kind goes by.
+    pub(crate) fn rules(&self, kind: Kind) -> Rules {
+        Rules {
+            seed: self.seed(),
+            dialect: self.dialect,
+            kind,
+        }
     }
 
     /// Checks whether a text is a well-formed field of the kind (RFC 9651 section 4.2).
@@ -186,74 +135,16 @@ impl Parser {
     /// assert!(sf::Parser::new().check(sf::Kind::Dict, "u=1, i").is_ok());
     /// ```
     pub fn check(&self, kind: Kind, text: impl AsRef<[u8]>) -> Result<(), Error> {
-        let text = text.as_ref();
-        let mut refusal = NO_REFUSAL;
-        // SAFETY: the pointer and the length are those of one slice, which is borrowed for the call,
-        // and the structs live for it.
-        let status = unsafe {
-            raw::sf_check(
-                &seed(self.seed).bytes,
-                self.dialect as u32,
-                kind as u32,
-                start(text),
-                text.len(),
-                &mut refusal,
-            )
-        };
-        match status {
-            raw::OK => Ok(()),
-            status => Err(error(status, &refusal)),
-        }
+        ffi::check(&self.rules(kind), text.as_ref())
     }
 
-    /// Writes the canonical text (RFC 9651 section 4.1) of the value of a text. Two texts of a kind
-    /// have equal values if and only if their canonical texts are equal.
+    /// Compares the values of two texts of a kind. The order of members, items and parameters
+    /// counts.
     ///
     /// # Errors
     ///
-    /// [`Error::Refused`] if the text is malformed.
-    ///
-    /// ```
-    /// assert_eq!(sf::Parser::new().normalise(sf::Kind::Dict, "u=1,  i=?1").unwrap(), "u=1, i");
-    /// ```
-    pub fn normalise(&self, kind: Kind, text: impl AsRef<[u8]>) -> Result<String, Error> {
-        let source = text.as_ref();
-        let mut buffer = Vec::new();
-        resize(&mut buffer, source.len(), 0u8)?; // most canonical texts are no longer
-        loop {
-            let mut refusal = NO_REFUSAL;
-            let mut required = 0;
-            // SAFETY: as in `check`; the buffer is borrowed alone.
-            let status = unsafe {
-                raw::sf_normalise(
-                    &seed(self.seed).bytes,
-                    self.dialect as u32,
-                    kind as u32,
-                    start(source),
-                    source.len(),
-                    buffer.as_mut_ptr().cast(),
-                    buffer.len(),
-                    &mut required,
-                    &mut refusal,
-                )
-            };
-            match status {
-                raw::OK => {
-                    buffer.truncate(required);
-                    return crate::call::text(buffer);
-                }
-                raw::SHORT if required > buffer.len() => resize(&mut buffer, required, 0)?,
-                status => return Err(error(status, &refusal)),
-            }
-        }
-    }
-
-    /// Compares the values of two texts of a kind. The order of members, items and parameters counts.
-    ///
-    /// # Errors
-    ///
-    /// [`Error::Refused`] if the first text is malformed, [`Error::SecondRefused`] if only the second
-    /// is.
+    /// [`Error::Refused`] if the first text is malformed, [`Error::SecondRefused`] if only the
+    /// second is.
     ///
     /// ```
     /// assert!(sf::Parser::new().equal(sf::Kind::Dict, "u=1,i", "u=1, i=?1").unwrap());
@@ -264,107 +155,235 @@ impl Parser {
         first: impl AsRef<[u8]>,
         second: impl AsRef<[u8]>,
     ) -> Result<bool, Error> {
-        let (first, second) = (first.as_ref(), second.as_ref());
-        let mut refusal = NO_REFUSAL;
-        let mut equal = 0;
-        // SAFETY: as in `check`.
-        let status = unsafe {
-            raw::sf_equal(
-                &seed(self.seed).bytes,
-                self.dialect as u32,
-                kind as u32,
-                start(first),
-                first.len(),
-                start(second),
-                second.len(),
-                &mut equal,
-                &mut refusal,
-            )
-        };
-        match status {
-            raw::OK => Ok(equal != 0),
-            status => Err(error(status, &refusal)),
+        ffi::equal(&self.rules(kind), first.as_ref(), second.as_ref())
+    }
+
+    /// Parses a field of any kind into space of the caller, without an allocation.
+    ///
+    /// # Errors
+    ///
+    /// [`Error::Refused`] if the text is malformed, [`Error::TooSmall`] if the space is.
+    ///
+    /// ```
+    /// let parser = sf::Parser::new();
+    /// let mut space = sf::Space::<2, 0>::new();
+    /// let view = parser.view(sf::Kind::List, "a;q=1", &mut space).unwrap();
+    /// assert_eq!(view.members().next().unwrap().param("q"), Some(1.into()));
+    /// let error = parser.view(sf::Kind::List, "a, b, c", &mut space).unwrap_err();
+    /// assert!(matches!(error, sf::Error::TooSmall { nodes: 3, .. }));
+    /// ```
+    pub fn view<'a, 't, const NODES: usize, const BYTES: usize>(
+        &self,
+        kind: Kind,
+        text: &'t (impl AsRef<[u8]> + ?Sized),
+        space: &'a mut Space<NODES, BYTES>,
+    ) -> Result<View<'a, 't>, Error> {
+        let (nodes, bytes) = space.buffers();
+        View::read(&self.rules(kind), text.as_ref(), nodes, bytes)
+    }
+
+    /// Calls a function with each [`Event`] of a field, in the order of the text, until it breaks;
+    /// returns what it broke with. The field is not built, and a malformed text has no event at
+    /// all.
+    ///
+    /// # Errors
+    ///
+    /// [`Error::Refused`] if the text is malformed. Without the feature `alloc`,
+    /// [`Error::TooSmall`] if it has more than 32 nodes or more than 64 bytes that have to be
+    /// decoded: see [`view`](Parser::view).
+    ///
+    /// ```
+    /// use sf::{Event, Kind, Parser};
+    /// use std::ops::ControlFlow;
+    ///
+    /// let quality = Parser::new().visit(Kind::List, "text/html;q=0.5, */*;q=0.1", |event| match event {
+    ///     Event::Parameter { key, value } if key == "q" => ControlFlow::Break(value.as_decimal()),
+    ///     _ => ControlFlow::Continue(()),
+    /// });
+    /// assert_eq!(quality.unwrap().flatten().unwrap().thousandths(), 500);
+    /// ```
+    pub fn visit<B>(
+        &self,
+        kind: Kind,
+        text: impl AsRef<[u8]>,
+        mut visit: impl FnMut(Event<'_>) -> ControlFlow<B>,
+    ) -> Result<Option<B>, Error> {
+        self.with_view(kind, text.as_ref(), |view| {
+            Ok(view.events().find_map(|event| match visit(event) {
+                ControlFlow::Break(value) => Some(value),
+                ControlFlow::Continue(()) => None,
+            }))
+        })
+    }
+
+    /// Uses the nodes of a text, which are on the stack if they are few.
+    fn with_view<R>(
+        &self,
+        kind: Kind,
+        text: &[u8],
+        used: impl FnOnce(View<'_, '_>) -> Result<R, Error>,
+    ) -> Result<R, Error> {
+        #[cfg(feature = "alloc")]
+        if text.len() > SMALL {
+            return used(self.tree(kind, text)?.view());
+        }
+        used(self.view(kind, text, &mut Space::<32, 64>::new())?)
+    }
+
+    /// Writes the canonical text (RFC 9651 section 4.1) of the value of a text to a buffer of the
+    /// caller, and returns what it wrote. Eight fifths of the text's length are always enough.
+    ///
+    /// # Errors
+    ///
+    /// [`Error::Refused`] if the text is malformed, [`Error::TooSmall`] if the buffer is.
+    ///
+    /// ```
+    /// let mut buffer = [0; 16];
+    /// let text = sf::Parser::new().normalise_into(sf::Kind::Dict, "u=1,  i=?1", &mut buffer);
+    /// assert_eq!(text, Ok("u=1, i"));
+    /// ```
+    pub fn normalise_into<'b>(
+        &self,
+        kind: Kind,
+        text: impl AsRef<[u8]>,
+        buffer: &'b mut [u8],
+    ) -> Result<&'b str, Error> {
+        match ffi::normalise(&self.rules(kind), text.as_ref(), buffer)? {
+            Fit::Short(bytes) => Err(Error::TooSmall { nodes: 0, bytes }),
+            Fit::Written(length) => {
+                let written = buffer.get(..length).ok_or(Error::OtherLibrary)?;
+                core::str::from_utf8(written).map_err(|_| Error::OtherLibrary)
+            }
+        }
+    }
+}
+
+#[cfg(feature = "alloc")]
+mod owned {
+    use super::{FieldType, Kind, Parser};
+    use crate::buffer::{lengthen, written};
+    use crate::ffi::{self, Fit};
+    use crate::nodes::Nodes;
+    use crate::{Error, Tree};
+    use alloc::string::String;
+    use alloc::vec::Vec;
+    use sf_sys as raw;
+
+    impl Parser {
+        /// Parses a field of the kind of `T`.
+        ///
+        /// # Errors
+        ///
+        /// [`Error::Refused`] if the text is malformed.
+        ///
+        /// ```
+        /// let item = sf::Parser::new().parse::<sf::Item>("1;a").unwrap();
+        /// assert_eq!(item.bare_item.as_integer(), Some(1));
+        /// ```
+        pub fn parse<T: FieldType>(&self, text: impl AsRef<[u8]>) -> Result<T, Error> {
+            self.with_view(T::KIND, text.as_ref(), T::of_view)
+        }
+
+        /// Writes the canonical text of a field by the dialect (RFC 9651 section 4.1). If the text
+        /// of a List or Dictionary is empty, the field is not to be sent.
+        ///
+        /// # Errors
+        ///
+        /// [`Error::Invalid`] if it has a Date or Display String, and the dialect does not.
+        ///
+        /// ```
+        /// let parser = sf::Parser::new().with_dialect(sf::Dialect::Rfc8941);
+        /// assert_eq!(parser.serialize(&sf::Item::new(7)).unwrap(), "7");
+        /// let date = sf::Date::from_unix_seconds(7).unwrap();
+        /// assert_eq!(parser.serialize(&sf::Item::new(date)), Err(sf::Error::Invalid));
+        /// ```
+        pub fn serialize<T: FieldType>(&self, field: &T) -> Result<String, Error> {
+            let mut nodes = Nodes::default();
+            field.put_into(&mut nodes)?;
+            nodes.text(&self.rules(T::KIND))
+        }
+
+        /// Parses the lines of a field: see [`join`](crate::join).
+        ///
+        /// # Errors
+        ///
+        /// [`Error::Refused`] if they are malformed; its offset is one in the joined text.
+        ///
+        /// ```
+        /// let list = sf::Parser::new().parse_lines::<sf::List>(["a, b", "c"]).unwrap();
+        /// assert_eq!(list.len(), 3);
+        /// ```
+        pub fn parse_lines<T: FieldType>(
+            &self,
+            lines: impl IntoIterator<Item = impl AsRef<[u8]>>,
+        ) -> Result<T, Error> {
+            self.parse(join(lines)?)
+        }
+
+        /// Parses a field of any kind as a tree, which borrows what it can from the text.
+        ///
+        /// # Errors
+        ///
+        /// [`Error::Refused`] if the text is malformed.
+        ///
+        /// ```
+        /// let tree = sf::Parser::new().tree(sf::Kind::List, "a;q=1, b").unwrap();
+        /// assert_eq!(tree.members().count(), 2);
+        /// ```
+        pub fn tree<'t>(
+            &self,
+            kind: Kind,
+            text: &'t (impl AsRef<[u8]> + ?Sized),
+        ) -> Result<Tree<'t>, Error> {
+            Tree::read(&self.rules(kind), text.as_ref())
+        }
+
+        /// Writes the canonical text (RFC 9651 section 4.1) of the value of a text. Two texts of a
+        /// kind have equal values if and only if their canonical texts are equal.
+        ///
+        /// # Errors
+        ///
+        /// [`Error::Refused`] if the text is malformed.
+        ///
+        /// ```
+        /// let text = sf::Parser::new().normalise(sf::Kind::Dict, "u=1,  i=?1");
+        /// assert_eq!(text.unwrap(), "u=1, i");
+        /// ```
+        pub fn normalise(&self, kind: Kind, text: impl AsRef<[u8]>) -> Result<String, Error> {
+            let (rules, text) = (self.rules(kind), text.as_ref());
+            // Most canonical texts are no longer than the text.
+            written(text.len(), |buffer| ffi::normalise(&rules, text, buffer))
         }
     }
 
-    /// Reads the text of a Priority field, by RFC 9651 whatever the dialect: see [`Priority::parse`].
-    ///
-    /// # Errors
-    ///
-    /// [`Error::Refused`] if the text is not a well-formed Dictionary.
-    ///
-    /// ```
-    /// assert_eq!(sf::Parser::new().priority("u=1").unwrap().urgency, Some(1));
-    /// ```
-    pub fn priority(&self, text: impl AsRef<[u8]>) -> Result<Priority, Error> {
-        Priority::read(&seed(self.seed), text.as_ref())
-    }
-
-    /// Puts what a priority sets into the text of a Priority field, by RFC 9651 whatever the dialect: see
-    /// [`Priority::change`].
-    ///
-    /// # Errors
-    ///
-    /// [`Error::Refused`] if the text is not a well-formed Dictionary.
-    ///
-    /// ```
-    /// let priority = sf::Priority { urgency: None, incremental: Some(true) };
-    /// assert_eq!(sf::Parser::new().change_priority(priority, "u=1, x").unwrap(), "u=1, x, i");
-    /// ```
-    pub fn change_priority(
-        &self,
-        priority: Priority,
-        text: impl AsRef<[u8]>,
-    ) -> Result<String, Error> {
-        priority.put_into(&seed(self.seed), text.as_ref())
-    }
-
-    /// Reads the text of one targeted field, by RFC 9651 whatever the dialect: see [`Policy::parse`].
-    ///
-    /// # Errors
-    ///
-    /// [`Error::Refused`] if the text is not a well-formed Dictionary.
-    ///
-    /// ```
-    /// let policy = sf::Parser::new().policy("max-age=60").unwrap();
-    /// assert_eq!(policy.and_then(|policy| policy.max_age), Some(60));
-    /// ```
-    pub fn policy(&self, text: impl AsRef<[u8]>) -> Result<Option<Policy>, Error> {
-        Policy::read(&seed(self.seed), text.as_ref())
-    }
-
-    /// Chooses the field of a target list that a cache obeys, by RFC 9651 whatever the dialect: see
-    /// [`select`](crate::select).
+    /// Joins the lines of a field, with a comma and a space between two (RFC 9651 section 4.2). The
+    /// result of no lines is empty.
     ///
     /// # Errors
     ///
     /// [`Error::OutOfMemory`] only.
     ///
     /// ```
-    /// let choice = sf::Parser::new().select(["", "no-store"]).unwrap();
-    /// assert!(choice.policy().unwrap().no_store);
+    /// assert_eq!(sf::join(["a, b", "c"]).unwrap(), b"a, b, c");
     /// ```
-    pub fn select(
-        &self,
-        fields: impl IntoIterator<Item = impl AsRef<[u8]>>,
-    ) -> Result<Choice, Error> {
-        Choice::read(&seed(self.seed), fields)
-    }
-
-    /// Reads the text of a Cache-Status field, by RFC 9651 whatever the dialect: see [`Path::parse`].
-    ///
-    /// # Errors
-    ///
-    /// [`Error::Refused`] if the text is not a well-formed List, [`Error::NotACache`] if a member does
-    /// not name a cache.
-    ///
-    /// ```
-    /// assert_eq!(sf::Parser::new().path("origin;fwd=miss, edge;hit").unwrap().served_by(), Some(1));
-    /// ```
-    pub fn path(&self, text: impl AsRef<[u8]>) -> Result<Path, Error> {
-        Path::read(&seed(self.seed), text.as_ref())
+    pub fn join(lines: impl IntoIterator<Item = impl AsRef<[u8]>>) -> Result<Vec<u8>, Error> {
+        let mut buffer: Vec<u8> = Vec::new();
+        let mut joined = raw::Joined {
+            length: 0,
+            required: 0,
+            begun: 0,
+        };
+        for line in lines {
+            while let Fit::Short(length) = ffi::join(line.as_ref(), &mut buffer, &mut joined)? {
+                lengthen(&mut buffer, length)?;
+            }
+        }
+        buffer.truncate(joined.length);
+        Ok(buffer)
     }
 }
+#[cfg(feature = "alloc")]
+pub use owned::join;
 
 /// Checks whether a text is a well-formed field of the kind, by RFC 9651: see [`Parser::check`].
 ///
@@ -375,6 +394,7 @@ impl Parser {
 /// ```
 /// assert!(sf::check(sf::Kind::Item, "1;a").is_ok());
 /// ```
+#[cfg(feature = "std")]
 pub fn check(kind: Kind, text: impl AsRef<[u8]>) -> Result<(), Error> {
     Parser::new().check(kind, text)
 }
@@ -388,7 +408,8 @@ pub fn check(kind: Kind, text: impl AsRef<[u8]>) -> Result<(), Error> {
 /// ```
 /// assert_eq!(sf::normalise(sf::Kind::List, ":YQ:,:YQ:").unwrap(), ":YQ==:, :YQ==:");
 /// ```
-pub fn normalise(kind: Kind, text: impl AsRef<[u8]>) -> Result<String, Error> {
+#[cfg(feature = "std")]
+pub fn normalise(kind: Kind, text: impl AsRef<[u8]>) -> Result<alloc::string::String, Error> {
     Parser::new().normalise(kind, text)
 }
 
@@ -396,54 +417,13 @@ pub fn normalise(kind: Kind, text: impl AsRef<[u8]>) -> Result<String, Error> {
 ///
 /// # Errors
 ///
-/// [`Error::Refused`] if the first text is malformed, [`Error::SecondRefused`] if only the second is.
+/// [`Error::Refused`] if the first text is malformed, [`Error::SecondRefused`] if only the second
+/// is.
 ///
 /// ```
 /// assert!(!sf::equal(sf::Kind::Dict, "a=1, b=2", "b=2, a=1").unwrap());
 /// ```
+#[cfg(feature = "std")]
 pub fn equal(kind: Kind, first: impl AsRef<[u8]>, second: impl AsRef<[u8]>) -> Result<bool, Error> {
     Parser::new().equal(kind, first, second)
-}
-
-/// Joins the lines of a field, with a comma and a space between two (RFC 9651 section 4.2). The
-/// result of no lines is empty.
-///
-/// # Errors
-///
-/// [`Error::OutOfMemory`] only.
-///
-/// ```
-/// assert_eq!(sf::join(["a, b", "c"]).unwrap(), b"a, b, c");
-/// ```
-pub fn join(lines: impl IntoIterator<Item = impl AsRef<[u8]>>) -> Result<Vec<u8>, Error> {
-    let mut buffer: Vec<u8> = Vec::new();
-    let mut joined = raw::Joined {
-        length: 0,
-        required: 0,
-        begun: 0,
-    };
-    for line in lines {
-        let line = line.as_ref();
-        loop {
-            // SAFETY: as in `Parser::check`; the buffer is borrowed alone.
-            let status = unsafe {
-                raw::sf_join(
-                    start(line),
-                    line.len(),
-                    buffer.as_mut_ptr().cast(),
-                    buffer.len(),
-                    &mut joined,
-                )
-            };
-            match status {
-                raw::OK => break,
-                raw::SHORT if joined.required > buffer.len() => {
-                    lengthen(&mut buffer, joined.required)?;
-                }
-                status => return Err(error(status, &NO_REFUSAL)),
-            }
-        }
-    }
-    buffer.truncate(joined.length);
-    Ok(buffer)
 }

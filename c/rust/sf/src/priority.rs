@@ -1,27 +1,111 @@
-use crate::call::{error, start, written, NO_REFUSAL};
-use crate::{raw, Error, Parser, Seed};
+use crate::ffi;
+use crate::short::Short;
+use crate::{Error, Parser};
+use core::fmt;
+use sf_sys as raw;
 
-/// The parameters of a Priority field (RFC 9218 section 4); `None` is one that the field does not
-/// set.
+/// The urgency of a response, from 0, the most urgent, to 7 (RFC 9218 section 4.1).
 ///
 /// ```
-/// let request = sf::Priority::parse("u=5, i").unwrap();
-/// let response = sf::Priority::parse("u=1").unwrap();
+/// use sf::Urgency;
+/// assert_eq!(Urgency::new(1).unwrap().get(), 1);
+/// assert_eq!(Urgency::new(8), Err(sf::Error::Invalid));
+/// assert_eq!(Urgency::default().get(), 3);
+/// assert!(Urgency::MOST < Urgency::LEAST);
+/// ```
+#[derive(Clone, Copy, Debug, PartialEq, Eq, PartialOrd, Ord, Hash)]
+pub struct Urgency(u8);
+
+impl Urgency {
+    /// 0, the most urgent.
+    pub const MOST: Urgency = Urgency(0);
+    /// 3, that of a field that sets none.
+    pub const DEFAULT: Urgency = Urgency(3);
+    /// 7, the least urgent: for background tasks, such as updates of software.
+    pub const LEAST: Urgency = Urgency(7);
+
+    /// The urgency of this number.
+    ///
+    /// # Errors
+    ///
+    /// [`Error::Invalid`] if it is above 7.
+    ///
+    /// ```
+    /// assert!(sf::Urgency::new(7).is_ok());
+    /// assert!(sf::Urgency::new(9).is_err());
+    /// ```
+    pub fn new(number: u8) -> Result<Urgency, Error> {
+        (number <= Urgency::LEAST.0)
+            .then_some(Urgency(number))
+            .ok_or(Error::Invalid)
+    }
+
+    /// Its number.
+    ///
+    /// ```
+    /// assert_eq!(sf::Urgency::DEFAULT.get(), 3);
+    /// ```
+    #[must_use]
+    pub const fn get(self) -> u8 {
+        self.0
+    }
+}
+
+impl Default for Urgency {
+    fn default() -> Urgency {
+        Urgency::DEFAULT
+    }
+}
+
+impl TryFrom<u8> for Urgency {
+    type Error = Error;
+
+    fn try_from(number: u8) -> Result<Urgency, Error> {
+        Urgency::new(number)
+    }
+}
+
+impl From<Urgency> for u8 {
+    fn from(urgency: Urgency) -> u8 {
+        urgency.0
+    }
+}
+
+impl PartialEq<u8> for Urgency {
+    fn eq(&self, other: &u8) -> bool {
+        self.0 == *other
+    }
+}
+
+impl fmt::Display for Urgency {
+    fn fmt(&self, f: &mut fmt::Formatter<'_>) -> fmt::Result {
+        self.0.fmt(f)
+    }
+}
+
+/// The parameters of a Priority field (RFC 9218 section 4); `None` is one that the field does not
+/// set. Its `Display` is the text of a field that sets what it sets, and nothing else.
+///
+/// ```
+/// let request: sf::Priority = "u=5, i".parse().unwrap();
+/// let response: sf::Priority = "u=1".parse().unwrap();
 /// let merged = request.merged_with(response);
-/// assert_eq!((merged.urgency(), merged.incremental()), (1, true));
+/// assert_eq!((merged.urgency().get(), merged.incremental()), (1, true));
+/// assert_eq!(merged.to_string(), "u=1, i");
 /// ```
 #[derive(Clone, Copy, Debug, Default, PartialEq, Eq, Hash)]
 pub struct Priority {
-    /// The urgency, from 0, the most urgent, to 7 (section 4.1).
-    pub urgency: Option<u8>,
+    /// The urgency (section 4.1).
+    pub urgency: Option<Urgency>,
     /// Whether the response is of use as it arrives (section 4.2).
     pub incremental: Option<bool>,
 }
 
 impl From<raw::PriorityFlags> for Priority {
     fn from(flags: raw::PriorityFlags) -> Priority {
+        let urgency = (flags.has_urgency != 0).then_some(flags.urgency);
         Priority {
-            urgency: (flags.has_urgency != 0).then_some(flags.urgency),
+            urgency: urgency.and_then(|number| Urgency::new(number).ok()),
             incremental: (flags.has_incremental != 0).then_some(flags.incremental != 0),
         }
     }
@@ -30,8 +114,8 @@ impl From<raw::PriorityFlags> for Priority {
 impl From<Priority> for raw::PriorityFlags {
     fn from(priority: Priority) -> raw::PriorityFlags {
         raw::PriorityFlags {
-            urgency: priority.urgency.unwrap_or(3),
-            incremental: u8::from(priority.incremental.unwrap_or(false)),
+            urgency: priority.urgency().get(),
+            incremental: u8::from(priority.incremental()),
             has_urgency: u8::from(priority.urgency.is_some()),
             has_incremental: u8::from(priority.incremental.is_some()),
         }
@@ -39,118 +123,86 @@ impl From<Priority> for raw::PriorityFlags {
 }
 
 impl Priority {
-    /// Reads the text of a Priority field (RFC 9218 section 5). Members that are unknown, of another
-    /// type or out of range are ignored.
+    /// Reads the text of a Priority field (RFC 9218 section 5). Members that are unknown, of
+    /// another type or out of range are ignored.
     ///
     /// # Errors
     ///
-    /// [`Error::Refused`] if the text is not a well-formed Dictionary. RFC 9218 lets a recipient treat
-    /// that as a field that is absent, as [`Error::as_absent`] does.
+    /// [`Error::Refused`] if the text is not a well-formed Dictionary. RFC 9218 lets a recipient
+    /// treat that as a field that is absent, as [`Error::as_absent`] does.
     ///
     /// ```
     /// let priority = sf::Priority::parse("u=8, i").unwrap(); // 8 is out of range
     /// assert_eq!((priority.urgency, priority.incremental), (None, Some(true)));
     /// ```
+    #[cfg(feature = "std")]
     pub fn parse(text: impl AsRef<[u8]>) -> Result<Priority, Error> {
         Parser::new().priority(text)
     }
 
-    pub(crate) fn read(seed: &Seed, text: &[u8]) -> Result<Priority, Error> {
-        let mut refusal = NO_REFUSAL;
-        let mut flags = Priority::default().into();
-        // SAFETY: as in `Parser::check`.
-        let status = unsafe {
-            raw::sf_priority(
-                &seed.bytes,
-                start(text),
-                text.len(),
-                &mut flags,
-                &mut refusal,
-            )
-        };
-        match status {
-            raw::OK => Ok(flags.into()),
-            status => Err(error(status, &refusal)),
-        }
-    }
-
     /// Merges the priority of a client's request, this one, with that of a server's response (RFC
-    /// 9218 section 8). Each parameter is the server's if the server sets it, otherwise the client's.
-    /// An urgency above 7 counts as not set.
+    /// 9218 section 8). Each parameter is the server's if the server sets it, otherwise the
+    /// client's.
     ///
     /// ```
     /// let request = sf::Priority::parse("u=5, i").unwrap();
     /// let response = sf::Priority::parse("i=?0").unwrap();
     /// let merged = request.merged_with(response);
-    /// assert_eq!((merged.urgency, merged.incremental), (Some(5), Some(false)));
+    /// assert_eq!((merged.urgency().get(), merged.incremental), (5, Some(false)));
     /// ```
     #[must_use]
     pub fn merged_with(self, server: Priority) -> Priority {
-        // SAFETY: the structs live for the call.
-        unsafe { raw::sf_priority_merge(&self.into(), &server.into()) }.into()
+        ffi::priority_merge(self.into(), server.into()).into()
     }
 
-    /// Writes the text of a Priority field that sets what this priority sets, and nothing else. If the
-    /// text is empty, the field is not to be sent. An urgency above 7 counts as not set.
+    /// Writes the text of a Priority field that sets what this priority sets, and nothing else, as
+    /// `to_string` does. If the text is empty, the field is not to be sent.
     ///
     /// # Errors
     ///
     /// [`Error::OutOfMemory`] only.
     ///
     /// ```
-    /// let priority = sf::Priority { urgency: Some(1), incremental: Some(true) };
+    /// let urgency = Some(sf::Urgency::new(1).unwrap());
+    /// let priority = sf::Priority { urgency, incremental: Some(true) };
     /// assert_eq!(priority.serialize().unwrap(), "u=1, i");
     /// assert_eq!(sf::Priority::default().serialize().unwrap(), "");
     /// ```
-    pub fn serialize(self) -> Result<String, Error> {
-        let flags = self.into();
-        // SAFETY: the struct lives for the call; the buffer is borrowed alone.
-        written(|buffer, length, required, _| unsafe {
-            raw::sf_priority_text(&flags, buffer, length, required)
-        })
+    #[cfg(feature = "alloc")]
+    pub fn serialize(self) -> Result<alloc::string::String, Error> {
+        crate::buffer::copied_text(self.text()?.as_str())
     }
 
-    /// Writes the canonical text of a Priority field with what this priority sets put into it, for a field
-    /// that is passed on: members that are unknown stay (RFC 9218 section 4), and so does what this
-    /// priority does not set. An urgency above 7 counts as not set.
+    fn text(self) -> Result<Short<16>, Error> {
+        Short::written(|buffer| ffi::priority_text(&self.into(), buffer))
+    }
+
+    /// Writes the canonical text of a Priority field with what this priority sets put into it, for
+    /// a field that is passed on: members that are unknown stay (RFC 9218 section 4), and so does
+    /// what this priority does not set.
     ///
     /// # Errors
     ///
     /// [`Error::Refused`] if the text is not a well-formed Dictionary.
     ///
     /// ```
-    /// let priority = sf::Priority { urgency: Some(1), incremental: None };
+    /// let urgency = Some(sf::Urgency::new(1).unwrap());
+    /// let priority = sf::Priority { urgency, incremental: None };
     /// assert_eq!(priority.change("u=5, x=(a  b), i").unwrap(), "u=1, x=(a b), i");
     /// ```
-    pub fn change(self, text: impl AsRef<[u8]>) -> Result<String, Error> {
+    #[cfg(feature = "std")]
+    pub fn change(self, text: impl AsRef<[u8]>) -> Result<alloc::string::String, Error> {
         Parser::new().change_priority(self, text)
-    }
-
-    pub(crate) fn put_into(self, seed: &Seed, text: &[u8]) -> Result<String, Error> {
-        let flags = self.into();
-        // SAFETY: as in `Parser::check`; the buffer is borrowed alone.
-        written(|buffer, length, required, refusal| unsafe {
-            raw::sf_priority_change(
-                &seed.bytes,
-                start(text),
-                text.len(),
-                &flags,
-                buffer,
-                length,
-                required,
-                refusal,
-            )
-        })
     }
 
     /// The urgency, 3 if it is not set (RFC 9218 section 4.1).
     ///
     /// ```
-    /// assert_eq!(sf::Priority::default().urgency(), 3);
+    /// assert_eq!(sf::Priority::default().urgency(), sf::Urgency::DEFAULT);
     /// ```
     #[must_use]
-    pub fn urgency(self) -> u8 {
-        self.urgency.unwrap_or(3)
+    pub fn urgency(self) -> Urgency {
+        self.urgency.unwrap_or_default()
     }
 
     /// Whether the response is of use as it arrives, false if it is not set (RFC 9218 section 4.2).
@@ -161,5 +213,50 @@ impl Priority {
     #[must_use]
     pub fn incremental(self) -> bool {
         self.incremental.unwrap_or(false)
+    }
+}
+
+impl fmt::Display for Priority {
+    fn fmt(&self, f: &mut fmt::Formatter<'_>) -> fmt::Result {
+        f.pad(self.text().map_err(|_| fmt::Error)?.as_str())
+    }
+}
+
+impl Parser {
+    /// Reads the text of a Priority field, by RFC 9651 whatever the dialect: see
+    /// [`Priority::parse`].
+    ///
+    /// # Errors
+    ///
+    /// [`Error::Refused`] if the text is not a well-formed Dictionary.
+    ///
+    /// ```
+    /// assert_eq!(sf::Parser::new().priority("u=1").unwrap().urgency().get(), 1);
+    /// ```
+    pub fn priority(&self, text: impl AsRef<[u8]>) -> Result<Priority, Error> {
+        ffi::priority(&self.seed(), text.as_ref()).map(Priority::from)
+    }
+
+    /// Puts what a priority sets into the text of a Priority field, by RFC 9651 whatever the
+    /// dialect: see [`Priority::change`].
+    ///
+    /// # Errors
+    ///
+    /// [`Error::Refused`] if the text is not a well-formed Dictionary.
+    ///
+    /// ```
+    /// let priority = sf::Priority { urgency: None, incremental: Some(true) };
+    /// assert_eq!(sf::Parser::new().change_priority(priority, "u=1, x").unwrap(), "u=1, x, i");
+    /// ```
+    #[cfg(feature = "alloc")]
+    pub fn change_priority(
+        &self,
+        priority: Priority,
+        text: impl AsRef<[u8]>,
+    ) -> Result<alloc::string::String, Error> {
+        let (seed, text) = (self.seed(), text.as_ref());
+        crate::buffer::written(128, |buffer| {
+            ffi::priority_change(&seed, text, &priority.into(), buffer)
+        })
     }
 }

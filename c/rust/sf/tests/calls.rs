@@ -1,9 +1,9 @@
 //! The crate from outside: what each call returns.
 
 use sf::{
-    check, equal, join, normalise, select, BareItem, Choice, Date, Decimal, Dialect, Dictionary,
-    Error, Forward, Forwarded, Hop, InnerList, Integer, Item, Key, Kind, List, Member, Name,
-    Outcome, Parameters, Parser, Path, Policy, Priority, Refusal, Role, Seed, Text, Token, Type,
+    check, equal, join, normalise, BareItem, Date, Decimal, Dialect, Dictionary, Error, InnerList,
+    Integer, Item, Key, Kind, List, ListEntry, Name, Parameters, Parser, Path, RefBareItem,
+    Refusal, Role, Seed, StringRef, Token, TokenRef,
 };
 
 fn old() -> Parser {
@@ -131,7 +131,7 @@ fn each_type_is_read() {
     let list = List::parse(text).unwrap();
     let items: Vec<_> = list
         .iter()
-        .filter_map(Member::as_item)
+        .filter_map(ListEntry::as_item)
         .map(|item| item.bare_item.clone())
         .collect();
     assert_eq!(
@@ -139,7 +139,7 @@ fn each_type_is_read() {
         [
             BareItem::Integer(Integer::from(-2)),
             BareItem::Decimal(Decimal::from_thousandths(3500).unwrap()),
-            BareItem::String(Text::new("s\"").unwrap()),
+            BareItem::String(sf::String::new("s\"").unwrap()),
             BareItem::Token(Token::new("t/*").unwrap()),
             BareItem::ByteSequence(b"b".to_vec()),
             BareItem::Boolean(false),
@@ -149,19 +149,21 @@ fn each_type_is_read() {
     );
     let text = format!("(1), {text}");
     let tree = Parser::new().tree(Kind::List, &text).unwrap();
-    let types: Vec<_> = tree.members().map(|member| member.get()).collect();
+    let types: Vec<_> = tree.members().map(|member| member.bare_item()).collect();
     assert_eq!(
         types,
         [
-            Type::InnerList,
-            Type::Integer(-2),
-            Type::Decimal(Decimal::from_thousandths(3500).unwrap()),
-            Type::String("s\""),
-            Type::Token("t/*"),
-            Type::ByteSequence(b"b"),
-            Type::Boolean(false),
-            Type::Date(Date::from_unix_seconds(-7).unwrap()),
-            Type::DisplayString("\u{fc}"),
+            None,
+            Some(RefBareItem::Integer(Integer::from(-2))),
+            Some(RefBareItem::Decimal(
+                Decimal::from_thousandths(3500).unwrap()
+            )),
+            Some(RefBareItem::String(StringRef::constant("s\""))),
+            Some(RefBareItem::Token(TokenRef::constant("t/*"))),
+            Some(RefBareItem::ByteSequence(b"b")),
+            Some(RefBareItem::Boolean(false)),
+            Some(RefBareItem::Date(Date::from_unix_seconds(-7).unwrap())),
+            Some(RefBareItem::DisplayString("\u{fc}")),
         ]
     );
 }
@@ -191,7 +193,7 @@ fn a_dictionary_is_read() {
     let field = Dictionary::parse("a=1,b;x, a=(1  2;z );y=:YQ:").unwrap();
     let keys: Vec<_> = field.iter().map(|(key, _)| key).collect();
     assert_eq!(keys, ["a", "b"]);
-    let inner = field.get("a").and_then(Member::as_inner_list).unwrap();
+    let inner = field.get("a").and_then(ListEntry::as_inner_list).unwrap();
     let numbers: Vec<_> = inner
         .items
         .iter()
@@ -242,7 +244,7 @@ fn fields_are_compared_and_cloned() {
 
 #[test]
 fn a_field_is_built() {
-    let text = |text: &str| Text::new(text).unwrap();
+    let text = |text: &str| sf::String::new(text).unwrap();
     let covered = InnerList::new([text("@method"), text("@path")])
         .with_param("created", 1)
         .unwrap()
@@ -261,7 +263,7 @@ fn a_field_is_built() {
         text("a\"b\\").into(),
         Token::new("*a/b:c").unwrap().into(),
         b"a".to_vec().into(),
-        (&b""[..]).into(),
+        Vec::new().into(),
         true.into(),
         false.into(),
         Date::from_unix_seconds(1_659_578_233).unwrap().into(),
@@ -275,7 +277,7 @@ fn a_field_is_built() {
     for (item, member) in items.iter().zip(expected.split(", ")) {
         assert_eq!(item.to_string(), member);
         assert_eq!(Item::new(item.clone()).to_string(), member);
-        assert_eq!(Member::from(item.clone()).to_string(), member);
+        assert_eq!(ListEntry::from(item.clone()).to_string(), member);
     }
 
     let mut item = Item::new(Token::new("t").unwrap());
@@ -288,7 +290,7 @@ fn a_field_is_built() {
     let expected = "(t;a=7;*b=-999999999999999;c_-.*9=-0.5 ?1);a";
     assert_eq!(inner.to_string(), expected);
     let list: List = [
-        Member::from(inner),
+        ListEntry::from(inner),
         InnerList::default().into(),
         item.into(),
     ]
@@ -307,12 +309,12 @@ fn a_field_is_built() {
 fn a_parsed_field_is_changed() {
     let mut field = Dictionary::parse("a=1,  b=(x \"y\\\"\");z, c;q=0.5").unwrap();
     let was = field.insert("a", Token::new("t").unwrap()).unwrap();
-    assert_eq!(was, Some(Member::from(1)));
+    assert_eq!(was, Some(ListEntry::from(1)));
     assert_eq!(field.insert(String::from("d"), false), Ok(None));
     assert_eq!(field.insert(Key::new("e").unwrap(), 5_u8), Ok(None));
     assert_eq!(field.remove("x"), None);
     let inner = match field.get_mut("b") {
-        Some(Member::InnerList(inner)) => inner,
+        Some(ListEntry::InnerList(inner)) => inner,
         other => panic!("{other:?}"),
     };
     inner.items.remove(0);
@@ -334,7 +336,7 @@ fn a_parsed_field_is_changed() {
     let mut list = List::parse("a, b").unwrap();
     list.insert(1, InnerList::new([1, 2]).into());
     list.swap(0, 2);
-    for member in list.iter_mut() {
+    for member in &mut list {
         member.params_mut().insert("n", 1).unwrap();
     }
     assert_eq!(list.to_string(), "b;n=1, (1 2);n=1, a;n=1");
@@ -358,8 +360,8 @@ fn a_parsed_field_is_changed() {
     assert_eq!(dict.to_string(), "a=3, b=?0, c");
 }
 
-// Every text of one character, and of two of ASCII: it is a key, a Token or the text of a String if and
-// only if the library has it as one.
+// Every text of one character, and of two of ASCII: it is a key, a Token or the text of a String if
+// and only if the library has it as one.
 #[test]
 fn what_is_checked_is_what_the_library_accepts() {
     let mut counts = [0; 3];
@@ -375,7 +377,7 @@ fn what_is_checked_is_what_the_library_accepts() {
         let is_text = of(Kind::Item, &quoted, &quoted);
         assert_eq!(Key::new(text).is_ok(), is_key, "{text:?}");
         assert_eq!(Token::new(text).is_ok(), is_token, "{text:?}");
-        assert_eq!(Text::new(text).is_ok(), is_text, "{text:?}");
+        assert_eq!(sf::String::new(text).is_ok(), is_text, "{text:?}");
         for (count, is) in counts.iter_mut().zip([is_key, is_token, is_text]) {
             *count += i32::from(is);
         }
@@ -386,7 +388,7 @@ fn what_is_checked_is_what_the_library_accepts() {
         if let Ok(token) = Token::new(text) {
             assert_eq!(Item::new(token).to_string(), text);
         }
-        if let Ok(it) = Text::new(text) {
+        if let Ok(it) = sf::String::new(text) {
             assert_eq!(Item::new(it).to_string(), quoted);
         }
     };
@@ -451,8 +453,9 @@ fn a_tree_is_written_and_borrows_its_text() {
     let within = |part: &str| text.as_bytes().as_ptr_range().contains(&part.as_ptr());
     let strings: Vec<_> = tree
         .members()
-        .map(|member| match member.get() {
-            Type::String(part) | Type::Token(part) => (within(member.key()), within(part)),
+        .map(|member| match member.bare_item() {
+            Some(RefBareItem::String(part)) => (within(member.key()), within(part)),
+            Some(RefBareItem::Token(part)) => (within(member.key()), within(part)),
             other => panic!("{other:?}"),
         })
         .collect();
@@ -466,22 +469,26 @@ fn a_tree_is_walked() {
         .unwrap();
     let members: Vec<_> = tree.members().collect();
     assert_eq!(members.len(), 2);
-    assert_eq!((members[0].key(), members[0].role()), ("a", Role::Member));
-    assert_eq!(members[0].get(), Type::InnerList);
+    assert_eq!(
+        (members[0].key().as_str(), members[0].role()),
+        ("a", Role::Member)
+    );
+    assert_eq!(members[0].bare_item(), None);
+    assert!(members[0].is_inner_list() && !members[1].is_inner_list());
     let inside: Vec<_> = members[0]
         .children()
-        .map(|child| (child.role(), child.key(), child.get()))
+        .map(|child| (child.role(), child.key().as_str(), child.bare_item()))
         .collect();
     assert_eq!(
         inside,
         [
-            (Role::InnerItem, "", Type::Integer(1)),
-            (Role::InnerItem, "", Type::Integer(2)),
-            (Role::Parameter, "y", Type::ByteSequence(b"a")),
+            (Role::InnerItem, "", Some(1.into())),
+            (Role::InnerItem, "", Some(2.into())),
+            (Role::Parameter, "y", Some(RefBareItem::ByteSequence(b"a"))),
         ]
     );
-    assert_eq!(members[0].param("y"), Some(Type::ByteSequence(b"a")));
-    assert_eq!(members[1].get(), Type::Boolean(true));
+    assert_eq!(members[0].param("y"), Some(RefBareItem::ByteSequence(b"a")));
+    assert_eq!(members[1].bare_item(), Some(true.into()));
     assert_eq!(members[1].children().count(), 1);
     assert!(tree.get("b").is_some() && tree.get("x").is_none());
     let empty = Parser::new().tree(Kind::List, "").unwrap();
@@ -498,7 +505,7 @@ fn a_text_of_many_nodes_is_parsed() {
     let text = vec!["a"; 1000].join(",");
     let path = Path::parse(&text).unwrap();
     assert_eq!(path.hops().len(), 1000);
-    assert!(path.hops().all(|hop| hop.name == Name::Token("a")));
+    assert!(path.hops().all(|hop| hop.name == Name::token("a").unwrap()));
 }
 
 #[test]
@@ -506,241 +513,13 @@ fn values_are_shown() {
     let tree = Parser::new().tree(Kind::Item, "1;a").unwrap();
     assert_eq!(
         format!("{tree:?}"),
-        "Tree([Node { role: Member, key: \"\", type: Integer(1), children: [Node { \
-         role: Parameter, key: \"a\", type: Boolean(true), children: [] }] }])"
+        "Tree([Node { role: Member, key: \"\", bare_item: Some(Integer(Integer(1))), children: [Node { \
+         role: Parameter, key: \"a\", bare_item: Some(Boolean(true)), children: [] }] }])"
     );
     assert_eq!(
         format!("{:?}", Path::parse("a;hit").unwrap()),
-        "Path { hops: [Hop { name: Token(\"a\"), outcome: Hit, ttl: None, key: None, \
+        "Path { hops: [Hop { name: Token(TokenRef(\"a\")), outcome: Hit, ttl: None, key: None, \
          detail: None }], served_by: Some(0) }"
     );
     assert_eq!(format!("{:?}", Seed::from_bytes([7; 16])), "Seed(..)");
-}
-
-#[test]
-fn priorities_are_merged() {
-    let client = Priority::parse("u=5, i").unwrap();
-    let server = Priority::parse("u=1").unwrap();
-    let merged = client.merged_with(server);
-    assert_eq!((merged.urgency, merged.incremental), (Some(1), Some(true)));
-    assert_eq!((merged.urgency(), merged.incremental()), (1, true));
-    for text in ["u=1, i", "u=0", "u=7, i=?0", "i", ""] {
-        assert_eq!(Priority::parse(text).unwrap().serialize().unwrap(), text);
-    }
-    let change = |urgency, incremental, text: &str| {
-        let priority = Priority {
-            urgency,
-            incremental,
-        };
-        priority.change(text)
-    };
-    assert_eq!(change(Some(1), Some(true), "").unwrap(), "u=1, i");
-    assert_eq!(change(None, None, "u=5,i").unwrap(), "u=5, i");
-    assert_eq!(
-        change(Some(0), Some(false), "x=(a  b);c, u=7, y=%\"%c3%bc\"").unwrap(),
-        "x=(a b);c, u=0, y=%\"%c3%bc\", i=?0"
-    );
-    assert_eq!(change(Some(8), None, "u=2").unwrap(), "u=2");
-    assert_eq!(refusal(change(Some(1), None, "u=1,")).offset, 4);
-    let nothing = Priority::parse("u=8").unwrap();
-    assert_eq!(nothing, Priority::default());
-    assert_eq!((nothing.urgency(), nothing.incremental()), (3, false));
-}
-
-#[test]
-fn a_refused_field_counts_as_absent() {
-    let refused = Priority::parse("u=1,").or_else(Error::as_absent);
-    assert_eq!(refused, Ok(Priority::default()));
-    let refused = Policy::parse("max-age=1,").or_else(Error::as_absent);
-    assert_eq!(refused, Ok(None));
-    let short: Result<Priority, _> = Error::OutOfMemory.as_absent();
-    assert_eq!(short, Err(Error::OutOfMemory));
-    let second = equal(Kind::Item, "1", "").unwrap_err();
-    assert_eq!(second.as_absent::<bool>(), Err(second));
-}
-
-#[test]
-fn a_hop_is_appended() {
-    let forwarded = Forwarded::new(Forward::UriMiss)
-        .with_status(200)
-        .with_stored(true)
-        .with_collapsed(false);
-    let hop = Hop::new(Name::Token("here")).with_outcome(forwarded);
-    let own = "here;fwd=uri-miss;fwd-status=200;stored;collapsed=?0";
-    let of = |lines: &[&str]| String::from_utf8(hop.append_to(lines).unwrap()).unwrap();
-    assert_eq!(of(&[]), own);
-    assert_eq!(of(&[""]), own);
-    assert_eq!(of(&["a;hit"]), format!("a;hit, {own}"));
-    assert_eq!(of(&["a", "", "b, c"]), format!("a, b, c, {own}"));
-    let path = Path::parse(of(&["a", "b"])).unwrap();
-    assert_eq!(path.hops().last(), Some(hop));
-    let invalid = Hop::new(Name::Token("a b")).with_outcome(Outcome::Hit);
-    assert_eq!(invalid.append_to([""]), Err(Error::Invalid));
-}
-
-#[test]
-fn a_field_of_a_target_list_is_chosen() {
-    type Chosen = Option<(usize, u64)>;
-    let fields: [(&[&str], Chosen); 9] = [
-        (&[], None),
-        (&[""], None),
-        (&["max-age=60,", "", "  "], None),
-        (&["max-age=60"], Some((0, 60))),
-        (&["max-age=60", "max-age=600"], Some((0, 60))),
-        (&["", "max-age=600"], Some((1, 600))),
-        (&["max-age=60,", "max-age=600", "max-age=1"], Some((1, 600))),
-        (&["a b", "", "(a)", "max-age=9, x", ""], Some((3, 9))),
-        (&["max-age=1, max-age=2"], Some((0, 2))),
-    ];
-    for (texts, expected) in fields {
-        let choice = select(texts).unwrap();
-        let expected = expected.map(|(index, seconds)| Choice::Field {
-            index,
-            policy: Policy {
-                max_age: Some(seconds),
-                ..Policy::default()
-            },
-        });
-        assert_eq!(choice, expected.unwrap_or(Choice::Fallback), "{texts:?}");
-        assert_eq!(choice.index(), expected.and_then(|choice| choice.index()));
-        assert_eq!(
-            choice.policy().is_none(),
-            matches!(choice, Choice::Fallback)
-        );
-    }
-    let chosen = old().select(["@1", "max-age=60;x=@1"]).unwrap();
-    assert!(matches!(chosen, Choice::Field { index: 1, .. }));
-}
-
-#[test]
-fn policies_are_read() {
-    let policy = Policy::parse("max-age=30, s-maxage=90, no-store=?0").unwrap();
-    let expected = Policy {
-        max_age: Some(30),
-        s_maxage: Some(90),
-        ..Policy::default()
-    };
-    assert_eq!(policy, Some(expected));
-    assert_eq!(expected.lifetime(true), Some(90));
-    assert_eq!(expected.lifetime(false), Some(30));
-    assert_eq!(Policy::default().lifetime(true), None);
-    assert_eq!(Policy::parse(""), Ok(None));
-    assert!(Policy::parse("max-age=60,").is_err());
-    let all = "must-revalidate, no-store, no-cache, private";
-    let all = Policy::parse(all).unwrap().unwrap();
-    assert!(all.must_revalidate && all.no_store && all.no_cache && all.is_private);
-}
-
-#[test]
-fn a_path_is_read() {
-    let text = "origin; fwd=stale; fwd-status=304; collapsed, \"edge\"; hit; ttl=30; key=\"k\"";
-    let path = Path::parse(text).unwrap();
-    let forwarded = Forwarded {
-        why: Forward::Stale,
-        status: Some(304),
-        stored: None,
-        collapsed: Some(true),
-    };
-    let origin = Hop {
-        name: Name::Token("origin"),
-        outcome: Outcome::Forwarded(forwarded),
-        ttl: None,
-        key: None,
-        detail: None,
-    };
-    let edge = Hop {
-        name: Name::String("edge"),
-        outcome: Outcome::Hit,
-        ttl: Some(30),
-        key: Some("k"),
-        detail: None,
-    };
-    assert_eq!(path.hops().collect::<Vec<_>>(), [origin, edge]);
-    assert_eq!(path.served_by(), Some(1));
-    assert_eq!(path, path.clone());
-
-    let reasons: [(&str, Forward<'_>); 9] = [
-        ("bypass", Forward::Bypass),
-        ("method", Forward::Method),
-        ("uri-miss", Forward::UriMiss),
-        ("vary-miss", Forward::VaryMiss),
-        ("miss", Forward::Miss),
-        ("request", Forward::Request),
-        ("stale", Forward::Stale),
-        ("partial", Forward::Partial),
-        ("odd", Forward::Other("odd")),
-    ];
-    for (word, why) in reasons {
-        let path = Path::parse(format!("c;fwd={word}")).unwrap();
-        let hop = path.hops().next().unwrap();
-        assert!(matches!(hop.outcome, Outcome::Forwarded(forwarded) if forwarded.why == why));
-        assert_eq!(why.as_str(), word);
-    }
-    let path = Path::parse("c").unwrap();
-    assert_eq!(path.hops().next().unwrap().outcome, Outcome::Unsaid);
-
-    let path = Path::parse("c;hit;fwd=odd;detail=d").unwrap();
-    let hop = path.hops().next().unwrap();
-    let odd = Forward::Other("odd");
-    assert!(matches!(hop.outcome, Outcome::Conflict(forwarded) if forwarded.why == odd));
-    assert_eq!(hop.detail, Some(Name::Token("d")));
-    assert_eq!(path.served_by(), None);
-    assert_eq!(Path::parse("").unwrap().hops().len(), 0);
-    assert_eq!(Path::parse("a, (b), 7").err(), Some(Error::NotACache(1)));
-}
-
-#[test]
-fn a_hop_is_written() {
-    let lines = [
-        "ExampleCache;hit",
-        "\"CDN Company Here\";hit;ttl=545",
-        "OriginCache;hit;ttl=1100",
-        "a;fwd=bypass",
-        "a;fwd=odd;fwd-status=304;stored;collapsed",
-        "a;fwd=stale;stored=?0;collapsed=?0",
-        "a;hit;fwd=miss",
-        "\"a\\\"b\";key=\"k\";detail=\"d\"",
-        "a;ttl=-412;detail=d",
-    ];
-    for line in lines {
-        let path = Path::parse(line).unwrap();
-        let hop = path.hops().next().unwrap();
-        let again = hop.serialize().unwrap();
-        assert_eq!(Path::parse(&again).unwrap(), path, "{line}");
-    }
-    for why in [
-        Forward::Bypass,
-        Forward::Method,
-        Forward::UriMiss,
-        Forward::VaryMiss,
-        Forward::Miss,
-        Forward::Request,
-        Forward::Stale,
-        Forward::Partial,
-        Forward::Other("odd"),
-    ] {
-        let mut hop = Hop::new(Name::Token("a"));
-        hop.outcome = Outcome::Forwarded(Forwarded::new(why));
-        let path = Path::parse(hop.serialize().unwrap()).unwrap();
-        assert_eq!(path.hops().collect::<Vec<_>>(), [hop]);
-    }
-    let invalid = |change: &dyn Fn(&mut Hop<'_>)| {
-        let mut hop = Hop::new(Name::Token("a"));
-        change(&mut hop);
-        assert_eq!(hop.serialize(), Err(Error::Invalid));
-    };
-    invalid(&|hop| hop.name = Name::Token(""));
-    invalid(&|hop| hop.name = Name::String("\u{fc}"));
-    invalid(&|hop| hop.ttl = Some(1_000_000_000_000_000));
-    invalid(&|hop| hop.key = Some("\n"));
-    invalid(&|hop| hop.detail = Some(Name::Token("a b")));
-    invalid(&|hop| {
-        let mut forwarded = Forwarded::new(Forward::Miss);
-        forwarded.status = Some(99);
-        hop.outcome = Outcome::Forwarded(forwarded);
-    });
-    assert_eq!(
-        Error::Invalid.to_string(),
-        "not a value of a structured field"
-    );
 }

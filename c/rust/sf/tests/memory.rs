@@ -1,8 +1,6 @@
 //! Failed allocations of the crate's own vectors: an error, and no abort.
 
-use sf::{
-    join, normalise, select, Dictionary, Error, Hop, Kind, List, Name, Parser, Path, Priority,
-};
+use sf::{join, normalise, Dictionary, Error, Hop, Kind, List, Parser, Path, Priority, StringRef};
 use std::alloc::{GlobalAlloc, Layout, System};
 use std::cell::Cell;
 use std::ptr::null_mut;
@@ -88,8 +86,7 @@ fn a_failed_allocation_is_an_error() {
     let priority = Priority::default();
     each_refused(|| priority.change("u=1, x=(a b)"));
     each_refused(|| Path::parse("a;fwd=miss, \"b\";hit"));
-    each_refused(|| select(["max-age=1,", "", "max-age=60"]));
-    let hop = Hop::new(Name::String("edge"));
+    let hop = Hop::new(StringRef::constant("edge"));
     each_refused(|| hop.serialize());
     let priority = Priority::parse("u=1").unwrap();
     each_refused(|| priority.serialize());

@@ -1,7 +1,8 @@
 //! Texts put together at random, which no call may panic on, and on which the calls must agree.
 
 use sf::{
-    check, equal, normalise, Dictionary, Error, Field, Item, Kind, List, Parser, Path, Priority,
+    check, equal, normalise, Dictionary, Error, FieldType, Item, Kind, List, ListEntry, Parser,
+    Path, Priority, Urgency,
 };
 
 const PARTS: [&[u8]; 40] = [
@@ -62,7 +63,7 @@ impl Numbers {
 
 fn agree<T>(kind: Kind, text: &[u8])
 where
-    T: Field + PartialEq + std::fmt::Debug,
+    T: FieldType + PartialEq + std::fmt::Debug,
 {
     let parsed: Result<T, Error> = Parser::new().parse(text);
     let checked = check(kind, text);
@@ -93,6 +94,75 @@ where
     }
 }
 
+// A part is what a field has that has nothing else; and a refusal of one is where the longest
+// prefix ends that some part begins with, and has the bytes by which it can be continued.
+fn part_agrees<T: PartialEq + std::fmt::Debug>(
+    text: &[u8],
+    read: impl Fn(&[u8]) -> Result<T, Error>,
+    expected: Option<&T>,
+) -> bool {
+    let found = read(text);
+    let is_part = found.is_ok();
+    match found {
+        Ok(part) => assert_eq!(Some(&part), expected, "{text:?}"),
+        Err(Error::Refused(refusal)) => {
+            assert_eq!(None, expected, "{text:?}");
+            let offset = usize::try_from(refusal.offset).unwrap();
+            assert_eq!(refusal.found, text.get(offset).copied());
+            let prefix = &text[..offset];
+            let ends = read(prefix);
+            assert_eq!(
+                ends.is_ok(),
+                refusal.found.is_some() && refusal.may_end,
+                "{text:?}"
+            );
+            for byte in 0..=255 {
+                let longer = [prefix, &[byte]].concat();
+                let place = read(&longer).err().and_then(|error| error.refusal());
+                let is_viable = place.map_or(true, |refusal| refusal.offset > offset as u64);
+                assert_eq!(is_viable, refusal.expects(byte), "{text:?} with {byte}");
+            }
+        }
+        Err(error) => panic!("{error}"),
+    }
+    is_part
+}
+
+#[test]
+fn parts_agree_with_fields() {
+    let mut numbers = Numbers(2);
+    let mut counts = [0; 4];
+    for number in 0..2000 {
+        let mut text = Vec::new();
+        for _ in 0..numbers.below(7) {
+            text.extend_from_slice(PARTS[numbers.below(PARTS.len())]);
+        }
+        if number % 4 == 0 {
+            text = [b"(", &text[..], b")"].concat();
+        }
+        let parser = Parser::new();
+        let item = Item::parse(&text)
+            .ok()
+            .filter(|item| item.params.is_empty());
+        let mut list = List::parse(&text).unwrap_or_default();
+        let only = if list.len() == 1 { list.pop() } else { None };
+        let inner = only.as_ref().and_then(ListEntry::as_inner_list).cloned();
+        let params = Item::parse([b"?1", &text[..]].concat()).map(|item| item.params);
+        let bare_item = item.map(|item| item.bare_item);
+        let params = params.ok();
+        let parts = [
+            part_agrees(&text, |text| parser.bare_item(text), bare_item.as_ref()),
+            part_agrees(&text, |text| parser.list_entry(text), only.as_ref()),
+            part_agrees(&text, |text| parser.inner_list(text), inner.as_ref()),
+            part_agrees(&text, |text| parser.parameters(text), params.as_ref()),
+        ];
+        for (count, is_part) in counts.iter_mut().zip(parts) {
+            *count += u32::from(is_part);
+        }
+    }
+    assert!(counts.iter().all(|count| *count > 20), "{counts:?}");
+}
+
 #[test]
 fn any_text_is_parsed_or_refused() {
     let mut numbers = Numbers(1);
@@ -107,7 +177,7 @@ fn any_text_is_parsed_or_refused() {
         agree::<Dictionary>(Kind::Dict, &text);
         if check(Kind::Dict, &text).is_ok() {
             let sets = Priority {
-                urgency: Some(1),
+                urgency: Some(Urgency::MOST),
                 incremental: None,
             };
             let changed = sets.change(&text).unwrap();

@@ -8,13 +8,13 @@ use Rattle.sf_value.specs.declared.dialect.Dialect.TheVariants.{Rfc8941, Rfc9651
 use Rattle.sf_value.specs.declared.value.Bare.{Bare}
 use Rattle.sf_value.specs.declared.value.Bare.TheVariants.{Integer, Decimal, Text, Token}
 use Rattle.sf_value.specs.declared.value.Bare.TheVariants.{Blob, Boolean, Date, Shown}
-use Rattle.sf_rfc.specs.Rfc9651.Words.{Parse, and_then, first_is, before, from, only_if}
+use Rattle.sf_rfc.specs.Rfc9651.Words.{Parse, and_then, first_is, before, from}
 use Rattle.sf_rfc.specs.Rfc9651.Words.{place_from}
 use Rattle.sf_rfc.specs.Rfc9651.Alphabets.{is_DIGIT, is_ALPHA, is_any_of, is_unprintable}
 use Rattle.sf_rfc.specs.Rfc9651.Alphabets.{can_start_token, can_be_in_token, needs_escape}
 use Rattle.sf_rfc.specs.Rfc9651.Alphabets.{is_lower_hex}
 use Rattle.sf_rfc.specs.Rfc9651.Base64.{base64_decode}
-use Rattle.sf_rfc.specs.Rfc9651.Utf8.{is_utf8}
+use Rattle.sf_rfc.specs.Rfc9651.Utf8Coding.{utf8_encode, utf8_decode}
 
 -- 4.2.4, Parsing an Integer or Decimal
 
@@ -231,8 +231,8 @@ abbrev mutual
       | true ↦ display_octet bytes t
       -- 4.4: DQUOTE
       | false ↦ elim (char == 34) [
-        -- 4.4.1: byte_array is decoded as UTF-8, or fails; 4.4.2: return the code points
-        | true ↦ only_if (is_utf8 bytes) (bytes, t)
+        -- 4.4.1: byte_array is decoded as UTF-8, or fails; 4.4.2: return unicode_sequence
+        | true ↦ and_then (utf8_decode bytes) (λ sequence. Some (sequence, t))
         -- 4.5: append the byte of char
         | false ↦ display_loop (bytes ++ char ∷ []) t
       ]
@@ -267,6 +267,11 @@ parse_display_string _ = None
 abbrev pub as_bare : {A : Type 0} → (A → Bare) → Option (A × List ℕ) → Option (Bare × List ℕ)
 as_bare f o = and_then o (λ (x, t). Some (f x, t))
 
+-- a Display String: a value holds its code points as the octets of their UTF-8
+abbrev pub as_shown : Option (List ℕ × List ℕ) → Option (Bare × List ℕ)
+as_shown o = and_then o (λ (sequence, t).
+    and_then (utf8_encode sequence) (λ octets. Some (Shown octets, t)))
+
 -- the types that RFC 9651 adds to RFC 8941
 abbrev pub parse_added : Dialect → Parse Bare
 -- RFC 8941 has no steps for them: its last step fails
@@ -275,7 +280,7 @@ parse_added Rfc8941 t = None
 parse_added Rfc9651 t = elim (first_is (λ c. c == 64) t) [
   | true ↦ parse_date t
   | false ↦ elim (first_is (λ c. c == 37) t) [
-    | true ↦ as_bare Shown (parse_display_string t)
+    | true ↦ as_shown (parse_display_string t)
     | false ↦ None
   ]
 ]

@@ -1,8 +1,10 @@
 -- Serialising bare items: sections 4.1.3.1 and 4.1.4 to 4.1.11.
 use Rattle.std.specs.List.{list_all}
-use Rattle.std.specs.Prelude.{ℕ, zero, suc, ◌+◌, ◌/◌, ◌%◌, Bool, true, false, not, ◌==◌}
-use Rattle.std.specs.Prelude.{nat_lt, nat_le, ◌&&◌, ◌||◌, ℤ, pos, negsuc, nat_abs, List, [], ◌∷◌}
-use Rattle.std.specs.Prelude.{◌++◌, get_or, codes, Option, Some}
+use Rattle.std.specs.Prelude.{ℕ, zero, suc, ◌+◌, ◌*◌, ◌/◌, ◌%◌, ◌^◌, Bool, true, false, not, ◌==◌}
+use Rattle.std.specs.Prelude.{nat_lt, nat_le, ◌&&◌, ◌||◌, ℤ, pos, negsuc, neg_ℤ, nat_abs, List, []}
+use Rattle.std.specs.Prelude.{◌∷◌, ◌++◌, get_or, codes, Option, Some, None}
+use Rattle.sf_value.specs.declared.dialect.Dialect.{Dialect}
+use Rattle.sf_value.specs.declared.dialect.Dialect.TheVariants.{Rfc8941, Rfc9651}
 use Rattle.sf_value.specs.declared.value.Bare.{Bare}
 use Rattle.sf_value.specs.declared.value.Bare.TheVariants.{Integer, Decimal, Text, Token}
 use Rattle.sf_value.specs.declared.value.Bare.TheVariants.{Blob, Boolean, Date, Shown}
@@ -10,7 +12,7 @@ use Rattle.sf_rfc.specs.Rfc9651.Words.{and_then, first_is, only_if}
 use Rattle.sf_rfc.specs.Rfc9651.Alphabets.{in_range, is_ascii, is_unprintable, needs_escape}
 use Rattle.sf_rfc.specs.Rfc9651.Alphabets.{can_start_token, can_be_in_token}
 use Rattle.sf_rfc.specs.Rfc9651.Base64.{base64_encode}
-use Rattle.sf_rfc.specs.Rfc9651.Utf8.{is_utf8}
+use Rattle.sf_rfc.specs.Rfc9651.Utf8Coding.{utf8_encode, utf8_decode}
 
 -- 4.1.4, Serialising an Integer
 
@@ -38,7 +40,39 @@ abbrev pub serialise_integer : ℤ → Option (List ℕ)
 serialise_integer z = only_if (nat_le (nat_abs z) 999999999999999)
     (minus_sign z ++ in_base10 (nat_abs z))
 
--- 4.1.5, Serialising a Decimal: a value holds it as a whole number of thousandths
+-- 4.1.5, Serialising a Decimal
+
+-- a number: numerator over denominator
+pub record Fraction : Type 0 where
+  pub numerator : ℤ
+  pub denominator : ℕ
+
+-- the decimal number with the digits of a mantissa, this many of them to the right of the point
+abbrev pub decimal_number : ℤ → ℕ → Fraction
+decimal_number mantissa places = record { numerator = mantissa; denominator = 10 ^ places }
+
+-- 2: a quotient and its remainder, rounded to the nearest value, or to the even value if it is
+-- equidistant
+abbrev pub to_nearest : ℕ → ℕ → ℕ → ℕ
+to_nearest divisor quotient remainder = elim (nat_lt (2 * remainder) divisor) [
+  | true ↦ quotient
+  | false ↦ elim (nat_lt divisor (2 * remainder)) [
+    | true ↦ quotient + 1
+    | false ↦ quotient + quotient % 2
+  ]
+]
+
+-- the number with the sign of another
+abbrev pub with_sign : ℤ → ℕ → ℤ
+with_sign (pos n) m = pos m
+with_sign (negsuc n) m = neg_ℤ (pos m)
+
+-- 2: rounded to three decimal places, as a whole number of thousandths; a number with at most three
+-- significant digits to the right of the point has no remainder, and stays as it is
+abbrev pub rounded : Fraction → ℤ
+rounded x =
+    let n : ℕ = nat_abs x.numerator * 1000 in
+    with_sign x.numerator (to_nearest x.denominator (n / x.denominator) (n % x.denominator))
 
 -- 9: the significant digits of a fraction: those up to the last that is not "0"
 abbrev pub significant : List ℕ → List ℕ
@@ -56,17 +90,28 @@ serialise_fraction f = elim (f == 0) [
   | false ↦ significant ((48 + f / 100) ∷ (48 + f / 10 % 10) ∷ (48 + f % 10) ∷ [])
 ]
 
--- 1: by its type it is a decimal number
--- 2: with three digits after the point there is nothing to round
--- 3: more than 12 digits before the point fail
+-- 3: more than 12 digits to the left of the point after rounding fail
 -- 4, 5: from the empty string on, "-" if it is less than 0
--- 6: the whole part in base 10, which is "0" if it is zero
+-- 6: the integer component in base 10, which is "0" if it is zero
 -- 7: "."
--- 8, 9: the fraction
+-- 8, 9: the fractional component
 -- 10: output
-abbrev pub serialise_decimal : ℤ → Option (List ℕ)
-serialise_decimal z = only_if (nat_lt (nat_abs z / 1000) 1000000000000)
+abbrev pub serialise_rounded : ℤ → Option (List ℕ)
+serialise_rounded z = only_if (nat_lt (nat_abs z / 1000) 1000000000000)
     (minus_sign z ++ (in_base10 (nat_abs z / 1000) ++ 46 ∷ serialise_fraction (nat_abs z % 1000)))
+
+-- 1: what is not a decimal number fails: nothing over 0 is a number
+-- 2: the number is rounded
+-- 3 to 10: and written
+abbrev pub serialise_decimal : Fraction → Option (List ℕ)
+serialise_decimal x = elim (x.denominator == 0) [
+  | true ↦ None
+  | false ↦ serialise_rounded (rounded x)
+]
+
+-- the number that a value holds as a whole number of thousandths
+abbrev pub thousandths : ℤ → Fraction
+thousandths z = record { numerator = z; denominator = 1000 }
 
 -- 4.1.6, Serialising a String
 
@@ -135,7 +180,7 @@ serialise_boolean false = Some (63 ∷ 48 ∷ [])
 abbrev pub serialise_date : ℤ → Option (List ℕ)
 serialise_date z = and_then (serialise_integer z) (λ s. Some (64 ∷ s))
 
--- 4.1.11, Serialising a Display String: a value holds its code points as the bytes of their UTF-8
+-- 4.1.11, Serialising a Display String
 
 -- 4.1.2: the character of four bits in base16 (RFC 4648 section 8), letters in lower case
 unfoldable pub hex_character : ℕ → ℕ
@@ -152,30 +197,44 @@ display_bytes (byte ∷ t) = elim (byte == 37 || (byte == 34 || is_unprintable b
   | false ↦ byte ∷ display_bytes t
 ]
 
--- 1, 2: what is not a sequence of code points, or can't be encoded as UTF-8, fails: bytes that are
--- not the UTF-8 of any
+-- 1: by its type it is a sequence of numbers, which step 2 encodes if they are Unicode code points
+-- 2: byte_array is its UTF-8 encoding (RFC 3629 section 3), or it fails
 -- 3: "%" and DQUOTE
 -- 4: the bytes
 -- 5: DQUOTE
 -- 6: encoded_string
 abbrev pub serialise_display_string : List ℕ → Option (List ℕ)
-serialise_display_string s = only_if (is_utf8 s) (37 ∷ 34 ∷ (display_bytes s ++ 34 ∷ []))
+serialise_display_string sequence = and_then (utf8_encode sequence) (λ byte_array.
+    Some (37 ∷ 34 ∷ (display_bytes byte_array ++ 34 ∷ [])))
 
--- 4.1.3.1, Serialising a Bare Item: step 9, that anything else fails, has no case here
-abbrev pub serialise_bare : Bare → Option (List ℕ)
+-- a value holds the code points of a Display String as the octets of their UTF-8. 1: octets that are
+-- the UTF-8 of none are no sequence of code points, and fail
+abbrev pub serialise_shown : List ℕ → Option (List ℕ)
+serialise_shown octets = and_then (utf8_decode octets) serialise_display_string
+
+-- 4.1.3.1, Serialising a Bare Item
+
+-- the types that RFC 9651 adds to RFC 8941
+abbrev pub serialise_added : Dialect → Option (List ℕ) → Option (List ℕ)
+-- RFC 8941 has no steps for them: its last step fails
+serialise_added Rfc8941 o = None
+serialise_added Rfc9651 o = o
+
+-- 9: that anything else fails has no case here
+abbrev pub serialise_bare : Dialect → Bare → Option (List ℕ)
 -- 1: an Integer by 4.1.4
-serialise_bare (Integer z) = serialise_integer z
+serialise_bare d (Integer z) = serialise_integer z
 -- 2: a Decimal by 4.1.5
-serialise_bare (Decimal z) = serialise_decimal z
+serialise_bare d (Decimal z) = serialise_decimal (thousandths z)
 -- 3: a String by 4.1.6
-serialise_bare (Text s) = serialise_string s
+serialise_bare d (Text s) = serialise_string s
 -- 4: a Token by 4.1.7
-serialise_bare (Token s) = serialise_token s
+serialise_bare d (Token s) = serialise_token s
 -- 5: a Byte Sequence by 4.1.8
-serialise_bare (Blob s) = serialise_byte_sequence s
+serialise_bare d (Blob s) = serialise_byte_sequence s
 -- 6: a Boolean by 4.1.9
-serialise_bare (Boolean b) = serialise_boolean b
+serialise_bare d (Boolean b) = serialise_boolean b
 -- 7: a Date by 4.1.10
-serialise_bare (Date z) = serialise_date z
+serialise_bare d (Date z) = serialise_added d (serialise_date z)
 -- 8: a Display String by 4.1.11
-serialise_bare (Shown s) = serialise_display_string s
+serialise_bare d (Shown s) = serialise_added d (serialise_shown s)

@@ -61,7 +61,6 @@ utf8_octets (suc n) (c ∷ t) = elim (utf8_char (c ∷ t)) [
   | Some u ↦ utf8_octets n u
 ]
 
--- whether a sequence of code points has these octets. A value holds a sequence of code points as
--- its octets, which are one to one
+-- whether the octets are UTF8-octets
 abbrev pub is_utf8 : List ℕ → Bool
 is_utf8 t = utf8_octets (length t) t

@@ -8,7 +8,7 @@ use Rattle.std.specs.List.{filter_map, position_or_len}
 use Rattle.std.proofs.lemmas.Bool.Decides.{nat_tests}
 use Rattle.std.proofs.lemmas.List.{append-nil, map-append}
 use Rattle.sf_value.specs.declared.fault.OutOfMemory.{OutOfMemory as NoMemory}
-use Rattle.sf_value.specs.declared.dialect.Dialect.TheVariants.{Rfc9651}
+use Rattle.sf_value.specs.declared.dialect.Dialect.{Dialect}
 use Rattle.sf_value.specs.declared.value.Bare.{Bare}
 use Rattle.sf_value.specs.declared.value.Bare.TheVariants.{Text}
 use Rattle.sf_value.specs.declared.value.Kind.TheVariants.{List}
@@ -19,7 +19,7 @@ use Rattle.sf_value.specs.Grammar.Series.{SpellsWhole}
 use Rattle.sf_value.specs.Lookups.{as_text}
 use Rattle.sf_view.specs.Copies.{IsCopy}
 use Rattle.sf_parse.proofs.GrammarLaws.{one_value}
-use Rattle.sf_field.specs.Asking.{Means}
+use Rattle.sf_field.specs.Asking.{MeansIn}
 use Rattle.sf_use.specs.declared.cache_status.hop.Hop.{Hop}
 use Rattle.sf_use.specs.declared.cache_status.view.HopCursor.{HopCursor}
 use Rattle.sf_use.specs.declared.cache_status.view.HopView.{HopView}
@@ -27,23 +27,23 @@ use Rattle.sf_use.specs.CacheStatus.Hops.{hops, member_hop, unless}
 use Rattle.sf_use.specs.CacheStatus.Views.{ReadsNextHop, RemainsInPath, ShowsHop}
 
 -- these hops were read; whatever members remain, the text spells those that were read and them
-pub record HopsSoFar (text : Seq ℕ) (c : HopCursor) (path : Seq Hop) : Type 0 where
+pub record HopsSoFar (d : Dialect) (text : Seq ℕ) (c : HopCursor) (path : Seq Hop) : Type 0 where
   pub members : Seq Member
   pub means : map member_hop members ≡ map Some path
   pub reads : (ms : Seq Member) → RemainsInPath c ms
-      → SpellsWhole (SpellsMember Rfc9651) text (members ++ ms)
+      → SpellsWhole (SpellsMember d) text (members ++ ms)
 
-pub none_read : (text : Seq ℕ) (c : HopCursor)
-    → ((ms : Seq Member) → RemainsInPath c ms → SpellsWhole (SpellsMember Rfc9651) text ms)
-    → HopsSoFar text c []
-none_read text c h = record { members = []; means = refl; reads = h }
+pub none_read : (d : Dialect) (text : Seq ℕ) (c : HopCursor)
+    → ((ms : Seq Member) → RemainsInPath c ms → SpellsWhole (SpellsMember d) text ms)
+    → HopsSoFar d text c []
+none_read d text c h = record { members = []; means = refl; reads = h }
 
 -- one more hop
-pub hop_read : (text : Seq ℕ) (c e : HopCursor) (v : HopView) (path next : Seq Hop) (hop : Hop)
-    → HopsSoFar text c path → ReadsNextHop c e (Some v)
-    → ((h : Hop) → ShowsHop v h → hop ≡ h) → next ≡ path ++ hop ∷ [] → HopsSoFar text e next
-hop_read text c e v path next hop s (m, h, means, shown, remains) copied pushed =
-    subst (HopsSoFar text e) (sym pushed)
+pub hop_read : (d : Dialect) (text : Seq ℕ) (c e : HopCursor) (v : HopView) (path next : Seq Hop)
+    (hop : Hop) → HopsSoFar d text c path → ReadsNextHop c e (Some v)
+    → ((h : Hop) → ShowsHop v h → hop ≡ h) → next ≡ path ++ hop ∷ [] → HopsSoFar d text e next
+hop_read d text c e v path next hop s (m, h, means, shown, remains) copied pushed =
+    subst (HopsSoFar d text e) (sym pushed)
     (record {
       members = s.members ++ m ∷ [];
       means =
@@ -52,7 +52,7 @@ hop_read text c e v path next hop s (m, h, means, shown, remains) copied pushed 
           ∙ ap (λ y. map Some path ++ y ∷ []) (means ∙ ap Some (sym (copied h shown)))
           ∙ sym (map-append Some path (hop ∷ []));
       reads = λ ms r.
-          subst (SpellsWhole (SpellsMember Rfc9651) text) (sym (append_assoc s.members (m ∷ []) ms))
+          subst (SpellsWhole (SpellsMember d) text) (sym (append_assoc s.members (m ∷ []) ms))
           (s.reads (m ∷ ms) (remains ms r));
     })
 
@@ -80,16 +80,17 @@ each_meant (m ∷ ms) (h ∷ hs) e =
 each_meant ms hs e = absurd cc
 
 -- the hops of a text that was read to its end
-pub path_read : (text : Seq ℕ) (c e : HopCursor) (o : Option HopView) (path : Seq Hop)
-    → HopsSoFar text c path → ReadsNextHop c e o → o ≡ None → Means List hops (text ∷ []) (Ok path)
-path_read text c e o path s r none =
+pub path_read : (d : Dialect) (text : Seq ℕ) (c e : HopCursor) (o : Option HopView)
+    (path : Seq Hop) → HopsSoFar d text c path → ReadsNextHop c e o → o ≡ None
+    → MeansIn d List hops (text ∷ []) (Ok path)
+path_read d text c e o path s r none =
     let left : RemainsInPath c [] = subst (ReadsNextHop c e) none r in
-    let spelled : SpellsField Rfc9651 List text (list_of s.members) =
-    subst (SpellsWhole (SpellsMember Rfc9651) text) (append-nil s.members) (s.reads [] left) in (
+    let spelled : SpellsField d List text (list_of s.members) =
+    subst (SpellsWhole (SpellsMember d) text) (append-nil s.members) (s.reads [] left) in (
       list_of s.members,
       record {
         spelled = spelled;
-        only = λ w i. one_value Rfc9651 List text w (list_of s.members) i spelled;
+        only = λ w i. one_value d List text w (list_of s.members) i spelled;
       },
       ap (λ o. unless o (filter_map member_hop s.members)) (all_named s.members path s.means)
           ∙ ap Ok (each_meant s.members path s.means),

@@ -32,6 +32,13 @@ says_hit (Forwarded passed) = false
 says_hit (Conflict passed) = true
 says_hit Unsaid = false
 
+-- hit is true and fwd is present, though "only one of them should appear on each list member" (2.1)
+abbrev pub is_conflict : Outcome → Bool
+is_conflict Hit = false
+is_conflict (Forwarded passed) = false
+is_conflict (Conflict passed) = true
+is_conflict Unsaid = false
+
 -- the parameters of a forwarded request
 abbrev pub passed_by : Outcome → Option Passed
 passed_by Hit = None

@@ -3,7 +3,7 @@ ghost use Rattle.std.specs.Prelude.{◌≡◌};
 ghost use Rattle.std.specs.Option.{option_and_then, option_copied};
 ghost use Rattle.sf_value.specs.Grammar.Tokens.{IsToken};
 ghost use Rattle.sf_use.specs.CacheStatus.Members.{is_hit as is_hit_of, says_hit as says_hit_of};
-ghost use Rattle.sf_use.specs.CacheStatus.Members.{passed_by};
+ghost use Rattle.sf_use.specs.CacheStatus.Members.{is_conflict as is_conflict_of, passed_by};
 ghost use Rattle.sf_use.specs.CacheStatus.Reasons.{token_of};
 
 use crate::cache_status::status::HopStatus;
@@ -129,6 +129,14 @@ impl Outcome {
         ensures { result ≡ is_hit_of self.now }
     {
         matches!(self, Outcome::Hit)
+    }
+
+    /// Returns whether the field has both a true `hit` and `fwd`, of which only one should appear
+    /// (RFC 9211 section 2.1). [`crate::append_to_lines`] refuses such a hop. Does not allocate.
+    pub fn is_conflict(&self) -> bool
+        ensures { result ≡ is_conflict_of self.now }
+    {
+        matches!(self, Outcome::Conflict(_))
     }
 
     /// Returns what the field says about a forwarded request; `None` without `fwd`. Does not

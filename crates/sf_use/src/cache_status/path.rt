@@ -7,7 +7,7 @@ use crate::cache_status::hop::Hop;
 use crate::cache_status::reading::{first_nameless, read_hops};
 use crate::cache_status::scanning::scan_hops;
 use sf_field::{Consumer, UseFault};
-use sf_value::{Field, Kind, Member};
+use sf_value::{Dialect, Field, Kind, Member};
 use std::alloc::Global;
 use std::marker::Model;
 
@@ -105,7 +105,12 @@ impl Consumer for CacheStatus {
     /// Reads the hops in one pass over the text. `None` claims nothing: the text may spell no List,
     /// or one with a member that names no cache, or an allocation failed.
     fn answer_text(&self, alloc: Global, text: &[u8]) -> Option<CachePath> {
-        let hops = scan_hops(alloc, text)?;
+        self.answer_text_in(alloc, Dialect::Rfc9651, text)
+    }
+
+    /// Reads the hops in one pass over the text, as `answer_text` does, in a dialect.
+    fn answer_text_in(&self, alloc: Global, dialect: Dialect, text: &[u8]) -> Option<CachePath> {
+        let hops = scan_hops(alloc, dialect, text)?;
         Some(CachePath { hops })
     }
 }

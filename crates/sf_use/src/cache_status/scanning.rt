@@ -1,6 +1,6 @@
 //! Reading hops from the text of a Cache-Status field, without its List.
 ghost use Rattle.std.specs.Prelude.{◌≡◌, [], ◌∷◌, List as Seq, ℕ, Option as Maybe, Ok, IfSome};
-ghost use Rattle.sf_field.specs.Asking.{Means};
+ghost use Rattle.sf_field.specs.Asking.{MeansIn};
 ghost use Rattle.sf_use.specs.declared.cache_status.hop.Hop.{Hop as HopValue};
 ghost use Rattle.sf_use.specs.declared.cache_status.hop.Name.{Name as NameValue};
 ghost use Rattle.sf_use.specs.CacheStatus.Hops.{hops as hops_in};
@@ -16,16 +16,17 @@ ghost use Rattle.sf_view.specs.View.{DescribesText};
 use crate::cache_status::hop::{Forward, Hop, Name, Outcome, Passed};
 use crate::cache_status::reading::{named_forward, status_by};
 use crate::cache_status::view::{HopCursor, HopParams, HopView, NameView};
-use sf_value::{Int, Text, Token};
+use sf_value::{Dialect, Int, Text, Token};
 use sf_view::{BareView, Slice};
 use std::alloc::Global;
 
-/// Returns the hops of a text; `None` claims nothing.
-pub(crate) fn scan_hops(alloc: Global, text: &[u8]) -> Option<Vec<Hop>>
-    // The text spells a List, and no other value, and these are its hops.
-    ensures { IfSome result (λ hops. Means List hops_in (text.now ∷ []) (Ok hops.items)) }
+/// Returns the hops of a text in a dialect; `None` claims nothing.
+pub(crate) fn scan_hops(alloc: Global, dialect: Dialect, text: &[u8]) -> Option<Vec<Hop>>
+    // In the dialect the text spells a List, and no other value, and these are its hops.
+    ensures { IfSome result (λ hops.
+        MeansIn dialect List hops_in (text.now ∷ []) (Ok hops.items)) }
 {
-    let mut cursor = HopCursor::new(text);
+    let mut cursor = HopCursor::new_in(dialect, text);
     let mut hops = Vec::new(alloc);
     while let Some(view) = cursor.next()? {
         let hop = copy_hop(alloc, &view)?;

@@ -1,9 +1,12 @@
 //! The status code of the response to a forwarded request.
 ghost use Rattle.std.specs.Prelude.{◌≡◌, ◌↔◌, IsOk, IfOk};
-ghost use Rattle.sf_use.specs.Ranges.{IsHopStatus};
+ghost use Rattle.sf_use.specs.Ranges.{IsHopStatus, is_valid_status};
 
 use sf_value::OutOfRange;
 use std::marker::Model;
+
+/// The greatest valid status code (RFC 9110 section 15).
+const GREATEST_VALID: u16 = 599;
 
 /// A status code of three digits, from 100 to 999, of the next hop's response to a forwarded
 /// request (RFC 9211 section 2.3; RFC 9110 section 15). Contracts see the number.
@@ -42,6 +45,18 @@ impl HopStatus {
         } else {
             Err(OutOfRange)
         }
+    }
+
+    /// Returns whether the code is a valid one, from 100 to 599: RFC 9110 section 15 calls the
+    /// others of three digits invalid, of which caches read some. Does not allocate.
+    ///
+    /// ```
+    /// HopStatus::new(600)?.is_valid() // false
+    /// ```
+    pub fn is_valid(&self) -> bool
+        ensures { result ≡ is_valid_status self.now }
+    {
+        100 <= self.code && self.code <= GREATEST_VALID
     }
 
     /// Returns the code. Does not allocate.

@@ -1,5 +1,5 @@
 //! Hops that borrow the text of a Cache-Status field.
-ghost use Rattle.std.specs.Prelude.{◌≡◌, ◌<◌, ◌≤◌, List, length, IfSome};
+ghost use Rattle.std.specs.Prelude.{◌≡◌, ◌<◌, ◌≤◌, ◌&&◌, is_some, List, length, IfSome};
 ghost use Rattle.sf_value.specs.declared.dialect.Dialect.{Dialect as Which};
 ghost use Rattle.sf_value.specs.declared.dialect.Dialect.TheVariants.{Rfc9651 as rfc9651};
 ghost use Rattle.sf_value.specs.declared.value.Bare.{Bare};
@@ -83,15 +83,26 @@ const NO_PARAMS: HopParams = HopParams {
 };
 
 impl<'a> HopCursor<'a> {
-    /// A cursor at the first hop of the text.
+    /// A cursor at the first hop of the text, by RFC 9651.
     #[inline]
     pub fn new(text: &'a [u8]) -> HopCursor<'a>
         // If the members that remain are these, the whole text spells them.
         ensures { (ms : List Member) → RemainsInPath result ms
             → SpellsWhole (SpellsMember rfc9651) text.now ms }
     {
+        HopCursor::new_in(Dialect::Rfc9651, text)
+    }
+
+    /// A cursor at the first hop of the text, in a dialect. RFC 9211 cites RFC 8941, by which a
+    /// text with a Date or a Display String is refused.
+    #[inline]
+    pub fn new_in(dialect: Dialect, text: &'a [u8]) -> HopCursor<'a>
+        // If the members that remain are these, the whole text spells them in the dialect.
+        ensures { (ms : List Member) → RemainsInPath result ms
+            → SpellsWhole (SpellsMember dialect) text.now ms }
+    {
         HopCursor {
-            items: ItemCursor::new(Dialect::Rfc9651, text),
+            items: ItemCursor::new(dialect, text),
         }
     }
 
@@ -145,6 +156,19 @@ fn read_params(start: ParamCursor) -> Option<(HopParams, ItemCursor)>
 }
 
 impl<'a> HopParams<'a> {
+    /// Returns whether `hit` and `fwd` both appear, of which only one should (RFC 9211 section
+    /// 2.1), also if `hit` is false. Does not allocate.
+    ///
+    /// ```
+    /// // edge;hit;fwd=stale
+    /// hop.params.has_hit_and_fwd() // true
+    /// ```
+    pub fn has_hit_and_fwd(&self) -> bool
+        ensures { result ≡ (is_some self.now.hit && is_some self.now.fwd) }
+    {
+        self.hit.is_some() && self.fwd.is_some()
+    }
+
     /// Sets the parameter with this key, over an earlier one.
     #[inline]
     fn set(&mut self, param: ParamView<'a>)

@@ -13,7 +13,7 @@ returns-in-Some c =
 pub returns-in_default-behind : goal.returns-in_default-behind
 returns-in_default-behind c =
     let d = c.args.context.now.dialect in
-    let key = c.in_ok-after.field-0-0 in
+    let key = c.in_ok-after.field-0-0.now in
     key_stop d _ key _ _ c.in_ok-after.ensures.split c.in_ok-after.ensures.key
     (stop_here (entry_step d) _ (InKey key) (InKey key) _ _
     (record { taken = []; split = refl; leads = refl })

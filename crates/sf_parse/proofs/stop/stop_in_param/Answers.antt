@@ -15,7 +15,7 @@ returns-in_default c = λ ps.
 pub returns-in_default-behind : goal.returns-in_default-behind
 returns-in_default-behind c = λ ps.
     let d = c.args.context.now.dialect in
-    let key = c.in-Some.field-0-0 in
+    let key = c.in-Some.field-0-0.now in
     stop_here (params_step d) _ (Opened ps) (InParamKey ps key) _ _
     (keyed_goes d ps _ _ key _ c.behind_spaces-named.ensures c.in-Some.ensures.split
     c.in-Some.ensures.key)
@@ -24,7 +24,7 @@ returns-in_default-behind c = λ ps.
 pub returns-in_default-stop_in_bare : goal.returns-in_default-stop_in_bare
 returns-in_default-stop_in_bare c = λ ps.
     let d = c.args.context.now.dialect in
-    let key = c.in-Some.field-0-0 in
+    let key = c.in-Some.field-0-0.now in
     stop_here (params_step d) _ (Opened ps) (EqualsParam ps key) _ _
     (equals_goes d ps _ key _ _
     (keyed_goes d ps _ _ key _ c.behind_spaces-named.ensures c.in-Some.ensures.split
@@ -34,7 +34,7 @@ returns-in_default-stop_in_bare c = λ ps.
 pub returns : goal.returns
 returns c = λ ps.
     let d = c.args.context.now.dialect in
-    let key = c.in-Some.field-0-0 in
+    let key = c.in-Some.field-0-0.now in
     let stop = c.in-Some-stop_in_bare.stop in
     value_stop d ps _ _ key stop _
     (equals_goes d ps _ key _ _

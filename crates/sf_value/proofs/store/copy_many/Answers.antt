@@ -1,6 +1,6 @@
 use Rattle.std.proofs.Common.{◌≡◌, ◌≤◌, length, arith, ap, ◌∙◌}
 use Rattle.std.specs.Str.{bytes_eq}
-use Rattle.indexmap.specs.IndexMap.{insert_entry, spare}
+use Rattle.indexmap.specs.IndexMap.{insert_entry, spare, hasher_of}
 use Rattle.sf_value.proofs.SlotLists.{copied}
 use Rattle.sf_value.proofs.store.copy_many.Goals as goal
 
@@ -24,4 +24,5 @@ loop-key-preserved g c =
           (c.insert.ensures.entries ∙ ap (λ m. insert_entry bytes_eq m.entries key value) here)
           c.in_ok-copy.ensures.copied c.in_ok-value.ensures.copied;
       room = room;
+      given = c.insert.ensures.seed ∙ ap hasher_of here ∙ c.loop-key.invariant.given;
     }

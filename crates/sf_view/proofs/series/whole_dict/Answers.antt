@@ -28,8 +28,8 @@ returns-then-differ-clause-parts c =
 pub returns-then-ends-2-clause-parts : goal.returns-then-ends-2-clause-parts
 returns-then-ends-2-clause-parts c =
     parts_raw _ _ _ _ _ refl c.in_ok-scan.ensures.scans.puts.within
-    (dict_raw _ _ _ _ _ _ _ _ _ _ _ _ c.loop-scan.invariant.so_far c.in_ok-scan.ensures.scans
-    c.behind_white-white.ensures (c.ends-in-loop-scan.ensures c.if-ends-2.true))
+    (dict_raw _ _ _ _ _ _ _ _ _ _ _ _ _ c.loop-scan.invariant.so_far c.in_ok-scan.ensures.scans
+    c.with-marks.ensures c.behind_white-white.ensures (c.ends-in-loop-scan.ensures c.if-ends-2.true))
 
 pub loop-scan-preserved : goal.loop-scan-preserved
 loop-scan-preserved c = record {

@@ -1,23 +1,32 @@
-use Rattle.std.proofs.Common.{refl}
+use Rattle.std.proofs.Common.{rules, refl}
 use Rattle.sf_write.proofs.Following.{remains_all, remains_less}
 use Rattle.sf_write.proofs.Runs.{shown_run, shown_escape, shown_end}
 use Rattle.sf_write.proofs.display_string.put_display_string.Goals as goal
 
 pub loop-byte-init : goal.loop-byte-init
-loop-byte-init g c = remains_less remains_all refl c.put-sent.ensures
+loop-byte-init g c =
+    record {
+      left = remains_less remains_all refl c.put-sent.ensures;
+      run = search rules;
+      within = search rules;
+    }
 
 pub returns-in_default : goal.returns-in_default
 returns-in_default g c =
     let split = c.split_at.ensures in
-    let run = shown_run _ _ _ _ c.unencoded_len.ensures.len split.front split.back in
-    let left = remains_less c.loop-byte.invariant run c.put-sent-in-loop-byte.ensures in
+    let run = shown_run _ _ _ _ c.loop-byte.invariant.run split.front split.back in
+    let left = remains_less c.loop-byte.invariant.left run c.put-sent-in-loop-byte.ensures in
     left.finish _ _ (rw (shown_end _ c.in_default.ensures.cases) c.put.ensures)
 
 pub loop-byte-preserved : goal.loop-byte-preserved
 loop-byte-preserved g c =
     let split = c.split_at.ensures in
-    let run = shown_run _ _ _ _ c.unencoded_len.ensures.len split.front split.back in
-    let left = remains_less c.loop-byte.invariant run c.put-sent-in-loop-byte.ensures in
-    let byte = shown_escape _ _ _ _ _ c.unencoded_len.ensures.len split.back
+    let run = shown_run _ _ _ _ c.loop-byte.invariant.run split.front split.back in
+    let left = remains_less c.loop-byte.invariant.left run c.put-sent-in-loop-byte.ensures in
+    let byte = shown_escape _ _ _ _ _ c.loop-byte.invariant.run split.back
     c.in-Some.ensures.cases.0 in
-    remains_less left byte (rw c.percent_escape-escape.ensures at c.put-sent-in-loop-byte-2.ensures)
+    record {
+      left = remains_less left byte (rw c.percent_escape-escape.ensures at c.put-sent-in-loop-byte-2.ensures);
+      run = search rules;
+      within = search rules;
+    }

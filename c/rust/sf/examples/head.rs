@@ -1,0 +1,79 @@
+//! What a proxy concludes from the heads of a request and its response, on standard input: a line
+//! `> Name: value` is of the request, and `< Name: value` of the response.
+
+use sf::{Choice, Error, Outcome, Path, Priority};
+use std::io::{self, Read};
+
+/// The targeted fields that this cache obeys, in order (RFC 9213 section 2.2).
+const TARGETS: [&str; 2] = ["ExampleCDN-Cache-Control", "CDN-Cache-Control"];
+
+/// The lines of a field, joined. White space around a value is no part of it (RFC 9110 section
+/// 5.5).
+fn field(heads: &str, side: char, name: &str) -> Result<Vec<u8>, Error> {
+    sf::join(heads.lines().filter_map(|line| {
+        let (found, value) = line.strip_prefix(side)?.split_once(':')?;
+        let is_it = found.trim().eq_ignore_ascii_case(name);
+        is_it.then(|| value.trim_matches([' ', '\t'].as_slice()))
+    }))
+}
+
+/// What a field says. One that is malformed counts as absent, and standard error shows it.
+fn read<T>(heads: &str, side: char, name: &str) -> Result<T, Error>
+where
+    T: Default + for<'a> TryFrom<&'a [u8], Error = Error>,
+{
+    let text = field(heads, side, name)?;
+    T::try_from(&text).or_else(|error| {
+        match error.refusal() {
+            Some(refusal) => eprintln!("{name}: {}", refusal.in_text(&text)),
+            None => eprintln!("{name}: {error}"),
+        }
+        error.as_absent()
+    })
+}
+
+/// Where the response came from (RFC 9211).
+fn source(path: &Path) -> String {
+    if let Some(hop) = path.served_by().and_then(|index| path.hops().nth(index)) {
+        let ttl = hop.ttl.map(|ttl| format!(", fresh for {ttl} s more"));
+        return format!("served by {}{}", hop.name, ttl.unwrap_or_default());
+    }
+    match path.hops().last() {
+        None => "no cache on the path".to_string(),
+        Some(hop) => match hop.outcome {
+            Outcome::Forwarded(forwarded) => format!("{} forwarded: {}", hop.name, forwarded.why),
+            _ => format!("{} does not say what it did", hop.name),
+        },
+    }
+}
+
+/// What a shared cache does with the response (RFC 9213).
+fn decision(choice: Choice) -> String {
+    match choice {
+        Choice::Fallback => "Cache-Control decides".to_string(),
+        Choice::Field { index, policy } => match policy.lifetime(true) {
+            _ if !policy.may_store_shared() => format!("{}: don't store it", TARGETS[index]),
+            Some(seconds) => format!("{}: store it for {seconds} s", TARGETS[index]),
+            None => format!("{}: store it", TARGETS[index]),
+        },
+    }
+}
+
+fn main() -> Result<(), Box<dyn std::error::Error>> {
+    let mut heads = String::new();
+    io::stdin().read_to_string(&mut heads)?;
+
+    let client: Priority = read(&heads, '>', "Priority")?;
+    let priority = client.merged_with(read(&heads, '<', "Priority")?);
+    let how = if priority.incremental() {
+        ", incremental"
+    } else {
+        ""
+    };
+    println!("urgency {}{how}", priority.urgency());
+    println!("{}", source(&read(&heads, '<', "Cache-Status")?));
+    let targets = TARGETS.map(|name| field(&heads, '<', name));
+    let targets: Vec<_> = targets.into_iter().collect::<Result<_, _>>()?;
+    println!("{}", decision(sf::select(targets)?));
+    Ok(())
+}

@@ -1,0 +1,148 @@
+//! Hops as the texts of fields.
+
+use crate::buffer::{append, written};
+use crate::ffi;
+use crate::{Error, Forward, FwdStatus, Hop, Integer, Name, Outcome, Parser, StringRef};
+use alloc::string::String;
+use alloc::vec::Vec;
+use sf_sys as raw;
+
+const NO_SPAN: raw::Span = raw::Span { at: 0, length: 0 };
+
+pub(crate) const NO_HOP: raw::Hop = raw::Hop {
+    name: NO_SPAN,
+    why_token: NO_SPAN,
+    key: NO_SPAN,
+    detail: NO_SPAN,
+    ttl: 0,
+    outcome: raw::UNSAID,
+    why: raw::NO_FORWARD,
+    status: 0,
+    has_status: 0,
+    stored: 0,
+    has_stored: 0,
+    collapsed: 0,
+    has_collapsed: 0,
+    has_ttl: 0,
+    has_key: 0,
+    has_detail: 0,
+    name_is_token: 0,
+    detail_is_token: 0,
+};
+
+/// A text behind the bytes so far.
+fn put(bytes: &mut Vec<u8>, text: &str) -> Result<raw::Span, Error> {
+    let at = bytes.len();
+    append(bytes, text.as_bytes())?;
+    let length = text.len();
+    Ok(raw::Span { at, length })
+}
+
+/// A hop for the library, with the bytes that it refers to.
+fn raw_hop(hop: &Hop<'_>, bytes: &mut Vec<u8>) -> Result<raw::Hop, Error> {
+    let mut to = NO_HOP;
+    to.name = put(bytes, hop.name.as_str())?;
+    to.name_is_token = u8::from(matches!(hop.name, Name::Token(_)));
+    to.outcome = match hop.outcome {
+        Outcome::Unsaid => raw::UNSAID,
+        Outcome::Hit => raw::HIT,
+        Outcome::Forwarded(_) => raw::FORWARDED,
+        Outcome::Conflict(_) => raw::CONFLICT,
+    };
+    if let Some(forwarded) = hop.outcome.forwarded() {
+        to.why = match forwarded.why {
+            Forward::Bypass => raw::BYPASS,
+            Forward::Method => raw::METHOD,
+            Forward::UriMiss => raw::URI_MISS,
+            Forward::VaryMiss => raw::VARY_MISS,
+            Forward::Miss => raw::MISS,
+            Forward::Request => raw::REQUEST,
+            Forward::Stale => raw::STALE,
+            Forward::Partial => raw::PARTIAL,
+            Forward::Other { .. } => raw::OTHER,
+        };
+        if let Forward::Other { token } = forwarded.why {
+            to.why_token = put(bytes, token)?;
+        }
+        to.status = forwarded.status.map_or(0, FwdStatus::get);
+        to.has_status = u8::from(forwarded.status.is_some());
+        to.stored = u8::from(forwarded.stored == Some(true));
+        to.has_stored = u8::from(forwarded.stored.is_some());
+        to.collapsed = u8::from(forwarded.collapsed == Some(true));
+        to.has_collapsed = u8::from(forwarded.collapsed.is_some());
+    }
+    to.ttl = hop.ttl.map_or(0, Integer::get);
+    to.has_ttl = u8::from(hop.ttl.is_some());
+    to.key = put(bytes, hop.key.map_or("", StringRef::as_str))?;
+    to.has_key = u8::from(hop.key.is_some());
+    to.detail = put(bytes, hop.detail.map_or("", Name::as_str))?;
+    to.has_detail = u8::from(hop.detail.is_some());
+    to.detail_is_token = u8::from(matches!(hop.detail, Some(Name::Token(_))));
+    Ok(to)
+}
+
+impl Parser {
+    /// Writes the text of a Cache-Status field whose only member is a hop: see [`Hop::serialize`].
+    ///
+    /// # Errors
+    ///
+    /// [`Error::OutOfMemory`] only.
+    ///
+    /// ```
+    /// let hop = sf::Hop::new(sf::TokenRef::constant("edge")).with_outcome(sf::Outcome::Hit);
+    /// assert_eq!(sf::Parser::new().serialize_hop(&hop).unwrap(), "edge;hit");
+    /// ```
+    pub fn serialize_hop(&self, hop: &Hop<'_>) -> Result<String, Error> {
+        let mut bytes = Vec::new();
+        let hop = raw_hop(hop, &mut bytes)?;
+        let seed = self.seed();
+        written(128, |buffer| ffi::hop_text(&seed, &hop, &bytes, buffer))
+    }
+}
+
+#[cfg(feature = "std")]
+impl Hop<'_> {
+    /// Appends this hop to the lines of a Cache-Status field that came from the caches nearer the
+    /// origin, and returns the text of all, joined. Empty lines are left out, and the others are
+    /// not checked.
+    ///
+    /// # Errors
+    ///
+    /// [`Error::OutOfMemory`] only.
+    ///
+    /// ```
+    /// let hop = sf::Hop::new(sf::TokenRef::constant("edge")).with_outcome(sf::Outcome::Hit);
+    /// assert_eq!(hop.append_to(["origin; fwd=miss"]).unwrap(), b"origin; fwd=miss, edge;hit");
+    /// ```
+    pub fn append_to(
+        &self,
+        lines: impl IntoIterator<Item = impl AsRef<[u8]>>,
+    ) -> Result<Vec<u8>, Error> {
+        let before = crate::join(lines.into_iter().filter(|line| !line.as_ref().is_empty()))?;
+        let hop = self.serialize()?.into_bytes();
+        crate::join([before, hop].iter().filter(|text| !text.is_empty()))
+    }
+
+    /// Writes the text of a Cache-Status field whose only member is this hop: a field line of its
+    /// own, which a cache adds after the lines that came from the caches nearer the origin.
+    ///
+    /// # Errors
+    ///
+    /// [`Error::OutOfMemory`] only.
+    ///
+    /// ```
+    /// let mut hop = sf::Hop::new(sf::StringRef::constant("edge 1"));
+    /// hop.outcome = sf::Outcome::Forwarded(sf::Forwarded::new(sf::Forward::UriMiss));
+    /// assert_eq!(hop.serialize().unwrap(), "\"edge 1\";fwd=uri-miss");
+    /// ```
+    pub fn serialize(&self) -> Result<String, Error> {
+        Parser::new().serialize_hop(self)
+    }
+}
+
+#[cfg(feature = "std")]
+impl core::fmt::Display for Hop<'_> {
+    fn fmt(&self, f: &mut core::fmt::Formatter<'_>) -> core::fmt::Result {
+        f.pad(&self.serialize().map_err(|_| core::fmt::Error)?)
+    }
+}

@@ -1,0 +1,100 @@
+//! Fields in and out of heads. Needs the feature `http`.
+#![cfg(feature = "http")]
+
+use http::header::{HeaderMap, HeaderName, HeaderValue};
+use sf::{
+    Dictionary, Error, Forward, Forwarded, Hop, Item, List, Parser, Path, Policy, Priority,
+    TokenRef,
+};
+
+fn head(lines: &[(&'static str, &'static str)]) -> HeaderMap {
+    let mut headers = HeaderMap::new();
+    for (name, value) in lines {
+        headers.append(*name, HeaderValue::from_static(value));
+    }
+    headers
+}
+
+#[test]
+fn a_head_is_read() {
+    let headers = head(&[
+        ("accept", "a;q=1, b"),
+        ("accept", "c"),
+        ("priority", "u=5"),
+        ("priority", "i"),
+        ("cache-status", "origin; fwd=miss"),
+        ("cache-status", "edge; hit"),
+        ("examplecdn-cache-control", "max-age=60,"),
+        ("cdn-cache-control", "max-age=600"),
+        ("bad", "a b"),
+        ("empty", ""),
+    ]);
+    let list = List::from_headers(&headers, "accept").unwrap().unwrap();
+    assert_eq!(list.to_string(), "a;q=1, b, c");
+    assert_eq!(List::from_headers(&headers, "absent"), Ok(None));
+    assert_eq!(List::from_headers(&headers, "empty"), Ok(Some(List::new())));
+    let name = HeaderName::from_static("bad");
+    let refused = Item::from_headers(&headers, &name).unwrap_err();
+    assert_eq!(refused.refusal().unwrap().offset, 2);
+    let dict = Parser::new()
+        .header::<Dictionary>(&headers, "priority")
+        .unwrap();
+    assert_eq!(dict.unwrap().to_string(), "u=5, i");
+    assert_eq!(
+        Priority::from_headers(&headers).unwrap().to_string(),
+        "u=5, i"
+    );
+    assert_eq!(
+        Priority::from_headers(&HeaderMap::new()),
+        Ok(Priority::default())
+    );
+    assert_eq!(Path::from_headers(&headers).unwrap().served_by(), Some(1));
+    assert_eq!(Path::from_headers(&HeaderMap::new()), Ok(Path::default()));
+    let targets = ["examplecdn-cache-control", "cdn-cache-control"];
+    let choice = Policy::select_from_headers(&headers, targets).unwrap();
+    assert_eq!(choice.index(), Some(1));
+    assert_eq!(
+        choice.policy().and_then(|policy| policy.max_age),
+        Some(600.into())
+    );
+    let none = Policy::select_from_headers(&HeaderMap::new(), targets).unwrap();
+    assert_eq!(none, sf::Choice::Fallback);
+    let item = Item::try_from(&headers["cdn-cache-control"]);
+    assert!(matches!(item, Err(Error::Refused(_))));
+}
+
+#[test]
+fn a_head_is_written() {
+    let mut headers = head(&[
+        ("example", "old"),
+        ("example", "lines"),
+        ("priority", "x=1, u=1"),
+    ]);
+    let name = HeaderName::from_static("example");
+    let mut dict: Dictionary = "u=1,i".parse().unwrap();
+    dict.put_into_headers(&mut headers, name.clone()).unwrap();
+    assert_eq!(
+        headers.get_all("example").iter().collect::<Vec<_>>(),
+        ["u=1, i"]
+    );
+    assert_eq!(HeaderValue::try_from(&dict).unwrap(), "u=1, i");
+    dict.remove("u");
+    dict.remove("i");
+    dict.put_into_headers(&mut headers, name).unwrap();
+    assert!(!headers.contains_key("example"));
+
+    let priority: Priority = "u=3, i".parse().unwrap();
+    priority.put_into_headers(&mut headers).unwrap();
+    assert_eq!(headers["priority"], "x=1, u=3, i");
+    let mut none = HeaderMap::new();
+    Priority::default().put_into_headers(&mut none).unwrap();
+    assert!(none.is_empty());
+
+    let hop = Hop::new(TokenRef::constant("edge"))
+        .with_outcome(Forwarded::new(Forward::UriMiss).with_stored(true));
+    hop.append_to_headers(&mut headers).unwrap();
+    hop.append_to_headers(&mut headers).unwrap();
+    let lines: Vec<_> = headers.get_all("cache-status").iter().collect();
+    assert_eq!(lines, ["edge;fwd=uri-miss;stored"; 2]);
+    assert_eq!(Path::from_headers(&headers).unwrap().hops().len(), 2);
+}

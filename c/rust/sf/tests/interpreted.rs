@@ -1,0 +1,325 @@
+//! What the fields say of which RFCs tell the meaning: Priority, targeted cache control,
+//! Cache-Status.
+
+use sf::{
+    equal, select, Choice, Dialect, Error, Forward, Forwarded, FwdStatus, Hop, Kind, Name, Outcome,
+    Parser, Path, Policy, Priority, Seconds, StringRef, TokenRef, Urgency,
+};
+
+#[test]
+fn priorities_are_merged() {
+    let client = Priority::parse("u=5, i").unwrap();
+    let server = Priority::parse("u=1").unwrap();
+    let merged = client.merged_with(server);
+    let one = Urgency::new(1).unwrap();
+    assert_eq!(
+        (merged.urgency, merged.incremental),
+        (Some(one), Some(true))
+    );
+    assert_eq!((merged.urgency(), merged.incremental()), (one, true));
+    for text in ["u=1, i", "u=0", "u=7, i=?0", "i", ""] {
+        assert_eq!(Priority::parse(text).unwrap().serialize().unwrap(), text);
+    }
+    let change = |urgency: Option<u8>, incremental, text: &str| {
+        let priority = Priority {
+            urgency: urgency.map(|number| Urgency::new(number).unwrap()),
+            incremental,
+        };
+        priority.change(text)
+    };
+    assert_eq!(change(Some(1), Some(true), "").unwrap(), "u=1, i");
+    assert_eq!(change(None, None, "u=5,i").unwrap(), "u=5, i");
+    assert_eq!(
+        change(Some(0), Some(false), "x=(a  b);c, u=7, y=%\"%c3%bc\"").unwrap(),
+        "x=(a b);c, u=0, y=%\"%c3%bc\", i=?0"
+    );
+    let refused = change(Some(1), None, "u=1,").unwrap_err();
+    assert_eq!(refused.refusal().unwrap().offset, 4);
+    let nothing = Priority::parse("u=8").unwrap();
+    assert_eq!(nothing, Priority::default());
+    assert_eq!((nothing.urgency().get(), nothing.incremental()), (3, false));
+}
+
+#[test]
+fn a_refused_field_counts_as_absent() {
+    let refused = Priority::parse("u=1,").or_else(Error::as_absent);
+    assert_eq!(refused, Ok(Priority::default()));
+    let refused = Policy::parse("max-age=1,").or_else(Error::as_absent);
+    assert_eq!(refused, Ok(None));
+    let short: Result<Priority, _> = Error::OutOfMemory.as_absent();
+    assert_eq!(short, Err(Error::OutOfMemory));
+    let second = equal(Kind::Item, "1", "").unwrap_err();
+    assert_eq!(second.as_absent::<bool>(), Err(second));
+}
+
+#[test]
+fn a_hop_is_appended() {
+    let forwarded = Forwarded::new(Forward::UriMiss)
+        .with_status(FwdStatus::new(200).unwrap())
+        .with_stored(true)
+        .with_collapsed(false);
+    let hop = Hop::new(Name::token("here").unwrap()).with_outcome(forwarded);
+    let own = "here;fwd=uri-miss;fwd-status=200;stored;collapsed=?0";
+    let of =
+        |lines: &[&str]| std::string::String::from_utf8(hop.append_to(lines).unwrap()).unwrap();
+    assert_eq!(of(&[]), own);
+    assert_eq!(of(&[""]), own);
+    assert_eq!(of(&["a;hit"]), format!("a;hit, {own}"));
+    assert_eq!(of(&["a", "", "b, c"]), format!("a, b, c, {own}"));
+    let path = Path::parse(of(&["a", "b"])).unwrap();
+    assert_eq!(path.hops().last(), Some(hop));
+}
+
+#[test]
+fn a_field_of_a_target_list_is_chosen() {
+    type Chosen = Option<(usize, u32)>;
+    let fields: [(&[&str], Chosen); 9] = [
+        (&[], None),
+        (&[""], None),
+        (&["max-age=60,", "", "  "], None),
+        (&["max-age=60"], Some((0, 60))),
+        (&["max-age=60", "max-age=600"], Some((0, 60))),
+        (&["", "max-age=600"], Some((1, 600))),
+        (&["max-age=60,", "max-age=600", "max-age=1"], Some((1, 600))),
+        (&["a b", "", "(a)", "max-age=9, x", ""], Some((3, 9))),
+        (&["max-age=1, max-age=2"], Some((0, 2))),
+    ];
+    for (texts, expected) in fields {
+        let choice = select(texts).unwrap();
+        let expected = expected.map(|(index, seconds)| Choice::Field {
+            index,
+            policy: Policy {
+                max_age: Some(seconds.into()),
+                ..Policy::default()
+            },
+        });
+        assert_eq!(choice, expected.unwrap_or(Choice::Fallback), "{texts:?}");
+        assert_eq!(choice.index(), expected.and_then(|choice| choice.index()));
+        assert_eq!(
+            choice.policy().is_none(),
+            matches!(choice, Choice::Fallback)
+        );
+    }
+    let old = Parser::new().with_dialect(Dialect::Rfc8941);
+    let chosen = old.select(["@1", "max-age=60;x=@1"]).unwrap();
+    assert!(matches!(chosen, Choice::Field { index: 1, .. }));
+}
+
+#[test]
+fn policies_are_read() {
+    let policy = Policy::parse("max-age=30, s-maxage=90, no-store=?0").unwrap();
+    let expected = Policy {
+        max_age: Some(30.into()),
+        s_maxage: Some(90.into()),
+        ..Policy::default()
+    };
+    assert_eq!(policy, Some(expected));
+    assert_eq!(expected.lifetime(true), Some(90.into()));
+    assert_eq!(expected.lifetime(false), Some(30.into()));
+    assert_eq!(Policy::default().lifetime(true), None);
+    assert_eq!(Policy::parse(""), Ok(None));
+    assert!(Policy::parse("max-age=60,").is_err());
+    let all = "must-revalidate, no-store, no-cache, private";
+    let all = Policy::parse(all).unwrap().unwrap();
+    assert!(all.must_revalidate && all.no_store && all.no_cache && all.is_private);
+}
+
+#[test]
+fn a_path_is_read() {
+    let text = "origin; fwd=stale; fwd-status=304; collapsed, \"edge\"; hit; ttl=30; key=\"k\"";
+    let path = Path::parse(text).unwrap();
+    let forwarded = Forwarded {
+        why: Forward::Stale,
+        status: Some(FwdStatus::new(304).unwrap()),
+        stored: None,
+        collapsed: Some(true),
+    };
+    let origin = Hop {
+        name: Name::token("origin").unwrap(),
+        outcome: Outcome::Forwarded(forwarded),
+        ttl: None,
+        key: None,
+        detail: None,
+    };
+    let edge = Hop {
+        name: Name::string("edge").unwrap(),
+        outcome: Outcome::Hit,
+        ttl: Some(30.into()),
+        key: Some(StringRef::constant("k")),
+        detail: None,
+    };
+    assert_eq!(path.hops().collect::<Vec<_>>(), [origin, edge]);
+    assert_eq!(path.served_by(), Some(1));
+    assert_eq!(path, path.clone());
+
+    let reasons: [(&str, Forward<'_>); 9] = [
+        ("bypass", Forward::Bypass),
+        ("method", Forward::Method),
+        ("uri-miss", Forward::UriMiss),
+        ("vary-miss", Forward::VaryMiss),
+        ("miss", Forward::Miss),
+        ("request", Forward::Request),
+        ("stale", Forward::Stale),
+        ("partial", Forward::Partial),
+        ("odd", Forward::of_token(TokenRef::constant("odd"))),
+    ];
+    for (word, why) in reasons {
+        let path = Path::parse(format!("c;fwd={word}")).unwrap();
+        let hop = path.hops().next().unwrap();
+        assert!(matches!(hop.outcome, Outcome::Forwarded(forwarded) if forwarded.why == why));
+        assert_eq!(why.as_str(), word);
+    }
+    let path = Path::parse("c").unwrap();
+    assert_eq!(path.hops().next().unwrap().outcome, Outcome::Unsaid);
+
+    let path = Path::parse("c;hit;fwd=odd;detail=d").unwrap();
+    let hop = path.hops().next().unwrap();
+    let odd = Forward::of_token(TokenRef::constant("odd"));
+    assert!(matches!(hop.outcome, Outcome::Conflict(forwarded) if forwarded.why == odd));
+    assert_eq!(hop.detail, Some(Name::token("d").unwrap()));
+    assert_eq!(path.served_by(), None);
+    assert_eq!(Path::parse("").unwrap().hops().len(), 0);
+    assert_eq!(Path::parse("a, (b), 7").err(), Some(Error::NotACache(1)));
+}
+
+#[test]
+fn a_hop_is_written() {
+    let lines = [
+        "ExampleCache;hit",
+        "\"CDN Company Here\";hit;ttl=545",
+        "OriginCache;hit;ttl=1100",
+        "a;fwd=bypass",
+        "a;fwd=odd;fwd-status=304;stored;collapsed",
+        "a;fwd=stale;stored=?0;collapsed=?0",
+        "a;hit;fwd=miss",
+        "\"a\\\"b\";key=\"k\";detail=\"d\"",
+        "a;ttl=-412;detail=d",
+    ];
+    for line in lines {
+        let path = Path::parse(line).unwrap();
+        let hop = path.hops().next().unwrap();
+        let again = hop.serialize().unwrap();
+        assert_eq!(Path::parse(&again).unwrap(), path, "{line}");
+    }
+    for why in [
+        Forward::Bypass,
+        Forward::Method,
+        Forward::UriMiss,
+        Forward::VaryMiss,
+        Forward::Miss,
+        Forward::Request,
+        Forward::Stale,
+        Forward::Partial,
+        Forward::of_token(TokenRef::constant("odd")),
+    ] {
+        let mut hop = Hop::new(Name::token("a").unwrap());
+        hop.outcome = Outcome::Forwarded(Forwarded::new(why));
+        let path = Path::parse(hop.serialize().unwrap()).unwrap();
+        assert_eq!(path.hops().collect::<Vec<_>>(), [hop]);
+    }
+    assert_eq!(
+        Error::Invalid.to_string(),
+        "not a value of a structured field"
+    );
+}
+
+// What can't be said by a field can't be made.
+#[test]
+fn no_invalid_value_is_made() {
+    assert_eq!(Urgency::new(8), Err(Error::Invalid));
+    assert_eq!(Urgency::try_from(9), Err(Error::Invalid));
+    assert!((0..=7).all(|number| Urgency::new(number).unwrap() == number));
+    assert!([0, 99, 1000, u16::MAX]
+        .iter()
+        .all(|&status| FwdStatus::new(status) == Err(Error::Invalid)));
+    assert!([100, 304, 999]
+        .iter()
+        .all(|&status| FwdStatus::new(status).unwrap() == status));
+    assert!(Name::token("").is_err() && Name::token("a b").is_err());
+    assert!(Name::string("\u{fc}").is_err() && Name::string("").is_ok());
+    assert_eq!(Seconds::new(1_000_000_000_000_000), Err(Error::Invalid));
+    let most = Seconds::new(999_999_999_999_999).unwrap();
+    assert_eq!(sf::Integer::from(most), sf::Integer::MAX);
+    // A reason that the RFC defines is never another token.
+    for word in [
+        "bypass",
+        "method",
+        "uri-miss",
+        "vary-miss",
+        "miss",
+        "request",
+        "stale",
+        "partial",
+    ] {
+        let why = Forward::of_token(TokenRef::new(word).unwrap());
+        assert!(!matches!(why, Forward::Other { .. }) && why.as_str() == word);
+    }
+}
+
+// RFC 9211 section 2.1 and following, and section 4.
+#[test]
+fn the_examples_of_cache_status() {
+    let path = Path::parse("ExampleCache; hit; ttl=376").unwrap();
+    assert_eq!(path.to_string(), "ExampleCache;hit;ttl=376");
+    let hop = path.hops().next().unwrap();
+    assert_eq!((hop.outcome, hop.ttl), (Outcome::Hit, Some(376.into())));
+
+    let path = Path::parse("ExampleCache; fwd=uri-miss").unwrap();
+    assert_eq!(path.to_string(), "ExampleCache;fwd=uri-miss");
+    let path = Path::parse("ExampleCache; fwd=uri-miss; stored").unwrap();
+    assert_eq!(path.to_string(), "ExampleCache;fwd=uri-miss;stored");
+    let path = Path::parse("ExampleCache; fwd=stale; fwd-status=304").unwrap();
+    let forwarded = path.hops().next().unwrap().outcome.forwarded().unwrap();
+    assert_eq!(forwarded.status.map(FwdStatus::get), Some(304));
+    let path = Path::parse("ExampleCache; hit; ttl=-412").unwrap();
+    assert_eq!(path.hops().next().unwrap().ttl, Some((-412).into()));
+
+    let text = "OriginCache; hit; ttl=1100, \"CDN Company Here\"; hit; ttl=545";
+    let path: Path = text.parse().unwrap();
+    let canonical = "OriginCache;hit;ttl=1100, \"CDN Company Here\";hit;ttl=545";
+    assert_eq!(path.to_string(), canonical);
+    assert_eq!(Path::try_from(canonical.as_bytes()), Ok(path.clone()));
+    assert_eq!(path.served_by(), Some(1));
+    assert_eq!(Path::default().to_string(), "");
+    assert_eq!(Path::default(), Path::parse("").unwrap());
+}
+
+// RFC 9213 section 2.1 and 3.1, RFC 9218 sections 4 and 5.
+#[test]
+fn the_examples_of_policies_and_priorities() {
+    let policy: Policy = "max-age=600".parse().unwrap();
+    assert_eq!(policy.to_string(), "max-age=600");
+    assert_eq!(policy.lifetime(true).unwrap().duration().as_secs(), 600);
+    let policy = Policy::try_from("none, no-store").unwrap();
+    assert_eq!(policy.to_string(), "no-store");
+    let all = "max-age=1, s-maxage=2, must-revalidate, no-store, no-cache, private";
+    assert_eq!(Policy::try_from(all.as_bytes()).unwrap().to_string(), all);
+    assert_eq!("".parse::<Policy>(), Err(Error::Empty));
+    assert_eq!(Policy::default().to_string(), "");
+
+    let priority: Priority = "u=5, i".parse().unwrap();
+    assert_eq!(priority.to_string(), "u=5, i");
+    assert_eq!(
+        Priority::try_from("u=0".as_bytes()).unwrap().urgency,
+        Some(Urgency::MOST)
+    );
+    assert_eq!(
+        format!("{:>5}|", Priority::try_from("i").unwrap()),
+        "    i|"
+    );
+}
+
+// RFC 9218 section 8: the server's parameters override the client's, one by one.
+#[test]
+fn the_servers_parameters_override() {
+    for (client, server, merged) in [
+        ("u=5, i", "u=1", "u=1, i"),
+        ("u=5, i", "i=?0", "u=5, i=?0"),
+        ("", "u=3", "u=3"),
+        ("i", "", "i"),
+        ("", "", ""),
+    ] {
+        let [client, server] = [client, server].map(|text| text.parse::<Priority>().unwrap());
+        assert_eq!(client.merged_with(server).to_string(), merged);
+    }
+}

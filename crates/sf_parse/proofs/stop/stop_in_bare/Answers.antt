@@ -1,8 +1,0 @@
-use Rattle.sf_parse.proofs.Stops.{bare_stops}
-use Rattle.sf_parse.proofs.stop.stop_in_bare.Goals as goal
-
-pub returns : goal.returns
-returns c =
-    bare_stops c.args.context.now.dialect _ _ _ _ _ _ _ c.in_ok-first.ensures
-    c.in-Ok-true.field-0-test c.in-Ok-true.ensures.start c.in-Ok.ensures.prefix c.expected.ensures
-    c.may_end.ensures

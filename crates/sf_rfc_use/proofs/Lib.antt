@@ -1,0 +1,5 @@
+pub mod LookUps
+pub mod CacheStatusAgrees
+pub mod OutcomesAgree
+pub mod TargetedAgrees
+pub mod PriorityAgrees

@@ -1,0 +1,20 @@
+use Rattle.sf_use.proofs.Choosing as choosing
+use Rattle.sf_use.proofs.Deciding as deciding
+use Rattle.sf_use.proofs.Firsts as firsts
+use Rattle.sf_use.proofs.Replacing as replacing
+use Rattle.sf_use.proofs.laws.one_choice_in.Goals as goal
+
+pub returns-clause-one : goal.returns-clause-one
+returns-clause-one c = choosing.one_choice
+
+pub returns-clause-canonical : goal.returns-clause-canonical
+returns-clause-canonical c = choosing.chosen_as_canonical
+
+pub returns-clause-replaced : goal.returns-clause-replaced
+returns-clause-replaced c = replacing.chosen_as_replaced
+
+pub returns-clause-first : goal.returns-clause-first
+returns-clause-first c = firsts.chosen_is_first
+
+pub returns-clause-some : goal.returns-clause-some
+returns-clause-some c = deciding.some_choice

@@ -1,0 +1,376 @@
+//! Scans into nodes that are added while the text is read: their number is bounded by what was read,
+//! not by what may follow.
+ghost use Rattle.std.specs.Prelude.{◌≡◌, ◌≤◌, ◌<◌, ◌^◌, length, take, false};
+ghost use Rattle.std.specs.Prelude.{IfOk, IfErr, IfSome, IsTrue};
+ghost use Rattle.sf_value.specs.declared.dialect.Dialect.{Dialect as Which};
+ghost use Rattle.sf_value.specs.declared.value.Kind.TheVariants as kind_is;
+ghost use Rattle.sf_view.specs.Accepts.{Accepts, IsListed, AreEntries};
+ghost use Rattle.sf_view.specs.Scans.{ScansMember, ScansEntry, DistinguishKeys};
+ghost use Rattle.sf_view.specs.Settling.{HasParts};
+
+use crate::buffer::most_nodes;
+use crate::classes::{behind, behind_spaces, behind_white, ends};
+use crate::item::{KeyPlace, NO_KEY, Scan, scan_entry, scan_member};
+use crate::keys::Marks;
+use crate::node::Node;
+use crate::series::whole_item;
+use crate::settling::settled_nodes;
+use sf_value::{Dialect, Kind, OutOfMemory};
+use std::alloc::Global;
+
+/// The number of nodes that a scan begins with, if the text may need so many.
+const FIRST: usize = 4096;
+
+/// How many times as many nodes there are when nodes were added. What is read again, since a member had
+/// too few, is then at most a third of what is kept.
+const FACTOR: usize = 4;
+
+/// The number of nodes that are added together.
+const BLOCK: usize = 32;
+
+/// The most times that nodes are added: more than a text of 4 GiB needs.
+const ADDITIONS: usize = 32;
+
+/// Whether nodes may have been too few, so that one of the last three was written: only an Inner List
+/// and an Item in it are written after the nodes of their parts.
+fn are_used_up(nodes: &[Node]) -> bool {
+    let (_, last) = nodes.split_at(nodes.len().saturating_sub(3));
+    let mut used = last.len() < 3;
+    for node in last {
+        used = used || node.size != 0;
+    }
+    used
+}
+
+/// Adds nodes: four times as many are then there, but no more than the text may need.
+fn lengthen(nodes: &mut Vec<Node>, most: usize) -> Result<(), OutOfMemory>
+    ensures longer { IfOk result (λ _. length nodes.old.items ≤ length nodes.new.items) }
+    ensures kept { IfOk result
+        (λ _. take (length nodes.old.items) nodes.new.items ≡ nodes.old.items) }
+{
+    let enough = nodes.len().saturating_mul(FACTOR).max(FIRST).min(most);
+    let blocks = enough.saturating_sub(nodes.len()).div_ceil(BLOCK).max(1);
+    nodes.reserve_exact(blocks.saturating_mul(BLOCK))?;
+    let block = [Node::NONE; BLOCK];
+    for _ in 0..blocks {
+        nodes.extend_from_slice(&block)?;
+    }
+    Ok(())
+}
+
+/// An Item. It is read anew with more nodes.
+fn grown_item(
+    dialect: Dialect,
+    text: &[u8],
+    most: usize,
+    nodes: &mut Vec<Node>,
+) -> Result<Option<usize>, OutOfMemory>
+    requires small { length text.now < 2 ^ 32 }
+    ensures { IfOk result (λ found. IfSome found
+        (λ n. Accepts dialect kind_is.Item text.now nodes.new.items n)) }
+{
+    for _ in 0..ADDITIONS {
+        if let Some(count) = whole_item(dialect, text, nodes.as_mut_slice()) {
+            return Ok(Some(count));
+        }
+        if nodes.len() >= most || !are_used_up(nodes.as_slice()) {
+            return Ok(None);
+        }
+        lengthen(nodes, most)?;
+    }
+    Ok(None)
+}
+
+/// A member after the first `count` nodes, which stay as they are, whether there is a member or not.
+#[inline(always)]
+fn member_behind<'a>(
+    dialect: Dialect,
+    text: &[u8],
+    rest: &'a [u8],
+    key: KeyPlace,
+    nodes: &mut [Node],
+    count: usize,
+) -> Option<Scan<'a>>
+    requires small { length text.now < 2 ^ 32 }
+    requires within { length rest.now ≤ length text.now }
+    requires there { count ≤ length nodes.old }
+    ensures same { length nodes.new ≡ length nodes.old }
+    ensures kept { take count nodes.new ≡ take count nodes.old }
+    ensures scans { IfSome result (λ s. ScansMember dialect text.now rest.now s.rest.now key
+        nodes.old nodes.new count s.count) }
+{
+    let (_, free) = nodes.split_at_mut(count);
+    let scan = scan_member(dialect, text, rest, key, free, 0)?;
+    Some(Scan {
+        rest: scan.rest,
+        count: count + scan.count,
+    })
+}
+
+/// The same of a member of a Dictionary, and the mark of its key.
+#[inline(always)]
+fn entry_behind<'a>(
+    dialect: Dialect,
+    text: &[u8],
+    rest: &'a [u8],
+    nodes: &mut [Node],
+    count: usize,
+) -> Option<(Scan<'a>, u32)>
+    requires small { length text.now < 2 ^ 32 }
+    requires within { length rest.now ≤ length text.now }
+    requires there { count ≤ length nodes.old }
+    ensures same { length nodes.new ≡ length nodes.old }
+    ensures kept { take count nodes.new ≡ take count nodes.old }
+    ensures scans { IfSome result (λ r. ScansEntry dialect text.now rest.now r.0.rest.now r.1
+        nodes.old nodes.new count r.0.count) }
+{
+    let (_, free) = nodes.split_at_mut(count);
+    let (scan, mark) = scan_entry(dialect, text, rest, free, 0)?;
+    let behind = Scan {
+        rest: scan.rest,
+        count: count + scan.count,
+    };
+    Some((behind, mark))
+}
+
+/// The members of a List from this place on, after so many nodes: the number of all nodes, or the
+/// place and the number before the member that cannot be read, or has too few nodes.
+fn list_from<'a>(
+    dialect: Dialect,
+    text: &'a [u8],
+    from: Scan<'a>,
+    nodes: &mut [Node],
+) -> Result<usize, Scan<'a>>
+    requires small { length text.now < 2 ^ 32 }
+    requires so_far { IsListed dialect text.now from.rest.now nodes.old from.count }
+    ensures same { length nodes.new ≡ length nodes.old }
+    ensures accepts { IfOk result (λ n. Accepts dialect kind_is.List text.now nodes.new n) }
+    ensures stopped { IfErr result (λ s. IsListed dialect text.now s.rest.now nodes.new s.count) }
+{
+    let mut rest = from.rest;
+    let mut count = from.count;
+    loop {
+        let Some(scan) = member_behind(dialect, text, rest, NO_KEY, nodes, count) else {
+            return Err(Scan { rest, count });
+        };
+        let white = behind_white(scan.rest);
+        if ends(white) {
+            return Ok(scan.count);
+        }
+        let Some(more) = behind(white, b',') else {
+            return Err(Scan { rest, count });
+        };
+        rest = behind_white(more);
+        count = scan.count;
+    }
+}
+
+/// A List. It is read on, from the member that had too few nodes.
+fn grown_list(
+    dialect: Dialect,
+    text: &[u8],
+    most: usize,
+    nodes: &mut Vec<Node>,
+) -> Result<Option<usize>, OutOfMemory>
+    requires small { length text.now < 2 ^ 32 }
+    ensures { IfOk result (λ found. IfSome found
+        (λ n. Accepts dialect kind_is.List text.now nodes.new.items n)) }
+{
+    let mut from = Scan {
+        rest: behind_spaces(text),
+        count: 0,
+    };
+    if ends(from.rest) {
+        return Ok(Some(0));
+    }
+    for _ in 0..ADDITIONS {
+        match list_from(dialect, text, from, nodes.as_mut_slice()) {
+            Ok(count) => return Ok(Some(count)),
+            Err(stop) => from = stop,
+        }
+        if nodes.len() >= most || !are_used_up(nodes.as_slice()) {
+            return Ok(None);
+        }
+        lengthen(nodes, most)?;
+    }
+    Ok(None)
+}
+
+/// Where a scan of a Dictionary is: the rest of the text, the number of nodes before it, the marks of
+/// the keys that these have, and whether they were settled.
+#[derive(Clone, Copy, Drop)]
+struct DictScan<'a> {
+    rest: &'a [u8],
+    count: usize,
+    marks: Marks,
+    settled: bool,
+}
+
+/// Whether the keys of these nodes differ, and no members were settled, which repeated a key.
+#[inline]
+fn are_apart(settled: bool, marks: Marks, text: &[u8], nodes: &[Node]) -> bool
+    ensures { IsTrue result → DistinguishKeys marks text.now nodes.now }
+{
+    if settled {
+        return false;
+    }
+    marks.differ(text, nodes)
+}
+
+/// The members of a Dictionary from this place on: the number of all nodes, or the place before the
+/// member that cannot be read, or has too few nodes. If a key is repeated or, rarely, there are too
+/// many keys to find out, the flag is set, and the nodes describe members in which keys are repeated.
+#[inline]
+fn dict_from<'a>(
+    dialect: Dialect,
+    text: &'a [u8],
+    from: DictScan<'a>,
+    repeated: &mut bool,
+    nodes: &mut [Node],
+) -> Result<usize, DictScan<'a>>
+    requires small { length text.now < 2 ^ 32 }
+    requires unset { repeated.old ≡ false }
+    requires so_far { AreEntries dialect text.now from.rest.now from.marks nodes.old from.count }
+    ensures same { length nodes.new ≡ length nodes.old }
+    ensures parts { IfOk result
+        (λ n. HasParts dialect kind_is.Dict text.now nodes.new n repeated.new) }
+    ensures stopped { IfErr result
+        (λ s. AreEntries dialect text.now s.rest.now s.marks nodes.new s.count) }
+    ensures still_unset { IfErr result (λ _. repeated.new ≡ false) }
+{
+    let mut rest = from.rest;
+    let mut count = from.count;
+    let mut marks = from.marks;
+    loop {
+        let Some((scan, mark)) = entry_behind(dialect, text, rest, nodes, count) else {
+            return Err(DictScan {
+                rest,
+                count,
+                marks,
+                settled: from.settled,
+            });
+        };
+        let later_marks = marks.with(mark);
+        let white = behind_white(scan.rest);
+        if ends(white) {
+            if are_apart(from.settled, later_marks, text, &nodes[..scan.count]) {
+                return Ok(scan.count);
+            }
+            *repeated = true;
+            return Ok(scan.count);
+        }
+        let Some(more) = behind(white, b',') else {
+            return Err(DictScan {
+                rest,
+                count,
+                marks,
+                settled: from.settled,
+            });
+        };
+        rest = behind_white(more);
+        count = scan.count;
+        marks = later_marks;
+    }
+}
+
+/// Settles the members that were read, if they are many and at most half of them stay: then the nodes
+/// are bounded by the number of different keys. `unsettled` is the length of the text behind the members
+/// of which this was tried before.
+fn condense<'a>(
+    alloc: Global,
+    text: &'a [u8],
+    from: DictScan<'a>,
+    unsettled: &mut usize,
+    nodes: &mut Vec<Node>,
+) -> DictScan<'a>
+    requires there { from.count ≤ length nodes.old.items }
+    // Whatever the dialect of the text is.
+    ensures { (d : Which)
+        → AreEntries d text.now from.entry.rest.now from.entry.marks nodes.old.items from.entry.count
+        → AreEntries d text.now result.rest.now result.marks nodes.new.items result.count }
+{
+    if from.count < FIRST / 2 {
+        return from;
+    }
+    let left = from.rest.len();
+    let read = unsettled.saturating_sub(left);
+    *unsettled = left;
+    let (raw, _) = nodes.as_slice().split_at(from.count);
+    let Some(settled) = settled_nodes(alloc, text, read, raw, true) else {
+        return from;
+    };
+    let count = settled.len();
+    *nodes = settled;
+    DictScan {
+        rest: from.rest,
+        count,
+        marks: Marks::ALL,
+        settled: true,
+    }
+}
+
+/// A Dictionary, as a List. If a key is repeated or, rarely, there are too many keys to find out, the
+/// flag is set, and the nodes describe members in which keys are repeated.
+fn grown_dict(
+    alloc: Global,
+    dialect: Dialect,
+    text: &[u8],
+    most: usize,
+    repeated: &mut bool,
+    nodes: &mut Vec<Node>,
+) -> Result<Option<usize>, OutOfMemory>
+    requires small { length text.now < 2 ^ 32 }
+    requires unset { repeated.old ≡ false }
+    ensures { IfOk result (λ found. IfSome found
+        (λ n. HasParts dialect kind_is.Dict text.now nodes.new.items n repeated.new)) }
+{
+    let mut from = DictScan {
+        rest: behind_spaces(text),
+        count: 0,
+        marks: Marks::NONE,
+        settled: false,
+    };
+    if ends(from.rest) {
+        return Ok(Some(0));
+    }
+    let mut unsettled = text.len();
+    for _ in 0..text.len() {
+        match dict_from(dialect, text, from, repeated, nodes.as_mut_slice()) {
+            Ok(count) => return Ok(Some(count)),
+            Err(stop) => from = stop,
+        }
+        if nodes.len() >= most || !are_used_up(nodes.as_slice()) {
+            return Ok(None);
+        }
+        from = condense(alloc, text, from, &mut unsettled, nodes);
+        lengthen(nodes, most)?;
+    }
+    Ok(None)
+}
+
+/// Writes a node for each part of the text to the buffer, to which nodes are added as they are needed,
+/// and returns their number; `None` claims nothing. If a key of a Dictionary is repeated, or there are
+/// too many keys to find out, the flag is set, and the nodes describe members in which keys are
+/// repeated.
+pub(crate) fn grown_parts(
+    alloc: Global,
+    dialect: Dialect,
+    kind: Kind,
+    repeated: &mut bool,
+    text: &[u8],
+    nodes: &mut Vec<Node>,
+) -> Result<Option<usize>, OutOfMemory>
+    requires unset { repeated.old ≡ false }
+    ensures { IfOk result (λ found. IfSome found
+        (λ n. HasParts dialect kind text.now nodes.new.items n repeated.new)) }
+{
+    if text.len() > 0xffff_ffff {
+        return Ok(None);
+    }
+    let most = most_nodes(text);
+    match kind {
+        Kind::Item => return grown_item(dialect, text, most, nodes),
+        Kind::List => return grown_list(dialect, text, most, nodes),
+        Kind::Dict => return grown_dict(alloc, dialect, text, most, repeated, nodes),
+    }
+}
