@@ -430,10 +430,10 @@ fn plain(alloc: Global, seed: &RandomState) -> Item {
 fn room_of_params(alloc: Global, params: &mut Entries<Bare>) -> usize {
     let len = params.len();
     for name in MORE_NAMES {
-        if params
-            .set_named(alloc, &[b'*', *name], Bare::Boolean(true))
-            .is_err()
-        {
+        let Ok(key) = Key::new(alloc, &[b'*', *name]) else {
+            break;
+        };
+        if params.set(key, Bare::Boolean(true)).is_err() {
             break;
         }
     }
