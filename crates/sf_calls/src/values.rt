@@ -158,8 +158,9 @@ fn update_priorities(session: &mut Session, record: &Record) -> anyhow::Result<(
     let mut dict = dict;
     session.calls_begin();
     for _ in 0..record.times {
-        let asked = Priority::from_dict(&dict);
-        dict = update_priority(session.alloc, &session.seed, dict, merge(asked, asked))?;
+        let client = Priority::from_dict(&dict);
+        let server = Priority::from_dict(&dict);
+        dict = update_priority(session.alloc, &session.seed, dict, merge(client, server))?;
         session.digest.number(dict.members.len() as u64);
     }
     session.calls_end();
