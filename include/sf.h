@@ -20,8 +20,9 @@
  * Each function returns an sf_status, except sf_priority_merge, sf_lifetime, sf_version and, of the
  * inline functions, those that say otherwise; a dialect is an sf_dialect, and a kind is an sf_kind.
  * All are passed as integers of a fixed width, since the width of an enum is not fixed, and since
- * any number may be passed. The constants for kinds, dialects, roles and types all differ, and none
- * is 0: if a kind is passed as the dialect, or a dialect as the kind, the call returns SF_BAD_CALL.
+ * any number may be passed. The constants for kinds, dialects, roles, types, caches, reuses and
+ * causes all differ, and none is 0: if a kind is passed as the dialect, or a dialect as the kind,
+ * the call returns SF_BAD_CALL.
  *
  * Bytes are octets, and texts are not NUL-terminated, except those passed to some of the inline
  * functions of sf_builder. Offsets are in bytes and begin at 0. The library requires a size_t of 64
@@ -759,7 +760,8 @@ static inline uint32_t sf_write_built(const sf_seed *seed, uint32_t dialect, uin
                   builder->bytes, builder->bytes_length, buffer, buffer_length, required, invalid);
 }
 
-/* The parameters of a Priority field (RFC 9218 section 4), with defaults for absent ones. */
+/* The parameters of the Priority field of a request (RFC 9218 section 4), with defaults for absent
+ * ones. */
 typedef struct sf_priority_flags {
   uint8_t urgency;          /* from SF_URGENCY_FIRST to SF_URGENCY_LAST; SF_URGENCY_DEFAULT if the
                                field does not set it (4.1) */
@@ -768,13 +770,24 @@ typedef struct sf_priority_flags {
   uint8_t has_incremental;  /* 1 if the field sets incremental, otherwise 0 */
 } sf_priority_flags;
 
-/* Initialises the priority of a field that is absent or malformed, which sets nothing:
+/* Initialises the priority of a request whose field is absent or malformed, which sets nothing:
  * sf_priority_flags priority = SF_PRIORITY_UNSET; */
 #define SF_PRIORITY_UNSET {SF_URGENCY_DEFAULT, 0, 0, 0}
 
+/* What a server sets by the Priority field of a response (RFC 9218 section 8). A parameter that is
+ * absent there has no default: it leaves what the client asked for. A struct of zeros sets nothing:
+ * sf_response_priority_flags priority = {0, 0, 0, 0}; */
+typedef struct sf_response_priority_flags {
+  uint8_t urgency;          /* from SF_URGENCY_FIRST to SF_URGENCY_LAST; 0 if it is not set */
+  uint8_t incremental;      /* 1 if the response is of use as it arrives, otherwise 0; 0 if it is
+                               not set */
+  uint8_t has_urgency;      /* 1 if the urgency is set, otherwise 0 */
+  uint8_t has_incremental;  /* 1 if incremental is set, otherwise 0 */
+} sf_response_priority_flags;
+
 /*
- * Reads the text of a Priority field (RFC 9218 section 5). Members that are unknown, of another
- * type or out of range are ignored.
+ * Reads the text of the Priority field of a request (RFC 9218 section 5). Members that are unknown,
+ * of another type or out of range are ignored.
  *
  *   SF_OK         *priority is written
  *   SF_REFUSED    the text is not a well-formed Dictionary; refusal says where and why
@@ -786,24 +799,49 @@ typedef struct sf_priority_flags {
 uint32_t sf_priority(const sf_seed *seed, const void *text, size_t text_length,
                      sf_priority_flags *priority, sf_refusal *refusal);
 
-/*
- * Merges the priorities of a client's request and a server's response (RFC 9218 section 8). Each
- * parameter is the server's if the server sets it, otherwise the client's if the client sets it,
- * otherwise the default. In the arguments, any number but 0 counts as 1 in incremental, has_urgency
- * and has_incremental; urgency counts only if has_urgency is set, and incremental only if
- * has_incremental is; and an urgency above SF_URGENCY_LAST counts as not set.
- */
-sf_priority_flags sf_priority_merge(const sf_priority_flags *client,
-                                    const sf_priority_flags *server);
+/* The same in a dialect: RFC 9218 cites RFC 8941, by which a text with a Date or a Display String
+ * is malformed. Also returns SF_BAD_CALL. */
+uint32_t sf_priority_in(const sf_seed *seed, uint32_t dialect, const void *text, size_t text_length,
+                        sf_priority_flags *priority, sf_refusal *refusal);
 
-/* The size in bytes of a buffer that is large enough for each text of sf_priority_text. */
+/*
+ * Reads the text of the Priority field of a response (RFC 9218 section 8), in a dialect. Members
+ * are ignored as by sf_priority.
+ *
+ *   SF_OK         *priority is written
+ *   SF_REFUSED    the text is not a well-formed Dictionary; refusal says where and why
+ *   SF_NO_MEMORY, SF_BAD_CALL
+ *
+ * Unless SF_OK is returned, *priority is unchanged. Does not allocate for a well-formed text of
+ * less than 4 GiB.
+ */
+uint32_t sf_response_priority(const sf_seed *seed, uint32_t dialect, const void *text,
+                              size_t text_length, sf_response_priority_flags *priority,
+                              sf_refusal *refusal);
+
+/*
+ * Merges the priority of a request and that of its response (RFC 9218 section 8). Each parameter is
+ * the server's if the server sets it, otherwise the client's if the client sets it, otherwise the
+ * default. The result is for the sender of this response to this client: the field of a response is
+ * end-to-end (section 5), so it is forwarded as the server wrote it, without what the client asked
+ * for.
+ *
+ * In the arguments, any number but 0 counts as 1 in incremental, has_urgency and has_incremental;
+ * urgency counts only if has_urgency is set, and incremental only if has_incremental is; and an
+ * urgency above SF_URGENCY_LAST counts as not set.
+ */
+sf_priority_flags sf_priority_merge(const sf_priority_flags *request,
+                                    const sf_response_priority_flags *response);
+
+/* The size in bytes of a buffer that is large enough for each text of sf_priority_text and of
+ * sf_response_priority_text. */
 #define SF_PRIORITY_SIZE 9
 
 /*
- * Writes the text of a Priority field (RFC 9218 section 5) that sets what *priority sets, and
- * nothing else: u if has_urgency is set, then i if has_incremental is set, even to the defaults.
- * sf_priority reads the same priority from it. If the text is empty, the field is not to be sent
- * (RFC 9651 section 4.1).
+ * Writes the text of the Priority field of a request (RFC 9218 section 5) that sets what *priority
+ * sets, and nothing else: u if has_urgency is set, then i if has_incremental is set, even to the
+ * defaults. sf_priority reads the same priority from it. If the text is empty, the field is not to
+ * be sent (RFC 9651 section 4.1).
  *
  *   SF_OK     the first *required bytes of buffer are the text; the others are unchanged
  *   SF_SHORT  the text has *required bytes, more than buffer_length; buffer is unchanged
@@ -812,6 +850,22 @@ sf_priority_flags sf_priority_merge(const sf_priority_flags *client,
  */
 uint32_t sf_priority_text(const sf_priority_flags *priority, void *buffer, size_t buffer_length,
                           size_t *required);
+
+/*
+ * Writes the text of the Priority field of a response (RFC 9218 section 8) that sets what *priority
+ * sets, and nothing else, likewise: u=3 or i=?0 too, since an absent parameter is not a default
+ * there. sf_response_priority reads the same from it.
+ *
+ *   SF_OK       the first *required bytes of buffer are the text; the others are unchanged
+ *   SF_SHORT    the text has *required bytes, more than buffer_length; buffer is unchanged
+ *   SF_INVALID  urgency is above SF_URGENCY_LAST, or is not 0 though has_urgency is 0, or
+ *               incremental is not 0 though has_incremental is 0
+ *
+ * Unless SF_OK or SF_SHORT is returned, buffer and *required are unchanged. In *priority, any
+ * number but 0 sets a flag. Does not allocate.
+ */
+uint32_t sf_response_priority_text(const sf_response_priority_flags *priority, void *buffer,
+                                   size_t buffer_length, size_t *required);
 
 /*
  * Writes the canonical text of a Priority field in which u is set if has_urgency is set, and i if
@@ -858,6 +912,34 @@ typedef struct sf_policy {
 uint32_t sf_cache_control(const sf_seed *seed, const void *text, size_t text_length,
                           sf_policy *policy, sf_refusal *refusal);
 
+/* The directives that decide how a cache handles a response (RFC 9111 section 5.2.2), for
+ * sf_decide. */
+typedef struct sf_rules {
+  sf_policy policy;
+  uint8_t invalid_max_age;  /* 1 if max-age is present, but is not an Integer of at least 0: the
+                               response is stale (RFC 9111 section 4.2.1); otherwise 0 */
+  uint8_t invalid_s_maxage; /* the same for s-maxage, in a shared cache */
+  uint8_t proxy_revalidate; /* 1 if the directive is present and not ?0, otherwise 0 */
+  uint8_t must_understand;  /* the same for must-understand */
+  uint8_t is_public;        /* the same for public */
+} sf_rules;
+
+/*
+ * Reads the text of one targeted field (RFC 9213 section 2.1), for sf_decide, in a dialect: RFC
+ * 9213 cites RFC 8941, by which a text with a Date or a Display String is malformed. After
+ * SF_REFUSED or SF_EMPTY, a cache ignores this field, as after the same of sf_cache_control.
+ *
+ *   SF_OK         *rules is written
+ *   SF_EMPTY      the Dictionary has no members
+ *   SF_REFUSED    the text is not a well-formed Dictionary; refusal says where and why
+ *   SF_NO_MEMORY, SF_BAD_CALL
+ *
+ * Unless SF_OK is returned, *rules is unchanged. Does not allocate for a well-formed text of less
+ * than 4 GiB.
+ */
+uint32_t sf_cache_rules(const sf_seed *seed, uint32_t dialect, const void *text, size_t text_length,
+                        sf_rules *rules, sf_refusal *refusal);
+
 /* A range of bytes in one of the caller's buffers. */
 typedef struct sf_span {
   size_t at;     /* offset of its first byte */
@@ -886,12 +968,129 @@ uint32_t sf_select(const sf_seed *seed, const void *texts, size_t texts_length,
                    const sf_span *fields, size_t fields_length, size_t *index, sf_policy *policy);
 
 /*
+ * Chooses the field that a cache obeys, as sf_select does, in a dialect, and writes its directives
+ * for sf_decide. The results are those of sf_select, with *rules in the place of *policy; and
+ * SF_BAD_CALL also if there is no such dialect.
+ */
+uint32_t sf_select_rules(const sf_seed *seed, uint32_t dialect, const void *texts,
+                         size_t texts_length, const sf_span *fields, size_t fields_length,
+                         size_t *index, sf_rules *rules);
+
+/* A cache by who uses what it stores (RFC 9111 section 1). */
+typedef enum sf_cache {
+  SF_SHARED_CACHE = 31, /* stores responses for more than one user */
+  SF_PRIVATE_CACHE = 32 /* stores responses for one user */
+} sf_cache;
+
+/* What a cache knows of a response beside its directives. In a struct of zeros the response is new,
+ * has no other lifetime, and its status code is not understood. */
+typedef struct sf_response {
+  uint64_t age;          /* its age in seconds (RFC 9111 section 4.2.3) */
+  uint64_t lifetime;     /* the seconds from Date to Expires (4.2.1), or of a heuristic (4.2.2),
+                            which count if no directive sets a lifetime; 0 if there are none */
+  uint8_t has_lifetime;  /* 1 if there is such a lifetime, otherwise 0 */
+  uint8_t is_understood; /* 1 if the cache understands the status code and implements its
+                            requirements, otherwise 0: must-understand forbids to store the response
+                            if it is 0, and no-store beside it is ignored if it is 1 (5.2.2.3) */
+} sf_response;
+
+/* How a cache may use a response (RFC 9111 sections 3 and 4). */
+typedef enum sf_reuse {
+  SF_REUSE_NOT_STORED = 41,  /* it is not stored, so it is never used again */
+  SF_REUSE_FRESH = 42,       /* it may be stored, and is used without validation */
+  SF_REUSE_STALE = 43,       /* it may be stored; it is used without validation only if the cache is
+                                disconnected, or if the client or the origin permits it (4.2.4) */
+  SF_REUSE_REVALIDATE = 44,  /* it may be stored; it is never used without validation */
+  SF_REUSE_UNSPECIFIED = 45  /* no directive sets a lifetime: it may be stored if its status code or
+                                allows_storing permits it, and a heuristic may apply (4.2.2) */
+} sf_reuse;
+
+/* The directive that decided (RFC 9111 section 5.2.2). */
+typedef enum sf_cause {
+  SF_BY_NOTHING = 51,          /* no directive */
+  SF_BY_NO_STORE = 52,         /* no-store (5.2.2.5) */
+  SF_BY_PRIVATE = 53,          /* private, in a shared cache (5.2.2.7) */
+  SF_BY_MUST_UNDERSTAND = 54,  /* must-understand (5.2.2.3) */
+  SF_BY_NO_CACHE = 55,         /* no-cache (5.2.2.4) */
+  SF_BY_MAX_AGE = 56,          /* max-age (5.2.2.1) */
+  SF_BY_S_MAXAGE = 57,         /* s-maxage, in a shared cache (5.2.2.10) */
+  SF_BY_INVALID_MAX_AGE = 58,  /* a max-age that can't be used (4.2.1) */
+  SF_BY_INVALID_S_MAXAGE = 59, /* an s-maxage that can't be used (4.2.1) */
+  SF_BY_EXPIRES = 60,          /* sf_response.lifetime */
+  SF_BY_MUST_REVALIDATE = 61,  /* must-revalidate (5.2.2.2) */
+  SF_BY_PROXY_REVALIDATE = 62  /* proxy-revalidate, in a shared cache (5.2.2.8) */
+} sf_cause;
+
+/* Returns the name of the directive that decided, such as "no-store"; "" for SF_BY_NOTHING and for
+ * a number that is no sf_cause. */
+static inline const char *sf_cause_name(uint32_t cause) {
+  switch (cause) {
+  case SF_BY_NO_STORE:
+    return "no-store";
+  case SF_BY_PRIVATE:
+    return "private";
+  case SF_BY_MUST_UNDERSTAND:
+    return "must-understand";
+  case SF_BY_NO_CACHE:
+    return "no-cache";
+  case SF_BY_MAX_AGE:
+    return "max-age";
+  case SF_BY_S_MAXAGE:
+    return "s-maxage";
+  case SF_BY_INVALID_MAX_AGE:
+    return "invalid max-age";
+  case SF_BY_INVALID_S_MAXAGE:
+    return "invalid s-maxage";
+  case SF_BY_EXPIRES:
+    return "expires";
+  case SF_BY_MUST_REVALIDATE:
+    return "must-revalidate";
+  case SF_BY_PROXY_REVALIDATE:
+    return "proxy-revalidate";
+  default:
+    return "";
+  }
+}
+
+/* What a cache decides about a response. */
+typedef struct sf_decision {
+  uint64_t seconds;          /* for how many seconds it stays fresh, at least 1; 0 if it is not
+                                SF_REUSE_FRESH */
+  uint8_t reuse;             /* an sf_reuse */
+  uint8_t by;                /* an sf_cause */
+  uint8_t allows_storing;    /* 1 if a directive permits to store it, whatever its status code (RFC
+                                9111 section 3), otherwise 0 */
+  uint8_t allows_authorized; /* 1 if a directive permits a shared cache to store it, though the
+                                request had Authorization (3.5), otherwise 0 */
+} sf_decision;
+
+/*
+ * Decides what a cache does with a response by its directives and its age (RFC 9111 sections 3, 4.2
+ * and 5.2.2): whether it is stored, for how long it is fresh, or whether it has to be validated
+ * first, and which directive decides. Of directives that conflict, the most restrictive one decides
+ * (section 4.2.1): no-store before no-cache before any lifetime. Ages and lifetimes above 2^31
+ * seconds count as 2^31 (section 1.2.2). The cache is an sf_cache.
+ *
+ *   SF_OK        *decision is written
+ *   SF_BAD_CALL  there is no such cache
+ *   SF_INVALID   max_age, s_maxage or lifetime is not 0, though its has_ flag is 0
+ *
+ * Unless SF_OK is returned, *decision is unchanged. In *rules and *response, any number but 0 sets
+ * a flag. Does not allocate.
+ */
+uint32_t sf_decide(const sf_rules *rules, uint32_t cache, const sf_response *response,
+                   sf_decision *decision);
+
+/*
  * Computes the freshness lifetime of a response by a policy, in a shared cache if shared is not 0,
  * otherwise in a private cache. In a shared cache s-maxage takes precedence over max-age (RFC 9111
  * section 4.2.1); in a private cache only max-age counts. In *policy, any number but 0 sets a flag.
  *
  *   1  *seconds is the lifetime
  *   0  the policy sets no lifetime; *seconds is unchanged
+ *
+ * The lifetime alone does not say that a response is fresh: no-cache, no-store and must-revalidate
+ * decide before it, and its age counts. sf_decide takes all of them.
  *
  * The result is not an sf_status: do not compare it with SF_OK, which is 0.
  */
@@ -983,6 +1182,12 @@ uint32_t sf_cache_status(const sf_seed *seed, const void *text, size_t text_leng
                          size_t hops_capacity, void *bytes, size_t bytes_capacity, sf_path *path,
                          sf_refusal *refusal);
 
+/* The same in a dialect: RFC 9211 cites RFC 8941, by which a text with a Date or a Display String
+ * is malformed. Also returns SF_BAD_CALL. */
+uint32_t sf_cache_status_in(const sf_seed *seed, uint32_t dialect, const void *text,
+                            size_t text_length, sf_hop *hops, size_t hops_capacity, void *bytes,
+                            size_t bytes_capacity, sf_path *path, sf_refusal *refusal);
+
 /*
  * Writes the text of a Cache-Status field (RFC 9211 section 2) whose only member is *hop: a field
  * line that a cache adds after the lines that came from the caches nearer the origin.
@@ -1007,6 +1212,29 @@ uint32_t sf_cache_status(const sf_seed *seed, const void *text, size_t text_leng
  */
 uint32_t sf_hop_text(const sf_seed *seed, const sf_hop *hop, const void *bytes, size_t bytes_length,
                      void *buffer, size_t buffer_length, size_t *required);
+
+/*
+ * Writes the canonical text of a Cache-Status field with *hop as its last member (RFC 9211 section
+ * 2), in the place of the lines that were received. The text is that of these lines, joined, or
+ * empty if there are none; the ranges of *hop are in bytes.
+ *
+ *   SF_OK       the first *required bytes of buffer are the text; the others are unchanged
+ *   SF_SHORT    the text has *required bytes, more than buffer_length; buffer is unchanged
+ *   SF_REFUSED  the text that was received is not a well-formed List; refusal says where and why.
+ *               Nothing is appended to it: who reads it ignores all of it, and each line that is
+ *               added to it (RFC 9651 section 4.2). Send the text of sf_hop_text in its place
+ *   SF_INVALID  *hop is not a hop, as for sf_hop_text, or its outcome is SF_CONFLICT: only one of
+ *               hit and fwd should appear (section 2.1)
+ *   SF_NO_MEMORY, SF_BAD_CALL
+ *
+ * SF_INVALID is returned if and only if *hop is not such a hop, even if the text is malformed or an
+ * allocation would fail. Unless SF_OK or SF_SHORT is returned, buffer and *required are unchanged.
+ * In *hop, numbers count as for sf_hop_text.
+ */
+uint32_t sf_cache_status_append(const sf_seed *seed, uint32_t dialect, const void *text,
+                                size_t text_length, const sf_hop *hop, const void *bytes,
+                                size_t bytes_length, void *buffer, size_t buffer_length,
+                                size_t *required, sf_refusal *refusal);
 
 /* The state of joining the lines of a field. Begin with zeros: sf_joined joined = {0, 0, 0}; */
 typedef struct sf_joined {

@@ -1,7 +1,7 @@
 -- A priority as a struct.
 use Rattle.std.specs.Prelude.{◌≡◌, ℕ, pos, ◌==◌, nat_le, not, if◌then◌else◌, List, [], ◌∷◌, ◌++◌}
 use Rattle.std.specs.Prelude.{is_some, codes, Bool, Option, Some, None}
-use Rattle.sf_value.specs.declared.dialect.Dialect.TheVariants.{Rfc9651}
+use Rattle.sf_value.specs.declared.dialect.Dialect.{Dialect}
 use Rattle.sf_value.specs.declared.value.Bare.TheVariants.{Boolean, Integer}
 use Rattle.sf_value.specs.declared.value.Dict.{Dict as Dictionary}
 use Rattle.sf_value.specs.declared.value.Field.{Field}
@@ -46,18 +46,18 @@ pub record PriorityOutput : Type 0 where
   pub priority : PriorityFlags
   pub refusal : SyntaxRefusal
 
--- the text spells a Dictionary, and the struct has its parameters; or the other struct has the
--- refusal. Everything else is unchanged
-abbrev pub AsksFor : PriorityOutput → PriorityOutput → List ℕ → Option Status → Type 0
-AsksFor old new t (Some Answered) =
+-- in the dialect d the text spells a Dictionary, and the struct has its parameters; or the other
+-- struct has the refusal. Everything else is unchanged
+abbrev pub AsksFor : PriorityOutput → PriorityOutput → List ℕ → Dialect → Status → Type 0
+AsksFor old new t d Answered =
     (v : Field)
-    × IsOnly Rfc9651 Dict t v
+    × IsOnly d Dict t v
     × SaysAsked new.priority (params_of_field v)
     × (new.refusal ≡ old.refusal)
-AsksFor old new t (Some Refused) =
-    SaysRefusal Rfc9651 Dict t new.refusal × (new.priority ≡ old.priority)
-AsksFor old new t (Some OutOfMemory) = new ≡ old
-AsksFor old new t status = ⊥
+AsksFor old new t d Refused =
+    SaysRefusal d Dict t new.refusal × (new.priority ≡ old.priority)
+AsksFor old new t d OutOfMemory = new ≡ old
+AsksFor old new t d status = ⊥
 
 -- the member u with this urgency (RFC 9218 section 4.1), if there is one
 abbrev pub urgency_member : Option ℕ → Pairs Member

@@ -16,7 +16,7 @@ use crate::refusal::SyntaxRefusal;
 use crate::seed::Seed;
 use crate::status::Status;
 use sf_use::{Asked, update_priority};
-use sf_value::{Dict, Field, OutOfMemory};
+use sf_value::{Dialect, Dict, Field, OutOfMemory};
 use sf_write::to_text;
 use std::alloc::Global;
 use std::hash::RandomState;
@@ -60,7 +60,7 @@ fn change(
         (record { buffer = buffer.new; required = required.new; refusal = refusal.new })
         text.now priority.now (Some result) }
 {
-    let dict = match parse_dict(alloc, seed, Scan::Skipped, text, refusal) {
+    let dict = match parse_dict(alloc, seed, Scan::Skipped, Dialect::Rfc9651, text, refusal) {
         Ok(dict) => dict,
         Err(status) => return status,
     };

@@ -31,7 +31,7 @@ pub extern "C" fn sf_priority_text(
 }
 
 /// Writes the text that sets these parameters.
-fn write(asked: Asked, buffer: &mut [u8], required: &mut usize) -> Status
+pub(crate) fn write(asked: Asked, buffer: &mut [u8], required: &mut usize) -> Status
     ensures puts { PutsText (record { buffer = buffer.old; required = required.old })
         (record { buffer = buffer.new; required = required.new })
         (canon (field_is.Dict (dict_of_params asked))) (Some result) }
