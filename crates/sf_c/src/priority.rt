@@ -5,6 +5,7 @@ ghost use Rattle.sf_use.specs.Priority.{merge_params};
 ghost use Rattle.sf_use.specs.ResponsePriority.{asked_of};
 ghost use Rattle.sf_c.specs.Calls.{ChecksDialect, dialect_at};
 ghost use Rattle.sf_c.specs.Priorities.{AsksFor, SaysAsked, params_of_flags, flag_at, urgency_at};
+ghost use Rattle.sf_c.specs.Priorities.{has_unset_value as is_unset};
 ghost use Rattle.sf_c.specs.ResponsePriorities.{response_of_flags};
 ghost use Rattle.sf_c.specs.Statuses.{status_at};
 
@@ -55,6 +56,16 @@ impl PriorityFlags {
             urgency: urgency_of(self.has_urgency, self.urgency),
             incremental: flag_of(self.has_incremental, self.incremental),
         }
+    }
+
+    /// Whether the struct has a value that it does not set, but for the default that reading a
+    /// field writes, or an urgency that is none.
+    pub(crate) fn has_unset_value(&self) -> bool
+        ensures { result ≡ is_unset self.now }
+    {
+        self.urgency > 7
+            || (self.has_urgency == 0 && self.urgency != 0 && self.urgency != 3)
+            || (self.has_incremental == 0 && self.incremental != 0)
     }
 }
 
