@@ -294,9 +294,9 @@ static inline sf_line_place sf_refusal_line(const sf_refusal *refusal, const sf_
 
 /*
  * Writes the error message of a refusal, a second line with at most so many bytes of the text
- * around the offset, and a caret below the offset, without a newline at the end. So the message of a
- * text of any length has a bound. Bytes are written as by sf_refusal_in_text. The results are those
- * of sf_refusal_text.
+ * around the offset, and a caret below the offset, without a newline at the end. So the message has a
+ * bound, whatever the length of the text. Bytes are written as by sf_refusal_in_text. The results
+ * are those of sf_refusal_text.
  */
 SF_USE_RESULT
 static inline uint32_t sf_refusal_excerpt(const sf_refusal *refusal, const void *text,

@@ -41,13 +41,10 @@ static void read_fields(FILE *from) {
     if (colon == NULL)
       continue;
     *colon = '\0';
-    char *value = colon + 1 + strspn(colon + 1, " \t");
-    size_t length = strcspn(value, "\r\n");
-    while (length > 0 && strchr(" \t", value[length - 1]) != NULL) /* RFC 9110 section 5.5 */
-      --length;
+    sf_text value = sf_trim(colon + 1, strcspn(colon + 1, "\r\n"));
     for (int i = 0; i < FIELDS; ++i)
-      if (fields[i][0] == line[0] && strcasecmp(fields[i] + 1, name) == 0 && length > 0 &&
-          sf_join(value, length, texts[i], MOST - 1, &joined[i]) != SF_OK)
+      if (fields[i][0] == line[0] && strcasecmp(fields[i] + 1, name) == 0 && value.length > 0 &&
+          sf_join(value.at, value.length, texts[i], MOST - 1, &joined[i]) != SF_OK)
         give_up("a field is too long");
   }
   free(line);
@@ -109,7 +106,7 @@ int main(int count, char **words) {
   sf_hop hop = {.name = {0, sizeof name_here - 1}, .name_is_token = 1, .outcome = SF_FORWARDED,
                 .why = SF_URI_MISS, .stored = (uint8_t)is_stored, .has_stored = 1,
                 .ttl = (int64_t)decision.seconds, .has_ttl = decision.reuse == SF_REUSE_FRESH};
-  static char path[SF_CANONICAL_SIZE(MOST) + 128];
+  static char path[SF_APPENDED_SIZE(MOST, sizeof name_here)];
   status = sf_cache_status_append(&seed, SF_RFC8941, texts[PATH], joined[PATH].length, &hop,
                                   name_here, hop.name.length, path, sizeof path, &length, &refusal);
   if (status == SF_REFUSED)
