@@ -84,7 +84,7 @@ fn append(
     };
     let list = match parse_list(alloc, seed, dialect, text, refusal) {
         Ok(list) => list,
-        Err(status) => return status,
+        Err(why) => return why,
     };
     let Some(state) = seed.state() else {
         return Status::OutOfMemory;

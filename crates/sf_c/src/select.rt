@@ -92,9 +92,12 @@ fn select_policy(
     ) {
         Status::Answered => {
             *policy = rules.policy;
-            return Status::Answered;
+            Status::Answered
         }
-        status => return status,
+        Status::Empty => Status::Empty,
+        Status::BadCall => Status::BadCall,
+        Status::OutOfMemory => Status::OutOfMemory,
+        _ => unreachable!(),
     }
 }
 
