@@ -1,8 +1,9 @@
 //! What a cache decides about a response (RFC 9111 sections 3 and 4.2).
 ghost use Rattle.std.specs.Prelude.{◌≡◌, Some};
-ghost use Rattle.sf_c.specs.Decisions.{Decides, SaysDecision, are_unset, cache_at, other_lifetime};
+ghost use Rattle.sf_c.specs.Decisions.{Decides, SaysDecision, are_unset, cache_at};
 ghost use Rattle.sf_c.specs.Decisions.{cause_number as number_of_cause, has_unset_seconds as is_unset_in};
 ghost use Rattle.sf_c.specs.Decisions.{fresh_seconds as seconds_if_fresh, rules_for};
+ghost use Rattle.sf_c.specs.Decisions.{other_lifetime as lifetime_of};
 ghost use Rattle.sf_c.specs.Decisions.{reuse_number as number_of_reuse};
 ghost use Rattle.sf_c.specs.Refusals.{flag_number};
 ghost use Rattle.sf_c.specs.Statuses.{status_at};
@@ -48,7 +49,7 @@ pub struct DecisionFlags {
 
 impl Response {
     /// The directives that count: `no-store` is ignored beside a `must-understand` that is met.
-    fn rules(&self, rules: CacheRules) -> CacheRules
+    fn counted(&self, rules: CacheRules) -> CacheRules
         ensures { result ≡ rules_for self.now rules }
     {
         if self.is_understood == 0 {
@@ -58,8 +59,8 @@ impl Response {
     }
 
     /// The lifetime, if there is one.
-    fn lifetime(&self) -> Option<u64>
-        ensures { result ≡ other_lifetime self.now }
+    fn other_lifetime(&self) -> Option<u64>
+        ensures { result ≡ lifetime_of self.now }
     {
         seconds_of(self.has_lifetime, self.lifetime)
     }
@@ -115,9 +116,9 @@ fn decide(
     if has_unset_seconds(rules, response) {
         return Status::Invalid;
     }
-    let rules = response.rules(rules.rules());
-    let decided = rules.decide_with(cache, response.lifetime(), response.age);
-    *decision = DecisionFlags::of(decided, rules, cache);
+    let counted = response.counted(rules.rules());
+    let decided = counted.decide_with(cache, response.other_lifetime(), response.age);
+    *decision = DecisionFlags::of(decided, counted, cache);
     Status::Answered
 }
 

@@ -1,5 +1,5 @@
 //! The priority of a response (RFC 9218 section 8).
-ghost use Rattle.std.specs.Prelude.{◌≡◌, Some};
+ghost use Rattle.std.specs.Prelude.{◌≡◌, unwrap_or, Some};
 ghost use Rattle.sf_c.specs.Calls.{ChecksDialect, dialect_at};
 ghost use Rattle.sf_c.specs.ResponsePriorities.{AnswersPriority, SaysResponse, WritesResponse};
 ghost use Rattle.sf_c.specs.ResponsePriorities.{has_unset_value as is_unset, response_of_flags};
@@ -11,7 +11,7 @@ use crate::priority_text::write;
 use crate::refusal::SyntaxRefusal;
 use crate::seed::Seed;
 use crate::status::Status;
-use sf_use::ResponsePriority;
+use sf_use::{ResponsePriority, Urgency};
 use sf_value::Dialect;
 use std::alloc::Global;
 
@@ -37,10 +37,7 @@ impl ResponsePriorityFlags {
         ensures { SaysResponse result response }
     {
         ResponsePriorityFlags {
-            urgency: match response.urgency {
-                Some(urgency) => urgency.get(),
-                None => 0,
-            },
+            urgency: number_of(response.urgency),
             incremental: u8::from(response.incremental.unwrap_or(false)),
             has_urgency: u8::from(response.urgency.is_some()),
             has_incremental: u8::from(response.incremental.is_some()),
@@ -64,6 +61,16 @@ impl ResponsePriorityFlags {
         self.urgency > 7
             || (self.has_urgency == 0 && self.urgency != 0)
             || (self.has_incremental == 0 && self.incremental != 0)
+    }
+}
+
+/// The number of an urgency; 0 if it is not set.
+fn number_of(urgency: Option<Urgency>) -> u8
+    ensures { result ≡ unwrap_or urgency 0 }
+{
+    match urgency {
+        Some(urgency) => urgency.get(),
+        None => 0,
     }
 }
 
