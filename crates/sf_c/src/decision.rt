@@ -1,8 +1,9 @@
 //! What a cache decides about a response (RFC 9111 sections 3 and 4.2).
 ghost use Rattle.std.specs.Prelude.{◌≡◌, Some};
 ghost use Rattle.sf_c.specs.Decisions.{Decides, SaysDecision, are_unset, cache_at};
-ghost use Rattle.sf_c.specs.Decisions.{cause_number as number_of_cause, has_unset_seconds as is_unset_in};
+ghost use Rattle.sf_c.specs.Decisions.{cause_number as number_of_cause};
 ghost use Rattle.sf_c.specs.Decisions.{fresh_seconds as seconds_if_fresh, rules_for};
+ghost use Rattle.sf_c.specs.Decisions.{has_unset_seconds as is_unset_in};
 ghost use Rattle.sf_c.specs.Decisions.{other_lifetime as lifetime_of};
 ghost use Rattle.sf_c.specs.Decisions.{reuse_number as number_of_reuse};
 ghost use Rattle.sf_c.specs.Refusals.{flag_number};
