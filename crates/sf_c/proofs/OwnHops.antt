@@ -1,5 +1,5 @@
 -- A hop without both hit and fwd, at the end of a List.
-use Rattle.std.proofs.Common.{◌≡◌, ℕ, false, List as Seq, Some, Result, Ok, Err, MatchResult, refl}
+use Rattle.std.proofs.Common.{◌≡◌, ℕ, false, List as Seq, Some, Result, Ok, Err, MatchResult, refl, ap}
 use Rattle.sf_value.specs.declared.dialect.Dialect.{Dialect}
 use Rattle.sf_value.specs.declared.dialect.Dialect.TheVariants.{Rfc9651}
 use Rattle.sf_value.specs.declared.value.Field.TheVariants as field
@@ -14,11 +14,14 @@ use Rattle.sf_use.specs.declared.cache_status.hop.Outcome.TheVariants.{Conflict}
 use Rattle.sf_use.specs.CacheStatus.Members.{is_conflict}
 use Rattle.sf_c.specs.declared.hops.HopNode.{HopNode}
 use Rattle.sf_c.specs.declared.status.Status.{Status}
-use Rattle.sf_c.specs.declared.status.Status.TheVariants.{Answered, Short, OutOfMemory, Invalid}
+use Rattle.sf_c.specs.declared.refusal.SyntaxRefusal.{SyntaxRefusal}
+use Rattle.sf_c.specs.declared.status.Status.TheVariants.{Answered, Refused, Short, OutOfMemory}
+use Rattle.sf_c.specs.declared.status.Status.TheVariants.{Invalid}
 use Rattle.sf_c.specs.Appending.{AppendsHop, GivesOwn, with_own}
 use Rattle.sf_c.specs.GivenHops.{GivesHop, GivesNone, GivesOutcome}
 use Rattle.sf_c.specs.Normal.{TextOutput}
 use Rattle.sf_c.specs.PriorityChanges.{text_buffer}
+use Rattle.sf_c.specs.Parsing.{ParsesOrSays}
 use Rattle.sf_c.specs.TextBuffers.{PutsText}
 use Rattle.sf_c.proofs.NodeTexts.{canon_only}
 
@@ -54,3 +57,16 @@ appends_hop old new t bytes n d l h Answered only own valid w e =
     (l, h, only, own, canon_only Rfc9651 kind.List (with_own l h) valid, w, e)
 appends_hop old new t bytes n d l h Short only own valid w e = (l, h, only, own, w, e)
 appends_hop old new t bytes n d l h s only own valid w e = absurd w
+
+-- the output with another refusal
+abbrev refused_by : TextOutput → SyntaxRefusal → TextOutput
+refused_by o r = record { buffer = o.buffer; required = o.required; refusal = r }
+
+-- nothing is appended if the text spells no List, or an allocation failed for it
+pub appends_none : (old : TextOutput) (r : SyntaxRefusal) (t bytes : Seq ℕ) (n : HopNode)
+    (d : Dialect) (h : Hop) (s : Status) → GivesOwn bytes n h
+    → ParsesOrSays old.refusal r t d kind.List (Err s)
+    → AppendsHop old (refused_by old r) t bytes n d s
+appends_none old r t bytes n d h Refused own says = ((h, own), says, refl, refl)
+appends_none old r t bytes n d h OutOfMemory own same = ((h, own), ap (refused_by old) same)
+appends_none old r t bytes n d h s own says = absurd says

@@ -62,6 +62,7 @@ pub extern "C" fn sf_cache_status_append(
 }
 
 /// As [`sf_cache_status_append`], in a dialect.
+#[tactic(auto, using(crate::proofs::OwnHops::appends_none))]
 fn append(
     alloc: Global,
     seed: &Seed,
@@ -96,6 +97,7 @@ fn append(
 }
 
 /// The hop that the struct describes, unless it has both `hit` and `fwd`.
+#[tactic(auto, using(crate::proofs::OwnHops::no_own, crate::proofs::OwnHops::own_hop))]
 fn own_hop(alloc: Global, hop: &HopNode, bytes: &[u8]) -> Result<Hop, Status>
     ensures { MatchResult result (λ made. GivesOwn bytes.now hop.now made)
         (GivesNone (GivesOwn bytes.now hop.now)) }

@@ -47,6 +47,7 @@ pub extern "C" fn sf_priority_change(
 }
 
 /// As [`sf_priority_change`].
+#[tactic(auto, using(crate::proofs::SetValues::changes_valid))]
 fn change_valid(
     alloc: Global,
     seed: &Seed,

@@ -34,6 +34,7 @@ pub extern "C" fn sf_priority_text(
 }
 
 /// As [`sf_priority_text`].
+#[tactic(auto, using(crate::proofs::SetValues::writes_priority))]
 fn write_priority(priority: &PriorityFlags, buffer: &mut [u8], required: &mut usize) -> Status
     ensures writes { WritesPriority (record { buffer = buffer.old; required = required.old })
         (record { buffer = buffer.new; required = required.new }) priority.now (Some result) }

@@ -121,6 +121,7 @@ pub extern "C" fn sf_response_priority_text(
 }
 
 /// As [`sf_response_priority_text`].
+#[tactic(auto, using(crate::proofs::SetValues::writes_response))]
 fn write_response(
     priority: &ResponsePriorityFlags,
     buffer: &mut [u8],

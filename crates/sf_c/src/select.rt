@@ -69,6 +69,7 @@ pub extern "C" fn sf_select_rules(
 }
 
 /// As [`sf_select`].
+#[tactic(auto, using(crate::proofs::Selecting::policy_selected))]
 fn select_policy(
     alloc: Global,
     seed: &Seed,
