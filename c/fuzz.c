@@ -560,8 +560,11 @@ static void selecting(const uint8_t *text, size_t length) {
 /* A changed field has the changed priority, and exactly the required length. */
 static void change_priority(const uint8_t *text, size_t length, const sf_priority_flags *before) {
   uint32_t bits = hash(text, length);
-  const sf_priority_flags sets = {(uint8_t)(bits % 8), (uint8_t)(bits >> 3 & 1),
-                                  (uint8_t)(bits >> 4 & 1), (uint8_t)(bits >> 5 & 1)};
+  uint8_t has_urgency = bits >> 4 & 1, has_incremental = bits >> 5 & 1;
+  uint8_t urgency = has_urgency ? (uint8_t)(bits % 8) : 0;
+  uint8_t incremental = has_incremental ? (uint8_t)(bits >> 3 & 1) : 0;
+  const sf_priority_flags sets = {urgency, incremental, has_urgency, has_incremental};
+  const sf_response_priority_flags server = {urgency, incremental, has_urgency, has_incremental};
   sf_refusal refusal;
   size_t required = 0, again = 0;
   uint32_t status = sf_priority_change(&seed, text, length, &sets, NULL, 0, &required, &refusal);
@@ -572,9 +575,34 @@ static void change_priority(const uint8_t *text, size_t length, const sf_priorit
   CHECK(again == required);
   sf_priority_flags now = {9, 9, 9, 9};
   CHECK(sf_priority(&seed, changed, required, &now, &refusal) == SF_OK);
-  sf_priority_flags expected = sf_priority_merge(before, &sets);
+  sf_priority_flags expected = sf_priority_merge(before, &server);
   CHECK(memcmp(&now, &expected, sizeof now) == 0);
   give_buffer(changed);
+}
+
+/* What is forbidden is not done, and more age makes nothing fresh. */
+static void decisions(const uint8_t *text, size_t length, const sf_policy *policy, uint32_t right) {
+  sf_refusal refusal;
+  sf_rules rules;
+  memset(&rules, 0, sizeof rules);
+  CHECK(sf_cache_rules(&seed, SF_RFC9651, text, length, &rules, &refusal) == right);
+  CHECK(memcmp(&rules.policy, policy, offsetof(sf_policy, is_private) + 1) == 0);
+  CHECK(!(rules.invalid_max_age && policy->has_max_age));
+  CHECK(!(rules.invalid_s_maxage && policy->has_s_maxage));
+  for (uint32_t cache = SF_SHARED_CACHE; cache <= SF_PRIVATE_CACHE; ++cache) {
+    sf_response response = {hash(text, length) % 64, 0, 0, 0}, older = response;
+    sf_decision now, later;
+    older.age += 1 + hash(text, length) / 64 % 8;
+    CHECK(sf_decide(&rules, cache, &response, &now) == SF_OK);
+    CHECK(sf_decide(&rules, cache, &older, &later) == SF_OK);
+    CHECK((now.reuse == SF_REUSE_FRESH) == (now.seconds > 0));
+    CHECK(later.reuse != SF_REUSE_FRESH || now.reuse == SF_REUSE_FRESH);
+    CHECK(!policy->no_store || now.reuse == SF_REUSE_NOT_STORED);
+    CHECK(!policy->no_cache || now.reuse != SF_REUSE_FRESH);
+    CHECK(!policy->is_private || cache == SF_PRIVATE_CACHE || now.reuse == SF_REUSE_NOT_STORED);
+    CHECK(!policy->must_revalidate || now.reuse != SF_REUSE_STALE);
+    shape(now.reuse, now.by, now.allows_storing);
+  }
 }
 
 static void consumers(const uint8_t *text, size_t length, int is_dict) {
@@ -584,7 +612,11 @@ static void consumers(const uint8_t *text, size_t length, int is_dict) {
   CHECK(status == (is_dict ? SF_OK : SF_REFUSED));
   if (is_dict) {
     CHECK(priority.urgency <= 7 && priority.incremental <= 1);
-    sf_priority_flags both = sf_priority_merge(&priority, &priority);
+    sf_response_priority_flags response = {9, 9, 9, 9}, again = {9, 9, 9, 9};
+    CHECK(sf_response_priority(&seed, SF_RFC9651, text, length, &response, &refusal) == SF_OK);
+    CHECK(response.has_urgency == priority.has_urgency);
+    CHECK(response.has_incremental == priority.has_incremental);
+    sf_priority_flags both = sf_priority_merge(&priority, &response);
     CHECK(memcmp(&both, &priority, sizeof both) == 0);
     change_priority(text, length, &priority);
     char written[SF_PRIORITY_SIZE];
@@ -592,6 +624,9 @@ static void consumers(const uint8_t *text, size_t length, int is_dict) {
     CHECK(sf_priority_text(&priority, written, sizeof written, &required) == SF_OK);
     CHECK(sf_priority(&seed, written, required, &both, &refusal) == SF_OK);
     CHECK(memcmp(&both, &priority, sizeof both) == 0);
+    CHECK(sf_response_priority_text(&response, written, sizeof written, &required) == SF_OK);
+    CHECK(sf_response_priority(&seed, SF_RFC8941, written, required, &again, &refusal) == SF_OK);
+    CHECK(memcmp(&again, &response, sizeof again) == 0);
   }
   sf_policy policy;
   memset(&policy, 0, sizeof policy);
@@ -603,13 +638,13 @@ static void consumers(const uint8_t *text, size_t length, int is_dict) {
   CHECK(in_private == policy.has_max_age && in_shared >= in_private);
   CHECK(policy.has_s_maxage || shared == alone);
   selecting(text, length);
+  decisions(text, length, &policy, status);
 }
 
 static int has_members(uint32_t dialect, uint32_t kind, const uint8_t *text, size_t length) {
   sf_refusal refusal;
   size_t required = 0;
-  sf_normalise(&seed, dialect, kind, text, length, NULL, 0, &required, &refusal);
-  return required > 0;
+  return sf_normalise(&seed, dialect, kind, text, length, NULL, 0, &required, &refusal) == SF_SHORT;
 }
 
 int LLVMFuzzerTestOneInput(const uint8_t *data, size_t size);

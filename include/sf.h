@@ -20,8 +20,9 @@
  * Each function returns an sf_status, except sf_priority_merge, sf_lifetime, sf_version and, of the
  * inline functions, those that say otherwise; a dialect is an sf_dialect, and a kind is an sf_kind.
  * All are passed as integers of a fixed width, since the width of an enum is not fixed, and since
- * any number may be passed. The constants for kinds, dialects, roles and types all differ, and none
- * is 0: if a kind is passed as the dialect, or a dialect as the kind, the call returns SF_BAD_CALL.
+ * any number may be passed. The constants for kinds, dialects, roles, types, caches, reuses and
+ * causes all differ, and none is 0: if a kind is passed as the dialect, or a dialect as the kind,
+ * the call returns SF_BAD_CALL.
  *
  * Bytes are octets, and texts are not NUL-terminated, except those passed to some of the inline
  * functions of sf_builder. Offsets are in bytes and begin at 0. The library requires a size_t of 64
@@ -55,6 +56,13 @@
  * The comment of a call says if it does not allocate, or when.
  */
 #define SF_MEMORY_SIZE(length) (sizeof(char[200]) * (length) + 2048)
+
+/* Of a function whose result is not to be ignored: a compiler that knows how warns of that. */
+#if defined(__GNUC__)
+#define SF_USE_RESULT __attribute__((warn_unused_result))
+#else
+#define SF_USE_RESULT
+#endif
 
 #ifdef __cplusplus
 extern "C" {
@@ -135,11 +143,51 @@ typedef enum sf_kind {
   SF_DICT = 3  /* section 3.2 */
 } sf_kind;
 
+/* Returns the name of a kind, for messages; "?" if there is no such kind. */
+static inline const char *sf_kind_name(uint32_t kind) {
+  switch (kind) {
+  case SF_ITEM:
+    return "Item";
+  case SF_LIST:
+    return "List";
+  case SF_DICT:
+    return "Dictionary";
+  default:
+    return "?";
+  }
+}
+
 /* The RFC by which a text is parsed. What RFC 8941 accepts has the same value by RFC 9651. */
 typedef enum sf_dialect {
   SF_RFC9651 = 9651, /* all types of sf_type */
   SF_RFC8941 = 8941  /* its predecessor, without Dates and Display Strings */
 } sf_dialect;
+
+/* A text and its length in bytes. */
+typedef struct sf_text {
+  const char *at;
+  size_t length;
+} sf_text;
+
+/*
+ * Returns a text without the spaces and tabs before and after it. White space around the value of a
+ * field line is no part of it (RFC 9110 section 5.5), but some programs pass it on. The functions
+ * that read a text accept spaces there, and refuse a tab (RFC 9651 section 4.2): trim each line
+ * before sf_join, or the text of a field of one line.
+ */
+static inline sf_text sf_trim(const void *text, size_t length) {
+  sf_text rest;
+  rest.at = (const char *)text;
+  rest.length = length;
+  while (rest.length > 0 && (rest.at[0] == ' ' || rest.at[0] == '\t')) {
+    ++rest.at;
+    --rest.length;
+  }
+  while (rest.length > 0 &&
+         (rest.at[rest.length - 1] == ' ' || rest.at[rest.length - 1] == '\t'))
+    --rest.length;
+  return rest;
+}
 
 /*
  * A seed for the hashes of keys. Fill it from a source that attackers can't predict, such as
@@ -162,20 +210,22 @@ typedef struct sf_refusal {
 } sf_refusal;
 
 /*
- * Checks whether a text is a well-formed field of the kind (RFC 9651 section 4.2).
+ * Checks whether a text is a well-formed field of the kind (RFC 9651 section 4.2). Here and below,
+ * a text that begins or ends with a tab is malformed: see sf_trim.
  *
  *   SF_OK         it is
  *   SF_REFUSED    it is not; refusal says where and why
  *   SF_NO_MEMORY, SF_BAD_CALL
  *
  * Does not allocate for a well-formed text of less than 4 GiB. For a malformed List or Dictionary
- * of more than 128 bytes and less than 4 GiB, each function but sf_equal and sf_priority_change
- * allocates only for the malformed member and the one before it, not for the whole value.
+ * of more than 128 bytes and less than 4 GiB, each function but sf_normalise, sf_equal,
+ * sf_priority_change and sf_cache_status_append allocates only for the malformed member and the one
+ * before it, not for the whole value.
  *
  * Each function writes refusal only if it returns SF_REFUSED or SF_SECOND_REFUSED.
  */
 uint32_t sf_check(const sf_seed *seed, uint32_t dialect, uint32_t kind, const void *text,
-                  size_t text_length, sf_refusal *refusal);
+                  size_t text_length, sf_refusal *refusal) SF_USE_RESULT;
 
 /* The sizes in bytes of buffers that are large enough for each message of sf_refusal_text, and for
  * each of sf_refusal_in_text with a text of this length. This is tested, not proved: the longest
@@ -195,7 +245,7 @@ uint32_t sf_check(const sf_seed *seed, uint32_t dialect, uint32_t kind, const vo
  * A refusal->found that is not from 0 to 255 counts as SF_ENDED; any refusal->may_end but 0, as 1.
  */
 uint32_t sf_refusal_text(const sf_refusal *refusal, void *buffer, size_t buffer_length,
-                         size_t *required);
+                         size_t *required) SF_USE_RESULT;
 
 /*
  * Writes the error message of a refusal, a second line with the offset, the text as one line and a
@@ -207,11 +257,76 @@ uint32_t sf_refusal_text(const sf_refusal *refusal, void *buffer, size_t buffer_
  *     ^
  *
  * Each byte of the text is written as one character: a question mark if it is not printable. If the
- * offset is greater than the length of the text, the caret is at the end of the text. The results
- * are those of sf_refusal_text.
+ * offset is greater than the length of the text, the caret is at the end of the text, and so is the
+ * place of the second line. The results are those of sf_refusal_text.
  */
 uint32_t sf_refusal_in_text(const sf_refusal *refusal, const void *text, size_t text_length,
-                            void *buffer, size_t buffer_length, size_t *required);
+                            void *buffer, size_t buffer_length, size_t *required) SF_USE_RESULT;
+
+/* The line that a refusal is in, of lines that were joined, and the place in it. */
+typedef struct sf_line_place {
+  size_t line;   /* index of the line, from 0 */
+  size_t offset; /* offset in the line, from 0; its length if the place is after it */
+} sf_line_place;
+
+/*
+ * Returns the line of a refusal, and the place in it, if the refused text is these lines, joined by
+ * sf_join in this order. Without lines both are 0.
+ */
+static inline sf_line_place sf_refusal_line(const sf_refusal *refusal, const sf_text *lines,
+                                            size_t lines_length) {
+  sf_line_place place = {0, 0};
+  uint64_t left = refusal->offset;
+  for (; place.line < lines_length; ++place.line) {
+    uint64_t length = lines[place.line].length;
+    if (place.line + 1 == lines_length || left < length + 2) {
+      place.offset = (size_t)(left < length ? left : length);
+      return place;
+    }
+    left -= length + 2;
+  }
+  return place;
+}
+
+/* The size in bytes of a buffer that is large enough for each message of sf_refusal_excerpt with
+ * this number of bytes of the text at most. */
+#define SF_REFUSAL_EXCERPT_SIZE(most) (SF_REFUSAL_SIZE + 3 + sizeof(char[2]) * (most))
+
+/*
+ * Writes the error message of a refusal, a second line with at most so many bytes of the text
+ * around the offset, and a caret below the offset, without a newline at the end. So the message has a
+ * bound, whatever the length of the text. Bytes are written as by sf_refusal_in_text. The results
+ * are those of sf_refusal_text.
+ */
+SF_USE_RESULT
+static inline uint32_t sf_refusal_excerpt(const sf_refusal *refusal, const void *text,
+                                          size_t text_length, size_t most, void *buffer,
+                                          size_t buffer_length, size_t *required) {
+  size_t at = refusal->offset < text_length ? (size_t)refusal->offset : text_length;
+  size_t from = at > most / 2 ? at - most / 2 : 0, length, message, i;
+  if (text_length - from < most)
+    from = text_length > most ? text_length - most : 0;
+  length = text_length - from < most ? text_length - from : most;
+  uint32_t status = sf_refusal_text(refusal, NULL, 0, &message);
+  if (status != SF_SHORT)
+    return status;
+  *required = message + length + (at - from) + 3;
+  if (*required > buffer_length)
+    return SF_SHORT;
+  status = sf_refusal_text(refusal, buffer, buffer_length, &message);
+  if (status != SF_OK)
+    return status;
+  char *to = (char *)buffer + message;
+  *to++ = '\n';
+  for (i = 0; i < length; ++i) {
+    char byte = ((const char *)text)[from + i];
+    *to++ = byte >= ' ' && byte <= '~' ? byte : '?';
+  }
+  *to++ = '\n';
+  memset(to, ' ', at - from);
+  to[at - from] = '^';
+  return SF_OK;
+}
 
 /* The size in bytes of a buffer that is large enough for the canonical text of any text of this
  * length: eight fifths of it, so SF_CANONICAL_SIZE(5) is 8. The result is a size_t whatever integer
@@ -236,7 +351,7 @@ uint32_t sf_refusal_in_text(const sf_refusal *refusal, const void *text, size_t 
  */
 uint32_t sf_normalise(const sf_seed *seed, uint32_t dialect, uint32_t kind, const void *text,
                       size_t text_length, void *buffer, size_t buffer_length, size_t *required,
-                      sf_refusal *refusal);
+                      sf_refusal *refusal) SF_USE_RESULT;
 
 /*
  * Compares the values of two texts of a kind (RFC 9651 sections 3 and 4.2). The order of members,
@@ -252,7 +367,7 @@ uint32_t sf_normalise(const sf_seed *seed, uint32_t dialect, uint32_t kind, cons
  */
 uint32_t sf_equal(const sf_seed *seed, uint32_t dialect, uint32_t kind, const void *first,
                   size_t first_length, const void *second, size_t second_length, uint32_t *equal,
-                  sf_refusal *refusal);
+                  sf_refusal *refusal) SF_USE_RESULT;
 
 /* The role of a node in a parsed value. */
 typedef enum sf_role {
@@ -275,6 +390,48 @@ typedef enum sf_type {
   SF_DISPLAY_STRING = 29 /* 3.3.8: bytes, UTF-8, decoded */
 } sf_type;
 
+/* Returns the name of a role, for messages; "?" if there is no such role. */
+static inline const char *sf_role_name(uint32_t role) {
+  switch (role) {
+  case SF_MEMBER:
+    return "member";
+  case SF_INNER_ITEM:
+    return "Item of an Inner List";
+  case SF_PARAMETER:
+    return "parameter";
+  case SF_INNER_PARAMETER:
+    return "parameter of an Inner List";
+  default:
+    return "?";
+  }
+}
+
+/* Returns the name of a type, as the RFC has it; "?" if there is no such type. */
+static inline const char *sf_type_name(uint32_t type) {
+  switch (type) {
+  case SF_INNER_LIST:
+    return "Inner List";
+  case SF_INTEGER:
+    return "Integer";
+  case SF_DECIMAL:
+    return "Decimal";
+  case SF_STRING:
+    return "String";
+  case SF_TOKEN:
+    return "Token";
+  case SF_BYTE_SEQUENCE:
+    return "Byte Sequence";
+  case SF_BOOLEAN:
+    return "Boolean";
+  case SF_DATE:
+    return "Date";
+  case SF_DISPLAY_STRING:
+    return "Display String";
+  default:
+    return "?";
+  }
+}
+
 /*
  * A node of the tree of a value. The nodes are in the order of the value: an Item is one node,
  * followed by its parameters; an Inner List is one node, followed by its Items, each with its
@@ -294,7 +451,7 @@ typedef struct sf_node {
                            is its next sibling or, after the last, the end of its parent */
   uint8_t type;         /* an sf_type */
   uint8_t role;         /* an sf_role */
-  uint8_t coded;        /* 0 in nodes that sf_parse writes; sf_write documents 1 */
+  uint8_t coded;        /* 0 in nodes that sf_parse writes; sf_write documents other numbers */
 } sf_node;
 
 /* Returns a pointer to the key of a node, which has key_length bytes. The text and bytes are those
@@ -342,13 +499,16 @@ typedef struct sf_sizes {
  *   SF_SHORT      the value has at most nodes_capacity nodes, but may require sizes->bytes bytes,
  *                 more than bytes_capacity
  *   SF_REFUSED    the text is malformed; refusal says where and why
- *   SF_TOO_LONG   text_length, or text_length plus the required bytes, is 4 GiB or more
+ *   SF_TOO_LONG   text_length is 4 GiB or more; or it and the lengths of all keys and bytes of the
+ *                 value are, together, and the value could not be written with offsets below 4 GiB
+ *                 in one pass over the text
  *   SF_NO_MEMORY, SF_BAD_CALL
  *
  * Nodes point to keys and bytes in the text; only Strings with escapes, Byte Sequences and Display
- * Strings are decoded into bytes. If a key is repeated, and rarely for another Dictionary of more
- * than eight nodes or part of more than eight parameters, all keys and bytes are copied there. The
- * nodes are valid as long as the text and bytes are.
+ * Strings are decoded into bytes. All keys and bytes are copied there if a key is repeated, if a
+ * Dictionary has 16,000 members or more or a part as many parameters, and rarely for another
+ * Dictionary of more than eight nodes or part of more than eight parameters: the more often, the
+ * more keys there are. The nodes are valid as long as the text and bytes are.
  * Buffers of SF_NODES_SIZE(text_length) nodes and SF_BYTES_SIZE(text_length) bytes are always large
  * enough. If the text is well-formed and the buffers are large enough, the call allocates only if
  * keys are copied.
@@ -362,7 +522,7 @@ typedef struct sf_sizes {
  */
 uint32_t sf_parse(const sf_seed *seed, uint32_t dialect, uint32_t kind, const void *text,
                   size_t text_length, sf_node *nodes, size_t nodes_capacity, void *bytes,
-                  size_t bytes_capacity, sf_sizes *sizes, sf_refusal *refusal);
+                  size_t bytes_capacity, sf_sizes *sizes, sf_refusal *refusal) SF_USE_RESULT;
 
 /*
  * Finds the first of the nodes_length nodes that has this role and this key. For a member of a
@@ -379,7 +539,11 @@ uint32_t sf_parse(const sf_seed *seed, uint32_t dialect, uint32_t kind, const vo
  */
 uint32_t sf_find(const sf_node *nodes, size_t nodes_length, const void *text, size_t text_length,
                  const void *bytes, size_t bytes_length, uint32_t role, const void *key,
-                 size_t key_length, size_t *index);
+                 size_t key_length, size_t *index) SF_USE_RESULT;
+
+/* The size in bytes of a buffer that is large enough for the text of so many nodes whose keys and
+ * bytes together have so many bytes: of a builder, nodes_length and bytes_length. */
+#define SF_WRITTEN_SIZE(nodes, bytes) (sizeof(char[24]) * (nodes) + sizeof(char[3]) * (bytes))
 
 /*
  * Writes to buffer the canonical text (RFC 9651 section 4.1) of the field that nodes describe. The
@@ -399,15 +563,17 @@ uint32_t sf_find(const sf_node *nodes, size_t nodes_length, const void *text, si
  *
  * Nodes are in the order of sf_parse. Each is an Item, an Inner List or a parameter, with its role
  * and type; size is the number of nodes in its subtree. It has a valid key that occurs once among
- * its siblings, or a key_length of 0 if it has no key. It has a number or bytes, and the other is 0
- * or empty. If coded is 0, the bytes are those of the value; if it is 1, they are the text of the
- * bare item in a field, with its quotes or colons. Offsets are at most text_length + bytes_length,
- * also those of an empty key and of empty bytes.
+ * its siblings, or a key_length of 0 if it has no key. If coded is 0, the node has a number or
+ * bytes, by its type, and the other is 0 or empty. If coded is not 0, the bytes are the text of the
+ * bare item in a field, with its quotes or colons, and the number is that of the value. In an Inner
+ * List, text_at and coded have no effect. Each other range is within the text_length + bytes_length
+ * bytes of the text and of bytes after it, also that of an empty key or of empty bytes. One may begin
+ * in the text and end in bytes; sf_find does not find such a key.
  */
 uint32_t sf_write(const sf_seed *seed, uint32_t dialect, uint32_t kind, const sf_node *nodes,
                   size_t nodes_length, const void *text, size_t text_length, const void *bytes,
                   size_t bytes_length, void *buffer, size_t buffer_length, size_t *required,
-                  size_t *invalid);
+                  size_t *invalid) SF_USE_RESULT;
 
 /*
  * Changes the bare item of a node to an Integer, Decimal, Boolean or Date with this number. The key
@@ -436,16 +602,17 @@ static inline void sf_set_number(sf_node *node, uint32_t type, int64_t number) {
  *
  *   SF_OK        the node is changed
  *   SF_SHORT     the buffer bytes is too small: sizes->bytes + length bytes are required
- *   SF_TOO_LONG  an offset would be 4 GiB or more
+ *   SF_TOO_LONG  the offset or the length of the value would be 4 GiB or more
  *
  * Unless SF_OK is returned, everything is unchanged.
  */
+SF_USE_RESULT
 static inline uint32_t sf_set_bytes(sf_node *node, uint32_t type, const void *value, size_t length,
                                     size_t text_length, void *bytes, size_t bytes_capacity,
                                     sf_sizes *sizes) {
   if (sizes->bytes > bytes_capacity || length > bytes_capacity - sizes->bytes)
     return SF_SHORT;
-  if (text_length > UINT32_MAX || sizes->bytes + length > UINT32_MAX - text_length)
+  if (text_length > UINT32_MAX || sizes->bytes > UINT32_MAX - text_length || length > UINT32_MAX)
     return SF_TOO_LONG;
   if (length > 0)
     memcpy((char *)bytes + sizes->bytes, value, length);
@@ -750,6 +917,7 @@ static inline void sf_put_copy(sf_builder *builder, const sf_node *node, const v
  * Writes the canonical text of what was put, by sf_write, and returns the result of sf_write. If a
  * call with the builder failed, returns SF_BAD_CALL and writes nothing.
  */
+SF_USE_RESULT
 static inline uint32_t sf_write_built(const sf_seed *seed, uint32_t dialect, uint32_t kind,
                                       const sf_builder *builder, void *buffer, size_t buffer_length,
                                       size_t *required, size_t *invalid) {
@@ -759,7 +927,8 @@ static inline uint32_t sf_write_built(const sf_seed *seed, uint32_t dialect, uin
                   builder->bytes, builder->bytes_length, buffer, buffer_length, required, invalid);
 }
 
-/* The parameters of a Priority field (RFC 9218 section 4), with defaults for absent ones. */
+/* The parameters of the Priority field of a request (RFC 9218 section 4), with defaults for absent
+ * ones. */
 typedef struct sf_priority_flags {
   uint8_t urgency;          /* from SF_URGENCY_FIRST to SF_URGENCY_LAST; SF_URGENCY_DEFAULT if the
                                field does not set it (4.1) */
@@ -768,13 +937,24 @@ typedef struct sf_priority_flags {
   uint8_t has_incremental;  /* 1 if the field sets incremental, otherwise 0 */
 } sf_priority_flags;
 
-/* Initialises the priority of a field that is absent or malformed, which sets nothing:
+/* Initialises the priority of a request whose field is absent or malformed, which sets nothing:
  * sf_priority_flags priority = SF_PRIORITY_UNSET; */
 #define SF_PRIORITY_UNSET {SF_URGENCY_DEFAULT, 0, 0, 0}
 
+/* What a server sets by the Priority field of a response (RFC 9218 section 8). A parameter that is
+ * absent there has no default: it leaves what the client asked for. A struct of zeros sets nothing:
+ * sf_response_priority_flags priority = {0, 0, 0, 0}; */
+typedef struct sf_response_priority_flags {
+  uint8_t urgency;          /* from SF_URGENCY_FIRST to SF_URGENCY_LAST; 0 if it is not set */
+  uint8_t incremental;      /* 1 if the response is of use as it arrives, otherwise 0; 0 if it is
+                               not set */
+  uint8_t has_urgency;      /* 1 if the urgency is set, otherwise 0 */
+  uint8_t has_incremental;  /* 1 if incremental is set, otherwise 0 */
+} sf_response_priority_flags;
+
 /*
- * Reads the text of a Priority field (RFC 9218 section 5). Members that are unknown, of another
- * type or out of range are ignored.
+ * Reads the text of the Priority field of a request (RFC 9218 section 5). Members that are unknown,
+ * of another type or out of range are ignored.
  *
  *   SF_OK         *priority is written
  *   SF_REFUSED    the text is not a well-formed Dictionary; refusal says where and why
@@ -784,34 +964,82 @@ typedef struct sf_priority_flags {
  * less than 4 GiB.
  */
 uint32_t sf_priority(const sf_seed *seed, const void *text, size_t text_length,
-                     sf_priority_flags *priority, sf_refusal *refusal);
+                     sf_priority_flags *priority, sf_refusal *refusal) SF_USE_RESULT;
+
+/* The same in a dialect: RFC 9218 cites RFC 8941, by which a text with a Date or a Display String
+ * is malformed. Also returns SF_BAD_CALL. */
+uint32_t sf_priority_in(const sf_seed *seed, uint32_t dialect, const void *text, size_t text_length,
+                        sf_priority_flags *priority, sf_refusal *refusal) SF_USE_RESULT;
 
 /*
- * Merges the priorities of a client's request and a server's response (RFC 9218 section 8). Each
- * parameter is the server's if the server sets it, otherwise the client's if the client sets it,
- * otherwise the default. In the arguments, any number but 0 counts as 1 in incremental, has_urgency
- * and has_incremental; urgency counts only if has_urgency is set, and incremental only if
- * has_incremental is; and an urgency above SF_URGENCY_LAST counts as not set.
+ * Reads the text of the Priority field of a response (RFC 9218 section 8), in a dialect. Members
+ * are ignored as by sf_priority.
+ *
+ *   SF_OK         *priority is written
+ *   SF_REFUSED    the text is not a well-formed Dictionary; refusal says where and why
+ *   SF_NO_MEMORY, SF_BAD_CALL
+ *
+ * Unless SF_OK is returned, *priority is unchanged. Does not allocate for a well-formed text of
+ * less than 4 GiB.
  */
-sf_priority_flags sf_priority_merge(const sf_priority_flags *client,
-                                    const sf_priority_flags *server);
+uint32_t sf_response_priority(const sf_seed *seed, uint32_t dialect, const void *text,
+                              size_t text_length, sf_response_priority_flags *priority,
+                              sf_refusal *refusal) SF_USE_RESULT;
 
-/* The size in bytes of a buffer that is large enough for each text of sf_priority_text. */
+/*
+ * Merges the priority of a request and that of its response (RFC 9218 section 8). Each parameter is
+ * the server's if the server sets it, otherwise the client's if the client sets it, otherwise the
+ * default. The result is for the sender of this response to this client: the field of a response is
+ * end-to-end (section 5), so it is forwarded as the server wrote it, without what the client asked
+ * for.
+ *
+ * In the arguments, any number but 0 counts as 1 in incremental, has_urgency and has_incremental;
+ * urgency counts only if has_urgency is set, and incremental only if has_incremental is; and an
+ * urgency above SF_URGENCY_LAST counts as not set.
+ */
+sf_priority_flags sf_priority_merge(const sf_priority_flags *request,
+                                    const sf_response_priority_flags *response);
+
+/* The size in bytes of a buffer that is large enough for each text of sf_priority_text and of
+ * sf_response_priority_text. */
 #define SF_PRIORITY_SIZE 9
 
 /*
- * Writes the text of a Priority field (RFC 9218 section 5) that sets what *priority sets, and
- * nothing else: u if has_urgency is set, then i if has_incremental is set, even to the defaults.
- * sf_priority reads the same priority from it. If the text is empty, the field is not to be sent
- * (RFC 9651 section 4.1).
+ * Writes the text of the Priority field of a request (RFC 9218 section 5) that sets what *priority
+ * sets, and nothing else: u if has_urgency is set, then i if has_incremental is set, even to the
+ * defaults. sf_priority reads the same priority from it. If the text is empty, the field is not to
+ * be sent (RFC 9651 section 4.1).
  *
- *   SF_OK     the first *required bytes of buffer are the text; the others are unchanged
- *   SF_SHORT  the text has *required bytes, more than buffer_length; buffer is unchanged
+ *   SF_OK       the first *required bytes of buffer are the text; the others are unchanged
+ *   SF_SHORT    the text has *required bytes, more than buffer_length; buffer is unchanged
+ *   SF_INVALID  urgency is above SF_URGENCY_LAST, or is neither 0 nor SF_URGENCY_DEFAULT though
+ *               has_urgency is 0, or incremental is not 0 though has_incremental is 0
  *
- * In *priority, numbers count as in the arguments of sf_priority_merge. Does not allocate.
+ * Unless SF_OK or SF_SHORT is returned, buffer and *required are unchanged. In *priority, any
+ * number but 0 sets a flag. Does not allocate.
  */
 uint32_t sf_priority_text(const sf_priority_flags *priority, void *buffer, size_t buffer_length,
-                          size_t *required);
+                          size_t *required) SF_USE_RESULT;
+
+/*
+ * Writes the text of the Priority field of a response (RFC 9218 section 8) that sets what *priority
+ * sets, and nothing else, likewise: u=3 or i=?0 too, since an absent parameter is not a default
+ * there. sf_response_priority reads the same from it.
+ *
+ *   SF_OK       the first *required bytes of buffer are the text; the others are unchanged
+ *   SF_SHORT    the text has *required bytes, more than buffer_length; buffer is unchanged
+ *   SF_INVALID  urgency is above SF_URGENCY_LAST, or is not 0 though has_urgency is 0, or
+ *               incremental is not 0 though has_incremental is 0
+ *
+ * Unless SF_OK or SF_SHORT is returned, buffer and *required are unchanged. In *priority, any
+ * number but 0 sets a flag. Does not allocate.
+ */
+uint32_t sf_response_priority_text(const sf_response_priority_flags *priority, void *buffer,
+                                   size_t buffer_length, size_t *required) SF_USE_RESULT;
+
+/* The size in bytes of a buffer that is large enough for each text of sf_priority_change of a text
+ * of this length. */
+#define SF_PRIORITY_CHANGE_SIZE(length) (SF_CANONICAL_SIZE(length) + 2 + SF_PRIORITY_SIZE)
 
 /*
  * Writes the canonical text of a Priority field in which u is set if has_urgency is set, and i if
@@ -822,14 +1050,16 @@ uint32_t sf_priority_text(const sf_priority_flags *priority, void *buffer, size_
  *   SF_OK       the first *required bytes of buffer are the text; the others are unchanged
  *   SF_SHORT    the text has *required bytes, more than buffer_length; buffer is unchanged
  *   SF_REFUSED  the text is not a well-formed Dictionary; refusal says where and why
+ *   SF_INVALID  *priority is not valid, as for sf_priority_text
  *   SF_NO_MEMORY
  *
- * Unless SF_OK or SF_SHORT is returned, buffer and *required are unchanged. In *priority, numbers
- * count as in the arguments of sf_priority_merge.
+ * SF_INVALID is returned if and only if *priority is not valid, even if the text is malformed.
+ * Unless SF_OK or SF_SHORT is returned, buffer and *required are unchanged. In *priority, any number
+ * but 0 sets a flag.
  */
 uint32_t sf_priority_change(const sf_seed *seed, const void *text, size_t text_length,
                             const sf_priority_flags *priority, void *buffer, size_t buffer_length,
-                            size_t *required, sf_refusal *refusal);
+                            size_t *required, sf_refusal *refusal) SF_USE_RESULT;
 
 /* The directives of a targeted field (RFC 9213 section 2.1, RFC 9111 section 5.2.2). */
 typedef struct sf_policy {
@@ -856,7 +1086,35 @@ typedef struct sf_policy {
  * than 4 GiB.
  */
 uint32_t sf_cache_control(const sf_seed *seed, const void *text, size_t text_length,
-                          sf_policy *policy, sf_refusal *refusal);
+                          sf_policy *policy, sf_refusal *refusal) SF_USE_RESULT;
+
+/* The directives that decide how a cache handles a response (RFC 9111 section 5.2.2), for
+ * sf_decide. */
+typedef struct sf_rules {
+  sf_policy policy;
+  uint8_t invalid_max_age;  /* 1 if max-age is present, but is not an Integer of at least 0: the
+                               response is stale (RFC 9111 section 4.2.1); otherwise 0 */
+  uint8_t invalid_s_maxage; /* the same for s-maxage, in a shared cache */
+  uint8_t proxy_revalidate; /* 1 if the directive is present and not ?0, otherwise 0 */
+  uint8_t must_understand;  /* the same for must-understand */
+  uint8_t is_public;        /* the same for public */
+} sf_rules;
+
+/*
+ * Reads the text of one targeted field (RFC 9213 section 2.1), for sf_decide, in a dialect: RFC
+ * 9213 cites RFC 8941, by which a text with a Date or a Display String is malformed. After
+ * SF_REFUSED or SF_EMPTY, a cache ignores this field, as after the same of sf_cache_control.
+ *
+ *   SF_OK         *rules is written
+ *   SF_EMPTY      the Dictionary has no members
+ *   SF_REFUSED    the text is not a well-formed Dictionary; refusal says where and why
+ *   SF_NO_MEMORY, SF_BAD_CALL
+ *
+ * Unless SF_OK is returned, *rules is unchanged. Does not allocate for a well-formed text of less
+ * than 4 GiB.
+ */
+uint32_t sf_cache_rules(const sf_seed *seed, uint32_t dialect, const void *text, size_t text_length,
+                        sf_rules *rules, sf_refusal *refusal) SF_USE_RESULT;
 
 /* A range of bytes in one of the caller's buffers. */
 typedef struct sf_span {
@@ -883,7 +1141,140 @@ typedef struct sf_span {
  * are malformed, and where. Allocates only for fields that are malformed, or of 4 GiB or more.
  */
 uint32_t sf_select(const sf_seed *seed, const void *texts, size_t texts_length,
-                   const sf_span *fields, size_t fields_length, size_t *index, sf_policy *policy);
+                   const sf_span *fields, size_t fields_length, size_t *index, sf_policy *policy)
+    SF_USE_RESULT;
+
+/*
+ * Chooses the field that a cache obeys, as sf_select does, in a dialect, and writes its directives
+ * for sf_decide. The results are those of sf_select, with *rules in the place of *policy; and
+ * SF_BAD_CALL also if there is no such dialect.
+ */
+uint32_t sf_select_rules(const sf_seed *seed, uint32_t dialect, const void *texts,
+                         size_t texts_length, const sf_span *fields, size_t fields_length,
+                         size_t *index, sf_rules *rules) SF_USE_RESULT;
+
+/* A cache by who uses what it stores (RFC 9111 section 1). */
+typedef enum sf_cache {
+  SF_SHARED_CACHE = 31, /* stores responses for more than one user */
+  SF_PRIVATE_CACHE = 32 /* stores responses for one user */
+} sf_cache;
+
+/* What a cache knows of a response beside its directives. In a struct of zeros the response is new,
+ * has no other lifetime, and its status code is not understood. */
+typedef struct sf_response {
+  uint64_t age;          /* its age in seconds (RFC 9111 section 4.2.3) */
+  uint64_t lifetime;     /* the seconds from Date to Expires (4.2.1), or of a heuristic (4.2.2),
+                            which count if no directive sets a lifetime; 0 if there are none */
+  uint8_t has_lifetime;  /* 1 if there is such a lifetime, otherwise 0 */
+  uint8_t is_understood; /* 1 if the cache understands the status code and implements its
+                            requirements, otherwise 0: must-understand forbids to store the response
+                            if it is 0, and no-store beside it is ignored if it is 1 (5.2.2.3) */
+} sf_response;
+
+/* How a cache may use a response (RFC 9111 sections 3 and 4). */
+typedef enum sf_reuse {
+  SF_REUSE_NOT_STORED = 41,  /* it is not stored, so it is never used again */
+  SF_REUSE_FRESH = 42,       /* it may be stored, and is used without validation */
+  SF_REUSE_STALE = 43,       /* it may be stored; it is used without validation only if the cache is
+                                disconnected, or if the client or the origin permits it (4.2.4) */
+  SF_REUSE_REVALIDATE = 44,  /* it may be stored; it is never used without validation */
+  SF_REUSE_UNSPECIFIED = 45  /* no directive sets a lifetime: it may be stored if its status code or
+                                allows_storing permits it, and a heuristic may apply (4.2.2) */
+} sf_reuse;
+
+/* Returns the name of an sf_reuse, such as "fresh"; "?" if there is no such one. */
+static inline const char *sf_reuse_name(uint32_t reuse) {
+  switch (reuse) {
+  case SF_REUSE_NOT_STORED:
+    return "not stored";
+  case SF_REUSE_FRESH:
+    return "fresh";
+  case SF_REUSE_STALE:
+    return "stale";
+  case SF_REUSE_REVALIDATE:
+    return "revalidate";
+  case SF_REUSE_UNSPECIFIED:
+    return "unspecified";
+  default:
+    return "?";
+  }
+}
+
+/* The directive that decided (RFC 9111 section 5.2.2). */
+typedef enum sf_cause {
+  SF_BY_NOTHING = 51,          /* no directive */
+  SF_BY_NO_STORE = 52,         /* no-store (5.2.2.5) */
+  SF_BY_PRIVATE = 53,          /* private, in a shared cache (5.2.2.7) */
+  SF_BY_MUST_UNDERSTAND = 54,  /* must-understand (5.2.2.3) */
+  SF_BY_NO_CACHE = 55,         /* no-cache (5.2.2.4) */
+  SF_BY_MAX_AGE = 56,          /* max-age (5.2.2.1) */
+  SF_BY_S_MAXAGE = 57,         /* s-maxage, in a shared cache (5.2.2.10) */
+  SF_BY_INVALID_MAX_AGE = 58,  /* a max-age that can't be used (4.2.1) */
+  SF_BY_INVALID_S_MAXAGE = 59, /* an s-maxage that can't be used (4.2.1) */
+  SF_BY_EXPIRES = 60,          /* sf_response.lifetime */
+  SF_BY_MUST_REVALIDATE = 61,  /* must-revalidate (5.2.2.2) */
+  SF_BY_PROXY_REVALIDATE = 62  /* proxy-revalidate, in a shared cache (5.2.2.8) */
+} sf_cause;
+
+/* Returns the name of the directive that decided, such as "no-store"; "" for SF_BY_NOTHING and for
+ * a number that is no sf_cause. */
+static inline const char *sf_cause_name(uint32_t cause) {
+  switch (cause) {
+  case SF_BY_NO_STORE:
+    return "no-store";
+  case SF_BY_PRIVATE:
+    return "private";
+  case SF_BY_MUST_UNDERSTAND:
+    return "must-understand";
+  case SF_BY_NO_CACHE:
+    return "no-cache";
+  case SF_BY_MAX_AGE:
+    return "max-age";
+  case SF_BY_S_MAXAGE:
+    return "s-maxage";
+  case SF_BY_INVALID_MAX_AGE:
+    return "invalid max-age";
+  case SF_BY_INVALID_S_MAXAGE:
+    return "invalid s-maxage";
+  case SF_BY_EXPIRES:
+    return "expires";
+  case SF_BY_MUST_REVALIDATE:
+    return "must-revalidate";
+  case SF_BY_PROXY_REVALIDATE:
+    return "proxy-revalidate";
+  default:
+    return "";
+  }
+}
+
+/* What a cache decides about a response. */
+typedef struct sf_decision {
+  uint64_t seconds;          /* for how many seconds it stays fresh, at least 1; 0 if it is not
+                                SF_REUSE_FRESH */
+  uint8_t reuse;             /* an sf_reuse */
+  uint8_t by;                /* an sf_cause */
+  uint8_t allows_storing;    /* 1 if a directive permits to store it, whatever its status code (RFC
+                                9111 section 3), otherwise 0 */
+  uint8_t allows_authorized; /* 1 if a directive permits a shared cache to store it, though the
+                                request had Authorization (3.5), otherwise 0 */
+} sf_decision;
+
+/*
+ * Decides what a cache does with a response by its directives and its age (RFC 9111 sections 3, 4.2
+ * and 5.2.2): whether it is stored, for how long it is fresh, or whether it has to be validated
+ * first, and which directive decides. Of directives that conflict, the most restrictive one decides
+ * (section 4.2.1): no-store before no-cache before any lifetime. Ages and lifetimes above 2^31
+ * seconds count as 2^31 (section 1.2.2). The cache is an sf_cache.
+ *
+ *   SF_OK        *decision is written
+ *   SF_BAD_CALL  there is no such cache
+ *   SF_INVALID   max_age, s_maxage or lifetime is not 0, though its has_ flag is 0
+ *
+ * Unless SF_OK is returned, *decision is unchanged. In *rules and *response, any number but 0 sets
+ * a flag. Does not allocate.
+ */
+uint32_t sf_decide(const sf_rules *rules, uint32_t cache, const sf_response *response,
+                   sf_decision *decision) SF_USE_RESULT;
 
 /*
  * Computes the freshness lifetime of a response by a policy, in a shared cache if shared is not 0,
@@ -893,9 +1284,12 @@ uint32_t sf_select(const sf_seed *seed, const void *texts, size_t texts_length,
  *   1  *seconds is the lifetime
  *   0  the policy sets no lifetime; *seconds is unchanged
  *
+ * The lifetime alone does not say that a response is fresh: no-cache, no-store and must-revalidate
+ * decide before it, and its age counts. sf_decide takes all of them.
+ *
  * The result is not an sf_status: do not compare it with SF_OK, which is 0.
  */
-uint32_t sf_lifetime(const sf_policy *policy, uint32_t shared, uint64_t *seconds);
+uint32_t sf_lifetime(const sf_policy *policy, uint32_t shared, uint64_t *seconds) SF_USE_RESULT;
 
 /* What a cache did with a request (RFC 9211 sections 2.1 and 2.2). */
 typedef enum sf_outcome {
@@ -904,6 +1298,22 @@ typedef enum sf_outcome {
   SF_FORWARDED = 2, /* it forwarded the request: fwd is present, and hit is not true */
   SF_CONFLICT = 3   /* hit is true and fwd is present, though the RFC allows only one of them */
 } sf_outcome;
+
+/* Returns the name of an outcome, for messages; "?" if there is no such outcome. */
+static inline const char *sf_outcome_name(uint32_t outcome) {
+  switch (outcome) {
+  case SF_UNSAID:
+    return "unsaid";
+  case SF_HIT:
+    return "hit";
+  case SF_FORWARDED:
+    return "forwarded";
+  case SF_CONFLICT:
+    return "hit and forwarded";
+  default:
+    return "?";
+  }
+}
 
 /* Why a cache forwarded a request (RFC 9211 section 2.2). */
 typedef enum sf_forward {
@@ -918,6 +1328,30 @@ typedef enum sf_forward {
   SF_PARTIAL = 8,    /* partial: the stored response lacked a part of what was requested */
   SF_OTHER = 9       /* another token: see why_token */
 } sf_forward;
+
+/* Returns the token of a reason, as fwd has it; "" for SF_NO_FORWARD, SF_OTHER and other numbers. */
+static inline const char *sf_forward_name(uint32_t why) {
+  switch (why) {
+  case SF_BYPASS:
+    return "bypass";
+  case SF_METHOD:
+    return "method";
+  case SF_URI_MISS:
+    return "uri-miss";
+  case SF_VARY_MISS:
+    return "vary-miss";
+  case SF_MISS:
+    return "miss";
+  case SF_REQUEST:
+    return "request";
+  case SF_STALE:
+    return "stale";
+  case SF_PARTIAL:
+    return "partial";
+  default:
+    return "";
+  }
+}
 
 /*
  * A cache on the path of a response, and what it did (RFC 9211 section 2). If a parameter is
@@ -981,7 +1415,20 @@ typedef struct sf_path {
  */
 uint32_t sf_cache_status(const sf_seed *seed, const void *text, size_t text_length, sf_hop *hops,
                          size_t hops_capacity, void *bytes, size_t bytes_capacity, sf_path *path,
-                         sf_refusal *refusal);
+                         sf_refusal *refusal) SF_USE_RESULT;
+
+/* The same in a dialect: RFC 9211 cites RFC 8941, by which a text with a Date or a Display String
+ * is malformed. Also returns SF_BAD_CALL. */
+uint32_t sf_cache_status_in(const sf_seed *seed, uint32_t dialect, const void *text,
+                            size_t text_length, sf_hop *hops, size_t hops_capacity, void *bytes,
+                            size_t bytes_capacity, sf_path *path, sf_refusal *refusal)
+    SF_USE_RESULT;
+
+/* The sizes in bytes of buffers that are large enough for each text of sf_hop_text, and of
+ * sf_cache_status_append for a text of this length, for a hop whose ranges are in so many bytes. */
+#define SF_HOP_SIZE(bytes_length) (sizeof(char[7]) * (bytes_length) + 128)
+#define SF_APPENDED_SIZE(length, bytes_length)                                                     \
+  (SF_CANONICAL_SIZE(length) + 2 + SF_HOP_SIZE(bytes_length))
 
 /*
  * Writes the text of a Cache-Status field (RFC 9211 section 2) whose only member is *hop: a field
@@ -1006,7 +1453,30 @@ uint32_t sf_cache_status(const sf_seed *seed, const void *text, size_t text_leng
  * members that differ from zero need to be set.
  */
 uint32_t sf_hop_text(const sf_seed *seed, const sf_hop *hop, const void *bytes, size_t bytes_length,
-                     void *buffer, size_t buffer_length, size_t *required);
+                     void *buffer, size_t buffer_length, size_t *required) SF_USE_RESULT;
+
+/*
+ * Writes the canonical text of a Cache-Status field with *hop as its last member (RFC 9211 section
+ * 2), in the place of the lines that were received. The text is that of these lines, joined, or
+ * empty if there are none; the ranges of *hop are in bytes.
+ *
+ *   SF_OK       the first *required bytes of buffer are the text; the others are unchanged
+ *   SF_SHORT    the text has *required bytes, more than buffer_length; buffer is unchanged
+ *   SF_REFUSED  the text that was received is not a well-formed List; refusal says where and why.
+ *               Nothing is appended to it: who reads it ignores all of it, and each line that is
+ *               added to it (RFC 9651 section 4.2). Send the text of sf_hop_text in its place
+ *   SF_INVALID  *hop is not a hop, as for sf_hop_text, or its outcome is SF_CONFLICT: only one of
+ *               hit and fwd should appear (section 2.1)
+ *   SF_NO_MEMORY, SF_BAD_CALL
+ *
+ * SF_INVALID is returned if and only if *hop is not such a hop, even if the text is malformed or an
+ * allocation would fail. Unless SF_OK or SF_SHORT is returned, buffer and *required are unchanged.
+ * In *hop, numbers count as for sf_hop_text.
+ */
+uint32_t sf_cache_status_append(const sf_seed *seed, uint32_t dialect, const void *text,
+                                size_t text_length, const sf_hop *hop, const void *bytes,
+                                size_t bytes_length, void *buffer, size_t buffer_length,
+                                size_t *required, sf_refusal *refusal) SF_USE_RESULT;
 
 /* The state of joining the lines of a field. Begin with zeros: sf_joined joined = {0, 0, 0}; */
 typedef struct sf_joined {
@@ -1028,7 +1498,7 @@ typedef struct sf_joined {
  *   SF_BAD_CALL  joined->length is greater than buffer_length; everything is unchanged
  */
 uint32_t sf_join(const void *line, size_t line_length, void *buffer, size_t buffer_length,
-                 sf_joined *joined);
+                 sf_joined *joined) SF_USE_RESULT;
 
 #ifdef __cplusplus
 }

@@ -19,14 +19,15 @@ int main(int argc, char **argv) {
     return 3;
   fclose(random);
 
-  sf_priority_flags said[2] = {SF_PRIORITY_UNSET, SF_PRIORITY_UNSET};
-  for (int i = 0; i < 2; ++i) {
-    sf_refusal refusal;
-    uint32_t status = sf_priority(&seed, argv[i + 1], strlen(argv[i + 1]), &said[i], &refusal);
-    if (status == SF_NO_MEMORY)
-      return 3; /* a field that is refused says nothing */
-  }
-  sf_priority_flags both = sf_priority_merge(&said[0], &said[1]);
+  /* a field that is refused sets nothing */
+  sf_priority_flags request = SF_PRIORITY_UNSET;
+  sf_response_priority_flags response = {0, 0, 0, 0};
+  sf_refusal refusal;
+  if (sf_priority(&seed, argv[1], strlen(argv[1]), &request, &refusal) == SF_NO_MEMORY ||
+      sf_response_priority(&seed, SF_RFC9651, argv[2], strlen(argv[2]), &response, &refusal) ==
+          SF_NO_MEMORY)
+    return 3;
+  sf_priority_flags both = sf_priority_merge(&request, &response);
   printf("urgency %d incremental %d\n", both.urgency, both.incremental);
   return fflush(stdout) != 0 || ferror(stdout) ? 3 : 0;
 }

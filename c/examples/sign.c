@@ -37,8 +37,10 @@ static uint32_t put_others(const sf_seed *seed, const char *text, const char *la
   if (status == SF_REFUSED)
     printf("refused at %llu\n", (unsigned long long)refusal.offset);
   if (status == SF_OK) {
-    size_t at = sizes.nodes; /* of the member of this label */
-    sf_find(nodes, sizes.nodes, text, length, bytes, sizes.bytes, SF_MEMBER, label, strlen(label), &at);
+    size_t at; /* of the member of this label, if there is one */
+    if (sf_find(nodes, sizes.nodes, text, length, bytes, sizes.bytes, SF_MEMBER, label, strlen(label),
+                &at) != SF_OK)
+      at = sizes.nodes;
     for (const sf_node *node = nodes; node < nodes + sizes.nodes; node += node->size)
       if (node != nodes + at)
         sf_put_copy(field, node, text, length, bytes);

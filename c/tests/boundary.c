@@ -8,6 +8,7 @@
 #define _DEFAULT_SOURCE
 #define _POSIX_C_SOURCE 200809L
 #include "buffers.h"
+#include "decisions.h"
 #include "texts.h"
 #include <inttypes.h>
 #include <malloc.h>
@@ -177,6 +178,10 @@ static int is_set(const sf_refusal *refusal, const char *set) {
          refusal->may_end == may_end;
 }
 
+static int is_same_policy(const sf_policy *a, const sf_policy *b) {
+  return memcmp(a, b, offsetof(sf_policy, is_private) + 1) == 0; /* but for what is after it */
+}
+
 /* The structs have the layout of those in the archive; rust/sf-sys/src/lib.rs has their sizes. */
 #define SIZE(type, size) CHECK(sizeof(type) == (size))
 #define AT(type, member, place) CHECK(offsetof(type, member) == (place))
@@ -208,6 +213,11 @@ static void layouts(void) {
   AT(sf_priority_flags, incremental, 1);
   AT(sf_priority_flags, has_urgency, 2);
   AT(sf_priority_flags, has_incremental, 3);
+  SIZE(sf_response_priority_flags, 4);
+  AT(sf_response_priority_flags, urgency, 0);
+  AT(sf_response_priority_flags, incremental, 1);
+  AT(sf_response_priority_flags, has_urgency, 2);
+  AT(sf_response_priority_flags, has_incremental, 3);
   SIZE(sf_policy, 24);
   AT(sf_policy, max_age, 0);
   AT(sf_policy, s_maxage, 8);
@@ -217,6 +227,24 @@ static void layouts(void) {
   AT(sf_policy, no_store, 19);
   AT(sf_policy, no_cache, 20);
   AT(sf_policy, is_private, 21);
+  SIZE(sf_rules, 32);
+  AT(sf_rules, policy, 0);
+  AT(sf_rules, invalid_max_age, 24);
+  AT(sf_rules, invalid_s_maxage, 25);
+  AT(sf_rules, proxy_revalidate, 26);
+  AT(sf_rules, must_understand, 27);
+  AT(sf_rules, is_public, 28);
+  SIZE(sf_response, 24);
+  AT(sf_response, age, 0);
+  AT(sf_response, lifetime, 8);
+  AT(sf_response, has_lifetime, 16);
+  AT(sf_response, is_understood, 17);
+  SIZE(sf_decision, 16);
+  AT(sf_decision, seconds, 0);
+  AT(sf_decision, reuse, 8);
+  AT(sf_decision, by, 9);
+  AT(sf_decision, allows_storing, 10);
+  AT(sf_decision, allows_authorized, 11);
   SIZE(sf_span, 16);
   AT(sf_span, at, 0);
   AT(sf_span, length, 8);
@@ -277,6 +305,39 @@ static void macros(void) {
   CHECK(strcmp(sf_status_name(SF_TOO_MANY), "SF_TOO_MANY") == 0);
   CHECK(strcmp(sf_status_name(SF_TOO_MANY + 1), "SF_?") == 0);
   CHECK(strcmp(sf_status_name(UINT32_MAX), "SF_?") == 0);
+
+  about = "names";
+  CHECK(strcmp(sf_kind_name(SF_ITEM), "Item") == 0);
+  CHECK(strcmp(sf_kind_name(SF_DICT), "Dictionary") == 0);
+  CHECK(strcmp(sf_kind_name(0), "?") == 0 && strcmp(sf_kind_name(SF_RFC9651), "?") == 0);
+  CHECK(strcmp(sf_role_name(SF_MEMBER), "member") == 0 && strcmp(sf_role_name(SF_LIST), "?") == 0);
+  CHECK(strcmp(sf_type_name(SF_INNER_LIST), "Inner List") == 0);
+  CHECK(strcmp(sf_type_name(SF_DISPLAY_STRING), "Display String") == 0);
+  CHECK(strcmp(sf_type_name(SF_DISPLAY_STRING + 1), "?") == 0);
+  CHECK(strcmp(sf_outcome_name(SF_UNSAID), "unsaid") == 0);
+  CHECK(strcmp(sf_outcome_name(SF_CONFLICT + 1), "?") == 0);
+  CHECK(strcmp(sf_forward_name(SF_URI_MISS), "uri-miss") == 0);
+  CHECK(strcmp(sf_forward_name(SF_OTHER), "") == 0);
+  CHECK(strcmp(sf_forward_name(SF_NO_FORWARD), "") == 0);
+  CHECK(strcmp(sf_reuse_name(SF_REUSE_FRESH), "fresh") == 0 && strcmp(sf_reuse_name(0), "?") == 0);
+  CHECK(strcmp(sf_cause_name(SF_BY_INVALID_S_MAXAGE), "invalid s-maxage") == 0);
+  CHECK(strcmp(sf_cause_name(SF_BY_NOTHING), "") == 0 && strcmp(sf_cause_name(0), "") == 0);
+
+  about = "trimming";
+  static const struct {
+    const char *text, *rest;
+  } trimmed[] = {{"", ""},       {" ", ""},          {" \t \t", ""},       {"a", "a"},
+                 {"\ta", "a"},   {"a\t ", "a"},      {" \ta \tb\t ", "a \tb"}, {"a\n", "a\n"},
+                 {"\va", "\va"}};
+  for (size_t i = 0; i < sizeof trimmed / sizeof *trimmed; ++i) {
+    size_t length = strlen(trimmed[i].text);
+    char *text = take_buffer(trimmed[i].text, length);
+    sf_text rest = sf_trim(text, length);
+    CHECK(rest.length == strlen(trimmed[i].rest));
+    CHECK(rest.length == 0 || memcmp(rest.at, trimmed[i].rest, rest.length) == 0);
+    give_buffer(text);
+  }
+  CHECK(sf_trim(NULL, 0).length == 0);
 
   about = "sizes of buffers";
   int number = 2000000000;
@@ -552,6 +613,51 @@ static void worked_texts(void) {
   refused(SF_RFC8941, kind, text, sizeof text - 1, place, found, set);
   REFUSED_8941(ROW)
 #undef ROW
+}
+
+/* Numbers that are no dialect, of the calls that take no kind, or no cache. */
+static void bad_dialects(void) {
+  static const uint32_t numbers[] = {0, SF_ITEM, SF_DICT, SF_MEMBER, SF_SHARED_CACHE, 9650, 9652,
+                                     8940, 8942, UINT32_MAX};
+  static const sf_rules no_rules;
+  static const sf_response new_response;
+  const char *about = "bad dialect";
+  uint32_t status;
+  for (size_t i = 0; i < sizeof numbers / sizeof *numbers; ++i) {
+    uint32_t dialect = numbers[i];
+    sf_refusal refusal = untouched;
+    sf_priority_flags request = {9, 9, 9, 9}, nines = {9, 9, 9, 9};
+    sf_response_priority_flags response = {9, 9, 9, 9};
+    sf_rules rules, fives;
+    sf_path path = {4711, 4712, 4713, 4714, 4715};
+    sf_hop hop, own;
+    size_t required = 4711, index = 4711;
+    sf_span field = {0, 1};
+    unsigned char *bytes = take_buffer(NULL, 8);
+    memset(&rules, 0xa5, sizeof rules);
+    memset(&fives, 0xa5, sizeof fives);
+    memset(&own, 0, sizeof own);
+    FREE_CALL(sf_priority_in(&seed, dialect, "a", 1, &request, &refusal));
+    CHECK(status == SF_BAD_CALL && memcmp(&request, &nines, sizeof request) == 0);
+    FREE_CALL(sf_response_priority(&seed, dialect, "a", 1, &response, &refusal));
+    CHECK(status == SF_BAD_CALL && memcmp(&response, &nines, sizeof response) == 0);
+    FREE_CALL(sf_cache_rules(&seed, dialect, "a", 1, &rules, &refusal));
+    CHECK(status == SF_BAD_CALL && memcmp(&rules, &fives, sizeof rules) == 0);
+    FREE_CALL(sf_select_rules(&seed, dialect, "a", 1, &field, 1, &index, &rules));
+    CHECK(status == SF_BAD_CALL && index == 4711 && memcmp(&rules, &fives, sizeof rules) == 0);
+    FREE_CALL(sf_cache_status_in(&seed, dialect, "a", 1, &hop, 1, bytes, 8, &path, &refusal));
+    CHECK(status == SF_BAD_CALL && path.hops == 4711 && path.is_served == 4715);
+    FREE_CALL(sf_cache_status_append(&seed, dialect, "a", 1, &own, NULL, 0, bytes, 8, &required,
+                                     &refusal));
+    CHECK(status == SF_BAD_CALL && required == 4711 && all_are(bytes, 8));
+    CHECK(is_untouched(&refusal));
+    sf_decision decision = {4711, 1, 2, 3, 4};
+    if (dialect != SF_SHARED_CACHE) {
+      FREE_CALL(sf_decide(&no_rules, dialect, &new_response, &decision));
+      CHECK(status == SF_BAD_CALL && decision.seconds == 4711 && decision.allows_authorized == 4);
+    }
+    give_buffer(bytes);
+  }
 }
 
 /* Numbers that are no kind or no dialect. */
@@ -1065,6 +1171,28 @@ static void many_keys(void) {
   }
 }
 
+/* Of very many keys it is not found out whether they differ, so that they are copied. */
+static void very_many_keys(void) {
+  enum { COUNT = 16384, LENGTH = COUNT * 6 - 1 };
+  const char *about = "very many keys";
+  uint32_t status;
+  char *text = malloc(LENGTH + 2);
+  value v = {(unsigned char *)text, LENGTH, malloc(COUNT * sizeof *v.nodes), malloc(COUNT * 6),
+             {4711, 4712}};
+  if (text == NULL || v.nodes == NULL || v.bytes == NULL)
+    abort();
+  for (size_t i = 0; i < COUNT; ++i)
+    snprintf(text + i * 6, 7, "k%04zx,", i);
+  sf_refusal refusal = untouched;
+  CALL(sf_parse(&seed, SF_RFC9651, SF_DICT, text, LENGTH, v.nodes, COUNT, v.bytes, COUNT * 6,
+                &v.sizes, &refusal));
+  CHECK(status == SF_OK && calls > 0 && v.sizes.nodes == COUNT && v.sizes.bytes == COUNT * 5);
+  CHECK_MEMORY(LENGTH);
+  free(v.nodes);
+  free(v.bytes);
+  free(text);
+}
+
 /* A call that refuses the text at its last byte, and has less memory than twice its length. */
 #define LEAN_CALL(call)                                                                            \
   do {                                                                                             \
@@ -1109,10 +1237,21 @@ static void lean_refusals(void) {
                        SF_NODES_SIZE(LENGTH), v.bytes, SF_BYTES_SIZE(LENGTH), &v.sizes, &refusal));
     if (rows[i].kind == SF_DICT) {
       sf_priority_flags priority;
+      sf_response_priority_flags response;
       sf_policy policy;
+      sf_rules rules;
       LEAN_CALL(sf_priority(&seed, text, LENGTH, &priority, &refusal));
+      LEAN_CALL(sf_priority_in(&seed, SF_RFC8941, text, LENGTH, &priority, &refusal));
+      LEAN_CALL(sf_response_priority(&seed, SF_RFC8941, text, LENGTH, &response, &refusal));
       LEAN_CALL(sf_cache_control(&seed, text, LENGTH, &policy, &refusal));
+      LEAN_CALL(sf_cache_rules(&seed, SF_RFC8941, text, LENGTH, &rules, &refusal));
     }
+    /* what builds the value before it is written */
+    size_t required = 4711;
+    CALL(sf_normalise(&seed, SF_RFC9651, rows[i].kind, text, LENGTH, v.bytes,
+                      SF_BYTES_SIZE(LENGTH), &required, &refusal));
+    CHECK(status == SF_REFUSED && required == 4711);
+    CHECK_MEMORY(LENGTH);
     give_value(v);
     give_buffer(text);
   }
@@ -1240,9 +1379,13 @@ static void changing(void) {
   sf_set_bytes(nodes + (node), type, value, length, text_length, bytes, 8, &sizes)
   sf_node before = nodes[0];
   CHECK(SET(0, SF_TOKEN, "longer", 6) == SF_SHORT && sizes.bytes == 3);
-  CHECK(sf_set_bytes(nodes, SF_TOKEN, "f", 1, UINT32_MAX - 3, bytes, 8, &sizes) == SF_TOO_LONG);
+  CHECK(sf_set_bytes(nodes, SF_TOKEN, "f", 1, UINT32_MAX - 2, bytes, 8, &sizes) == SF_TOO_LONG);
   CHECK(sf_set_bytes(nodes, SF_TOKEN, "f", 1, SIZE_MAX, bytes, 8, &sizes) == SF_TOO_LONG);
   CHECK(memcmp(&before, nodes, sizeof before) == 0 && sizes.bytes == 3);
+  sf_node last = before; /* at the last offset that there is */
+  sf_sizes last_sizes = sizes;
+  CHECK(sf_set_bytes(&last, SF_TOKEN, "f", 1, UINT32_MAX - 3, bytes, 8, &last_sizes) == SF_OK);
+  CHECK(last.text_at == UINT32_MAX && last.text_length == 1 && last_sizes.bytes == 4);
   CHECK(SET(0, SF_TOKEN, "fg/", 3) == SF_OK && sizes.bytes == 6);
   CHECK(SET(3, SF_STRING, NULL, 0) == SF_OK && sizes.bytes == 6);
   CHECK(SET(6, SF_BYTE_SEQUENCE, "\0\xff", 2) == SF_OK && sizes.bytes == 8);
@@ -1421,6 +1564,56 @@ static void broken_nodes(void) {
   CHECK(status == SF_INVALID && invalid == 0);
 }
 
+/* What is written of nodes that no text has. */
+static void odd_nodes(void) {
+  const char *about = "odd nodes";
+  size_t invalid = 4711;
+  uint32_t status;
+  /* in an Inner List, text_at and coded have no effect */
+  sf_node list = {0, 0, 0, 1, 0, 1, SF_INNER_LIST, SF_MEMBER, 1};
+  WRITES(sf_write(&seed, SF_RFC9651, SF_LIST, &list, 1, NULL, 0, NULL, 0, buffer, size, required,
+                  &invalid),
+         "()");
+  list.key_at = 1; /* but the place of its key has */
+  size_t unwritten = 4711;
+  CALL(sf_write(&seed, SF_RFC9651, SF_LIST, &list, 1, NULL, 0, NULL, 0, NULL, 0, &unwritten,
+                &invalid));
+  CHECK(status == SF_INVALID && invalid == 0 && unwritten == 4711);
+  /* the text of an Integer, and its number */
+  for (int coded = 0; coded < 256; ++coded) {
+    sf_node number = {5, 0, 0, 0, 1, 1, SF_INTEGER, SF_MEMBER, (uint8_t)coded};
+    invalid = 4711;
+    if (coded == 0) {
+      size_t required = 4711;
+      CALL(sf_write(&seed, SF_RFC9651, SF_ITEM, &number, 1, "5", 1, NULL, 0, NULL, 0, &required,
+                    &invalid));
+      CHECK(status == SF_INVALID && invalid == 0 && required == 4711);
+      continue;
+    }
+    WRITES(sf_write(&seed, SF_RFC9651, SF_ITEM, &number, 1, "5", 1, NULL, 0, buffer, size, required,
+                    &invalid),
+           "5");
+    size_t required = 4711;
+    number.number = 6;
+    CALL(sf_write(&seed, SF_RFC9651, SF_ITEM, &number, 1, "5", 1, NULL, 0, NULL, 0, &required,
+                  &invalid));
+    CHECK(status == SF_INVALID && invalid == 0 && required == 4711);
+    number.number = 5;
+    number.text_length = 0;
+    CALL(sf_write(&seed, SF_RFC9651, SF_ITEM, &number, 1, "5", 1, NULL, 0, NULL, 0, &required,
+                  &invalid));
+    CHECK(status == SF_INVALID && required == 4711);
+  }
+  /* a key that begins in the text and ends in the bytes is written, and not found */
+  sf_node across = {1, 0, 2, 0, 0, 1, SF_BOOLEAN, SF_MEMBER, 0};
+  WRITES(sf_write(&seed, SF_RFC9651, SF_DICT, &across, 1, "k", 1, "l", 1, buffer, size, required,
+                  &invalid),
+         "kl");
+  size_t index = 4711;
+  CALL(sf_find(&across, 1, "k", 1, "l", 1, SF_MEMBER, "kl", 2, &index));
+  CHECK(status == SF_ABSENT && index == 4711);
+}
+
 static void priorities(void) {
   static const struct {
     const char *text;
@@ -1454,10 +1647,13 @@ static void priorities(void) {
   CHECK(memcmp(&priority, &nines, sizeof nines) == 0);
 
   static const struct {
-    sf_priority_flags client, server, both;
+    sf_priority_flags client;
+    sf_response_priority_flags server;
+    sf_priority_flags both;
   } pairs[] = {
       {{5, 1, 1, 1}, {1, 0, 1, 0}, {1, 1, 1, 1}}, /* u=5, i and u=1 */
-      {{3, 0, 0, 0}, {3, 0, 0, 0}, {3, 0, 0, 0}},
+      {{3, 0, 0, 0}, {0, 0, 0, 0}, {3, 0, 0, 0}},
+      {{5, 1, 1, 1}, {3, 0, 1, 1}, {3, 0, 1, 1}}, /* the defaults, set by the server, count */
       {{5, 1, 0, 0}, {1, 1, 0, 0}, {3, 0, 0, 0}}, /* what is not said does not count */
       {{2, 0, 1, 1}, {8, 9, 1, 7}, {2, 1, 1, 1}}, /* 8 is no urgency, 9 and 7 are flags */
       {{255, 255, 255, 255}, {0, 0, 0, 0}, {3, 1, 0, 1}},
@@ -1469,16 +1665,16 @@ static void priorities(void) {
   }
 }
 
-/* The text of what a struct sets: nothing of what it doesn't set, and what is read from it. */
+/* The text of what a struct sets, and what is read from it. */
 static void priority_texts(void) {
   static const struct {
     sf_priority_flags sets;
     const char *text;
   } rows[] = {
-      {{3, 0, 0, 0}, ""},          {{1, 1, 0, 0}, ""},          {{5, 0, 1, 0}, "u=5"},
-      {{3, 0, 1, 0}, "u=3"},       {{0, 0, 1, 0}, "u=0"},       {{3, 1, 0, 1}, "i"},
-      {{3, 0, 0, 1}, "i=?0"},      {{1, 1, 1, 1}, "u=1, i"},    {{7, 0, 1, 1}, "u=7, i=?0"},
-      {{8, 1, 1, 1}, "i"},         {{255, 9, 1, 7}, "i"},       {{2, 200, 255, 255}, "u=2, i"},
+      {{3, 0, 0, 0}, ""},       {{0, 0, 0, 0}, ""},       {{5, 0, 1, 0}, "u=5"},
+      {{3, 0, 1, 0}, "u=3"},    {{0, 0, 1, 0}, "u=0"},    {{3, 1, 0, 1}, "i"},
+      {{3, 0, 0, 1}, "i=?0"},   {{1, 1, 1, 1}, "u=1, i"}, {{7, 0, 1, 1}, "u=7, i=?0"},
+      {{0, 9, 0, 7}, "i"},      {{2, 200, 255, 255}, "u=2, i"},
   };
   uint32_t status;
   for (size_t i = 0; i < sizeof rows / sizeof *rows; ++i) {
@@ -1486,11 +1682,206 @@ static void priority_texts(void) {
     sf_priority_flags *sets = take_buffer(&rows[i].sets, sizeof rows[i].sets);
     WRITES(sf_priority_text(sets, buffer, size, required), rows[i].text);
     CHECK(strlen(rows[i].text) <= SF_PRIORITY_SIZE);
-    sf_priority_flags again = {9, 9, 9, 9}, merged = sf_priority_merge(sets, sets);
+    static const sf_response_priority_flags nothing;
+    sf_priority_flags again = {9, 9, 9, 9}, merged = sf_priority_merge(sets, &nothing);
     sf_refusal refusal = untouched;
     FREE_CALL(sf_priority(&seed, rows[i].text, strlen(rows[i].text), &again, &refusal));
     CHECK(status == SF_OK && memcmp(&again, &merged, sizeof again) == 0);
     give_buffer(sets);
+  }
+}
+
+/* A value that is not set would not be in the text, nor an urgency that is none: it is refused. */
+static void forgotten_flags(void) {
+  static const sf_priority_flags requests[] = {
+      {1, 0, 0, 0}, {7, 1, 0, 1}, {3, 1, 0, 0}, {0, 1, 1, 0},     {8, 0, 1, 0},
+      {9, 0, 0, 0}, {4, 0, 0, 0}, {2, 0, 0, 1}, {255, 255, 0, 0}, {8, 1, 1, 1}};
+  static const sf_response_priority_flags responses[] = {
+      {1, 0, 0, 0}, {3, 0, 0, 0}, {7, 1, 0, 1}, {0, 1, 0, 0}, {0, 1, 1, 0},
+      {8, 0, 1, 0}, {8, 0, 0, 0}, {2, 0, 0, 1}, {0, 255, 0, 0}};
+  uint32_t status;
+  unsigned char out[16];
+  for (size_t i = 0; i < sizeof requests / sizeof *requests; ++i) {
+    const char *about = "a request's priority that is not set";
+    size_t required = 4711;
+    sf_refusal refusal = untouched;
+    memset(out, BUFFER_BYTE, sizeof out);
+    FREE_CALL(sf_priority_text(&requests[i], out, sizeof out, &required));
+    CHECK(status == SF_INVALID && required == 4711 && all_are(out, sizeof out));
+    FREE_CALL(
+        sf_priority_change(&seed, "u=5", 3, &requests[i], out, sizeof out, &required, &refusal));
+    CHECK(status == SF_INVALID && required == 4711 && all_are(out, sizeof out));
+    FREE_CALL(
+        sf_priority_change(&seed, "u=", 2, &requests[i], out, sizeof out, &required, &refusal));
+    CHECK(status == SF_INVALID && required == 4711 && is_untouched(&refusal));
+  }
+  for (size_t i = 0; i < sizeof responses / sizeof *responses; ++i) {
+    const char *about = "a response's priority that is not set";
+    size_t required = 4711;
+    memset(out, BUFFER_BYTE, sizeof out);
+    FREE_CALL(sf_response_priority_text(&responses[i], out, sizeof out, &required));
+    CHECK(status == SF_INVALID && required == 4711 && all_are(out, sizeof out));
+  }
+  const char *about = "seconds that are not set";
+  static const sf_rules unset_rules[] = {{{60, 0, 0, 0, 0, 0, 0, 0}, 0, 0, 0, 0, 0},
+                                         {{0, 60, 1, 0, 0, 0, 0, 0}, 0, 0, 0, 0, 0}};
+  static const sf_rules none;
+  static const sf_response new_response, unset_response = {0, 60, 0, 0};
+  sf_decision decision = {4711, 1, 2, 3, 4};
+  for (size_t i = 0; i < 2; ++i) {
+    FREE_CALL(sf_decide(&unset_rules[i], SF_SHARED_CACHE, &new_response, &decision));
+    CHECK(status == SF_INVALID && decision.seconds == 4711 && decision.reuse == 1);
+  }
+  FREE_CALL(sf_decide(&none, SF_PRIVATE_CACHE, &unset_response, &decision));
+  CHECK(status == SF_INVALID && decision.seconds == 4711 && decision.reuse == 1);
+  FREE_CALL(sf_decide(&unset_rules[0], SF_SHARED_CACHE - 1, &new_response, &decision));
+  CHECK(status == SF_BAD_CALL && decision.seconds == 4711);
+}
+
+/* What a response sets: an absent parameter is not a default there. */
+static void response_priorities(void) {
+  static const struct {
+    const char *text;
+    sf_response_priority_flags sets;
+    const char *written;
+  } rows[] = {
+      {"", {0, 0, 0, 0}, ""},           {"u=3", {3, 0, 1, 0}, "u=3"},
+      {"u=0", {0, 0, 1, 0}, "u=0"},     {"i=?0", {0, 0, 0, 1}, "i=?0"},
+      {"i", {0, 1, 0, 1}, "i"},         {"u=7,  i=?1", {7, 1, 1, 1}, "u=7, i"},
+      {"u=8, i=1", {0, 0, 0, 0}, ""},   {"x=(a b), i=?0, u=3;y", {3, 0, 1, 1}, "u=3, i=?0"},
+      {"u=1, u=2", {2, 0, 1, 0}, "u=2"}, {"u=2, u=9", {0, 0, 0, 0}, ""},
+  };
+  uint32_t status;
+  for (size_t i = 0; i < sizeof rows / sizeof *rows; ++i) {
+    const char *about = rows[i].text;
+    size_t length = strlen(about);
+    unsigned char *text = take_buffer(about, length);
+    sf_response_priority_flags *sets = take_buffer(NULL, sizeof *sets);
+    sf_refusal refusal = untouched;
+    FREE_CALL(sf_response_priority(&seed, SF_RFC8941, text, length, sets, &refusal));
+    CHECK(status == SF_OK && memcmp(sets, &rows[i].sets, sizeof *sets) == 0);
+    CHECK(is_untouched(&refusal));
+    WRITES(sf_response_priority_text(sets, buffer, size, required), rows[i].written);
+    CHECK(calls == 0 && strlen(rows[i].written) <= SF_PRIORITY_SIZE);
+    give_buffer(sets);
+    give_buffer(text);
+  }
+  const char *about = "u=1, x=@1";
+  sf_response_priority_flags sets = {9, 9, 9, 9}, nines = {9, 9, 9, 9};
+  sf_refusal refusal = untouched;
+  FREE_CALL(sf_response_priority(&seed, SF_RFC9651, about, 9, &sets, &refusal));
+  CHECK(status == SF_OK && sets.urgency == 1 && sets.has_incremental == 0);
+  sets = nines;
+  CALL(sf_response_priority(&seed, SF_RFC8941, about, 9, &sets, &refusal));
+  CHECK(status == SF_REFUSED && refusal.offset == 7 && memcmp(&sets, &nines, sizeof sets) == 0);
+  sf_priority_flags request = {9, 9, 9, 9};
+  CALL(sf_priority_in(&seed, SF_RFC8941, about, 9, &request, &refusal));
+  CHECK(status == SF_REFUSED && refusal.offset == 7 && request.urgency == 9);
+  FREE_CALL(sf_priority_in(&seed, SF_RFC9651, about, 9, &request, &refusal));
+  CHECK(status == SF_OK && request.urgency == 1 && request.has_incremental == 0);
+  FREE_CALL(sf_priority_in(&seed, SF_RFC8941, "i", 1, &request, &refusal));
+  CHECK(status == SF_OK && request.urgency == 3 && request.incremental == 1);
+}
+
+/* The rows of tests/decisions.txt: the field that is obeyed, and what is decided by it. */
+static void decisions(void) {
+  uint32_t status;
+  for (size_t i = 0; i < sizeof decision_rows / sizeof *decision_rows; ++i) {
+    const struct decision_row *row = &decision_rows[i];
+    char about[16], texts[512];
+    sprintf(about, "row %d", row->row);
+    size_t first = strlen(row->targets[0]), length = first + strlen(row->targets[1]);
+    sprintf(texts, "%s%s", row->targets[0], row->targets[1]);
+    const sf_span fields[] = {{0, first}, {first, length - first}};
+    size_t index = 4711;
+    sf_rules rules, again;
+    memset(&rules, 0xa5, sizeof rules);
+    CALL(sf_select_rules(&seed, SF_RFC9651, texts, length, fields, 2, &index, &rules));
+    if (row->index == DECISION_FALLBACK) {
+      CHECK(status == SF_EMPTY && index == 4711);
+      continue;
+    }
+    CHECK(status == SF_OK && index == (size_t)row->index);
+    sf_refusal refusal = untouched;
+    CALL(sf_cache_rules(&seed, SF_RFC8941, row->targets[index], strlen(row->targets[index]), &again,
+                        &refusal));
+    CHECK(status == SF_OK && is_untouched(&refusal));
+    CHECK(memcmp(&rules, &again, offsetof(sf_policy, is_private) + 1) == 0);
+    CHECK(memcmp(&rules.invalid_max_age, &again.invalid_max_age, 5) == 0);
+    sf_decision *decision = take_buffer(NULL, sizeof *decision);
+    FREE_CALL(sf_decide(&rules, row->cache, &row->response, decision));
+    CHECK(status == SF_OK && decision->reuse == row->decision.reuse);
+    CHECK(decision->by == row->decision.by && decision->seconds == row->decision.seconds);
+    give_buffer(decision);
+  }
+}
+
+/* What the table has not. */
+static void other_decisions(void) {
+  static const struct {
+    const char *text;
+    sf_rules rules;
+  } rows[] = {
+      {"max-age=60, public, proxy-revalidate, must-understand=?1",
+       {{60, 0, 1, 0, 0, 0, 0, 0}, 0, 0, 1, 1, 1}},
+      {"max-age=1.5, s-maxage=-1, public=?0", {{0, 0, 0, 0, 0, 0, 0, 0}, 1, 1, 0, 0, 0}},
+      {"max-age=1.5, max-age=7", {{7, 0, 1, 0, 0, 0, 0, 0}, 0, 0, 0, 0, 0}},
+      {"max-age=7, max-age", {{0, 0, 0, 0, 0, 0, 0, 0}, 1, 0, 0, 0, 0}},
+      {"private, no-cache, no-store, must-revalidate", {{0, 0, 0, 0, 1, 1, 1, 1}, 0, 0, 0, 0, 0}},
+      {"x", {{0, 0, 0, 0, 0, 0, 0, 0}, 0, 0, 0, 0, 0}},
+  };
+  uint32_t status;
+  for (size_t i = 0; i < sizeof rows / sizeof *rows; ++i) {
+    const char *about = rows[i].text;
+    size_t length = strlen(about);
+    unsigned char *text = take_buffer(about, length);
+    sf_rules *rules = take_buffer(NULL, sizeof *rules);
+    sf_refusal refusal = untouched;
+    FREE_CALL(sf_cache_rules(&seed, SF_RFC9651, text, length, rules, &refusal));
+    CHECK(status == SF_OK && is_same_policy(&rules->policy, &rows[i].rules.policy));
+    CHECK(memcmp(&rules->invalid_max_age, &rows[i].rules.invalid_max_age, 5) == 0);
+    give_buffer(rules);
+    give_buffer(text);
+  }
+  const char *about = "no rules";
+  sf_rules rules;
+  sf_refusal refusal = untouched;
+  memset(&rules, 9, sizeof rules);
+  FREE_CALL(sf_cache_rules(&seed, SF_RFC9651, NULL, 0, &rules, &refusal));
+  CHECK(status == SF_EMPTY && rules.is_public == 9 && is_untouched(&refusal));
+  CALL(sf_cache_rules(&seed, SF_RFC9651, "max-age=60,", 11, &rules, &refusal));
+  CHECK(status == SF_REFUSED && refusal.offset == 11 && rules.is_public == 9);
+  refusal = untouched;
+  CALL(sf_cache_rules(&seed, SF_RFC8941, "no-store, x=@1", 14, &rules, &refusal));
+  CHECK(status == SF_REFUSED && refusal.offset == 12 && rules.is_public == 9);
+
+  about = "permissions, and other lifetimes";
+  static const struct {
+    sf_rules rules;
+    sf_response response;
+    uint32_t cache;
+    sf_decision decision;
+  } decided[] = {
+      {{{0, 0, 0, 0, 0, 0, 0, 0}, 0, 0, 0, 0, 255}, {20, 60, 255, 0}, SF_SHARED_CACHE,
+       {40, SF_REUSE_FRESH, SF_BY_EXPIRES, 1, 1}},
+      {{{60, 0, 7, 0, 0, 0, 0, 0}, 0, 0, 0, 0, 0}, {0, 9, 1, 0}, SF_SHARED_CACHE,
+       {60, SF_REUSE_FRESH, SF_BY_MAX_AGE, 1, 0}},
+      {{{0, 60, 0, 1, 0, 0, 0, 0}, 0, 0, 0, 0, 0}, {0, 0, 0, 0}, SF_PRIVATE_CACHE,
+       {0, SF_REUSE_UNSPECIFIED, SF_BY_NOTHING, 0, 1}},
+      {{{0, 0, 0, 0, 0, 0, 0, 1}, 0, 0, 0, 0, 0}, {0, 0, 0, 0}, SF_PRIVATE_CACHE,
+       {0, SF_REUSE_UNSPECIFIED, SF_BY_NOTHING, 1, 0}},
+      {{{0, 0, 0, 0, 0, 1, 0, 0}, 0, 0, 0, 1, 0}, {0, 60, 1, 1}, SF_SHARED_CACHE,
+       {60, SF_REUSE_FRESH, SF_BY_EXPIRES, 0, 0}},
+      {{{0, 0, 0, 0, 0, 0, 0, 0}, 0, 0, 0, 0, 0}, {1, UINT64_MAX, 1, 0}, SF_PRIVATE_CACHE,
+       {2147483647, SF_REUSE_FRESH, SF_BY_EXPIRES, 0, 0}},
+      {{{UINT64_MAX, 0, 1, 0, 0, 0, 0, 0}, 0, 0, 0, 0, 0}, {UINT64_MAX, 0, 0, 0}, SF_SHARED_CACHE,
+       {0, SF_REUSE_STALE, SF_BY_MAX_AGE, 1, 0}},
+  };
+  for (size_t i = 0; i < sizeof decided / sizeof *decided; ++i) {
+    sf_decision decision = {9, 9, 9, 9, 9};
+    FREE_CALL(sf_decide(&decided[i].rules, decided[i].cache, &decided[i].response, &decision));
+    CHECK(status == SF_OK && decision.seconds == decided[i].decision.seconds);
+    CHECK(memcmp(&decision.reuse, &decided[i].decision.reuse, 4) == 0);
   }
 }
 
@@ -1598,10 +1989,6 @@ static void policies(void) {
   CHECK(sf_lifetime(&large, 0, &seconds) == 1 && seconds == 7);
 }
 
-static int is_same_policy(const sf_policy *a, const sf_policy *b) {
-  return memcmp(a, b, offsetof(sf_policy, is_private) + 1) == 0; /* but for what is after it */
-}
-
 /* The first field of a target list that is not ignored. */
 static void selecting(void) {
   static const struct {
@@ -1682,6 +2069,31 @@ static void selecting(void) {
   CHECK(status == SF_EMPTY && index == 4711);
   give_buffer(texts);
   give_buffer(none);
+}
+
+/* The same choice, by the dialect, with what decides. */
+static void selecting_rules(void) {
+  static const char about[] = "max-age=60, x=@1 no-store a b";
+  static const sf_span fields[] = {{0, 0}, {0, 16}, {17, 8}};
+  size_t index = 4711;
+  sf_rules rules;
+  uint32_t status;
+  unsigned char *texts = take_buffer(about, sizeof about - 1);
+  FREE_CALL(sf_select_rules(&seed, SF_RFC9651, texts, sizeof about - 1, fields, 3, &index, &rules));
+  CHECK(status == SF_OK && index == 1 && rules.policy.max_age == 60 && rules.policy.no_store == 0);
+  CALL(sf_select_rules(&seed, SF_RFC8941, texts, sizeof about - 1, fields, 3, &index, &rules));
+  CHECK(status == SF_OK && index == 2 && rules.policy.max_age == 0 && rules.policy.no_store == 1);
+  sf_policy policy;
+  CALL(sf_select(&seed, texts, sizeof about - 1, fields, 3, &index, &policy));
+  CHECK(status == SF_OK && index == 1 && policy.max_age == 60);
+  static const sf_span ignored[] = {{26, 3}, {0, 0}}, past[] = {{26, 3}, {26, 4}};
+  memset(&rules, 9, sizeof rules);
+  index = 4711;
+  CALL(sf_select_rules(&seed, SF_RFC9651, texts, sizeof about - 1, ignored, 2, &index, &rules));
+  CHECK(status == SF_EMPTY && index == 4711 && rules.is_public == 9);
+  CALL(sf_select_rules(&seed, SF_RFC9651, texts, sizeof about - 1, past, 2, &index, &rules));
+  CHECK(status == SF_BAD_CALL && index == 4711 && rules.is_public == 9);
+  give_buffer(texts);
 }
 
 /* What a hop is to tell; a text that is NULL is not said. */
@@ -1966,6 +2378,167 @@ static void written_hops(void) {
   }
 }
 
+/* The field that came, with the own hop at its end. */
+static void appended_hops(void) {
+  static const struct {
+    const char *text, *appended;
+  } rows[] = {
+      {"", "edge;fwd=miss;ttl=-1;stored"},
+      {"  ", "edge;fwd=miss;ttl=-1;stored"},
+      {"a;hit", "a;hit, edge;fwd=miss;ttl=-1;stored"},
+      {"a; hit,\t\"b c\";fwd=odd", "a;hit, \"b c\";fwd=odd, edge;fwd=miss;ttl=-1;stored"},
+      /* members that name no cache stay */
+      {"7, (x  y);z", "7, (x y);z, edge;fwd=miss;ttl=-1;stored"},
+      {"a;x=1.0;x=2", "a;x=2, edge;fwd=miss;ttl=-1;stored"},
+  };
+  sf_hop hop = {.name = {0, 4}, .name_is_token = 1, .outcome = SF_FORWARDED, .why = SF_MISS,
+                .ttl = -1, .has_ttl = 1, .stored = 1, .has_stored = 1};
+  uint32_t status;
+  sf_refusal refusal = untouched;
+  for (size_t i = 0; i < sizeof rows / sizeof *rows; ++i) {
+    const char *about = rows[i].text;
+    size_t length = strlen(about);
+    unsigned char *text = take_buffer(about, length), *names = take_buffer("edge", 4);
+    WRITES(sf_cache_status_append(&seed, SF_RFC8941, text, length, &hop, names, 4, buffer, size,
+                                  required, &refusal),
+           rows[i].appended);
+    CHECK(strlen(rows[i].appended) <= SF_APPENDED_SIZE(length, 4));
+    give_buffer(names);
+    give_buffer(text);
+  }
+  /* nothing is appended to a malformed field, of either dialect */
+  static const char *const malformed[] = {"a;hit,", "a;hit,, b", "a b", "(", "\x80", "a;x=@1"};
+  static const size_t places[] = {6, 6, 2, 1, 0, 4};
+  unsigned char out[64];
+  size_t required = 4711;
+  for (size_t i = 0; i < sizeof malformed / sizeof *malformed; ++i) {
+    const char *about = malformed[i];
+    memset(out, BUFFER_BYTE, sizeof out);
+    CALL(sf_cache_status_append(&seed, SF_RFC8941, about, strlen(about), &hop, "edge", 4, out,
+                                sizeof out, &required, &refusal));
+    CHECK(status == SF_REFUSED && refusal.offset == places[i]);
+    CHECK(required == 4711 && all_are(out, sizeof out));
+  }
+  const char *about = "a;x=@1";
+  refusal = untouched;
+  CALL(sf_cache_status_append(&seed, SF_RFC9651, about, 6, &hop, "edge", 4, out, sizeof out,
+                              &required, &refusal));
+  CHECK(status == SF_OK && required == 35 && memcmp(out, "a;x=@1, edge;fwd", 16) == 0);
+  sf_hop hops[2];
+  sf_path path;
+  char bytes[16];
+  CALL(sf_cache_status_in(&seed, SF_RFC8941, about, 6, hops, 2, bytes, sizeof bytes, &path,
+                          &refusal));
+  CHECK(status == SF_REFUSED && refusal.offset == 4);
+  refusal = untouched;
+  FREE_CALL(sf_cache_status_in(&seed, SF_RFC9651, about, 6, hops, 2, bytes, sizeof bytes, &path,
+                               &refusal));
+  CHECK(status == SF_OK && path.hops == 1 && is_untouched(&refusal));
+
+  /* what is no hop, or has hit and fwd, is refused before the text is read */
+  about = "no hop to append";
+  memset(out, BUFFER_BYTE, sizeof out);
+  required = 4711;
+  for (int i = 0; i < 3; ++i) {
+    sf_hop wrong = hop;
+    if (i == 0)
+      wrong.outcome = SF_CONFLICT;
+    else if (i == 1)
+      wrong.name.length = 5;
+    else
+      wrong.why = SF_NO_FORWARD;
+    CALL(sf_cache_status_append(&seed, SF_RFC9651, "a;hit", 5, &wrong, "edge", 4, out, sizeof out,
+                                &required, &refusal));
+    CHECK(status == SF_INVALID && required == 4711 && all_are(out, sizeof out));
+    CALL(sf_cache_status_append(&seed, SF_RFC9651, "a;hit,", 6, &wrong, "edge", 4, out, sizeof out,
+                                &required, &refusal));
+    CHECK(status == SF_INVALID && required == 4711 && is_untouched(&refusal));
+  }
+  /* the longest text of a hop: each byte is escaped, in each of the ranges */
+  about = "the longest hop";
+  sf_hop longest = {{0, 8}, {8, 1}, {0, 8}, {0, 8}, -SF_NUMBER_MAX, SF_FORWARDED, SF_VARY_MISS, 999,
+                    1, 0, 1, 0, 1, 1, 1, 1, 0, 0};
+  char text[SF_HOP_SIZE(8)];
+  CALL(sf_hop_text(&seed, &longest, "\"\\\"\\\"\\\"\\", 8, text, sizeof text, &required));
+  CHECK(status == SF_OK && required > 7 * 8 + 64);
+}
+
+/* Where a refusal is in the lines that were joined, and messages of a bounded size. */
+static void excerpts(void) {
+  static const struct {
+    const char *lines[4];
+    uint64_t offset;
+    size_t line, at;
+  } places[] = {
+      {{NULL}, 7, 0, 0},
+      {{"abc", NULL}, 1, 0, 1},
+      {{"abc", NULL}, 3, 0, 3},
+      {{"abc", NULL}, 9, 0, 3},
+      {{"abc", "de", NULL}, 2, 0, 2},
+      {{"abc", "de", NULL}, 3, 0, 3}, /* the comma that joins them is after the first */
+      {{"abc", "de", NULL}, 4, 0, 3},
+      {{"abc", "de", NULL}, 5, 1, 0},
+      {{"abc", "de", NULL}, 7, 1, 2},
+      {{"abc", "", "f", NULL}, 5, 1, 0},
+      {{"abc", "", "f", NULL}, 6, 1, 0},
+      {{"abc", "", "f", NULL}, 7, 2, 0},
+      {{"abc", "", "f", NULL}, UINT64_MAX, 2, 1},
+  };
+  const char *about = "the line of a refusal";
+  for (size_t i = 0; i < sizeof places / sizeof *places; ++i) {
+    sf_text lines[4];
+    size_t count = 0;
+    for (; places[i].lines[count] != NULL; ++count) {
+      lines[count].at = places[i].lines[count];
+      lines[count].length = strlen(places[i].lines[count]);
+    }
+    sf_refusal refusal = untouched;
+    refusal.offset = places[i].offset;
+    sf_line_place place = sf_refusal_line(&refusal, lines, count);
+    CHECK(place.line == places[i].line && place.offset == places[i].at);
+  }
+  static const struct {
+    const char *text;
+    uint64_t offset;
+    size_t most;
+    const char *shown;
+  } rows[] = {
+      {"1 2", 2, 80, "\n1 2\n  ^"}, {"1 2", 2, 3, "\n1 2\n  ^"},  {"1 2", 2, 2, "\n 2\n ^"},
+      {"1 2", 2, 1, "\n2\n^"},      {"1 2", 2, 0, "\n\n^"},       {"", 0, 8, "\n\n^"},
+      {"abcdefghij", 0, 4, "\nabcd\n^"},
+      {"abcdefghij", 5, 4, "\ndefg\n  ^"},
+      {"abcdefghij", 9, 4, "\nghij\n   ^"},
+      {"abcdefghij", 10, 4, "\nghij\n    ^"},
+      {"abcdefghij", 99, 4, "\nghij\n    ^"},
+      {"a\tb\xff", 1, 8, "\na?b?\n ^"},
+  };
+  uint32_t status;
+  for (size_t i = 0; i < sizeof rows / sizeof *rows; ++i) {
+    about = rows[i].text;
+    size_t length = strlen(about);
+    unsigned char *text = take_buffer(about, length);
+    sf_refusal refusal = {rows[i].offset, UINT64_C(1) << 32, 0, 0x32, 1};
+    char message[160];
+    sprintf(message, "byte 0x32 '2' at place %d, expected a space or the end%s",
+            (int)rows[i].offset, rows[i].shown);
+    WRITES(sf_refusal_excerpt(&refusal, text, length, rows[i].most, buffer, size, required),
+           message);
+    CHECK(strlen(message) <= SF_REFUSAL_EXCERPT_SIZE(rows[i].most));
+    give_buffer(text);
+  }
+  about = "an excerpt of a long text";
+  size_t length = 1 << 20, required = 0;
+  char *text = malloc(length), buffer[SF_REFUSAL_EXCERPT_SIZE(16)];
+  if (text == NULL)
+    stop("no memory");
+  memset(text, 'x', length);
+  sf_refusal refusal = {1 << 19, 1, 0, 'x', 0};
+  CALL(sf_refusal_excerpt(&refusal, text, length, 16, buffer, sizeof buffer, &required));
+  CHECK(status == SF_OK && required <= sizeof buffer && peak <= SF_MEMORY_SIZE(0));
+  CHECK(memcmp(buffer + required - 27, "\nxxxxxxxxxxxxxxxx\n        ^", 27) == 0);
+  free(text);
+}
+
 /* Each struct that a call is given, in a buffer of its own, as the answers are. */
 static void structs(void) {
   static const struct {
@@ -2010,7 +2583,8 @@ static void structs(void) {
     if (kind == SF_DICT) {
       CALL(sf_priority(secret, text, length, priority, refusal));
       CHECK(status == right);
-      *priority = sf_priority_merge(priority, priority);
+      static const sf_response_priority_flags nothing;
+      *priority = sf_priority_merge(priority, &nothing);
       CALL(sf_cache_control(secret, text, length, policy, refusal));
       CHECK(status == right || (right == SF_OK && status == SF_EMPTY));
       CHECK(sf_lifetime(policy, 1, seconds) <= 1 && sf_lifetime(policy, 0, seconds) <= 1);
@@ -2509,6 +3083,39 @@ static void want_of_memory(void) {
                                                          9, buffer, sizeof buffer, &path, &refusal)),
                   path.nameless == 1, path.nameless == 4714 && is_untouched(&refusal));
 
+  about = "sf_cache_rules, no memory";
+  sf_rules rules;
+  memset(&rules, 9, sizeof rules);
+  WITHOUT_MEMORY(sf_cache_rules(&seed, SF_RFC8941, directives, sizeof directives - 1, &rules,
+                                &refusal),
+                 rules.policy.s_maxage == 90 && rules.is_public == 0 && is_untouched(&refusal));
+  WITHOUT_MEMORY(sf_select_rules(&seed, SF_RFC8941, targets, sizeof targets - 1, well_formed, 2,
+                                 &chosen, &rules),
+                 chosen == 1 && rules.policy.max_age == 30);
+  EACH_REFUSAL((chosen = 4711, rules.is_public = 9,
+                sf_select_rules(&seed, SF_RFC8941, targets, sizeof targets - 1, fields, 4, &chosen,
+                                &rules)),
+               chosen == 2 && rules.policy.s_maxage == 90, chosen == 4711 && rules.is_public == 9);
+  sf_response_priority_flags response = {9, 9, 9, 9};
+  WITHOUT_MEMORY(sf_response_priority(&seed, SF_RFC8941, directives, sizeof directives - 1, &response,
+                                      &refusal),
+                 response.urgency == 1 && response.incremental == 1 && is_untouched(&refusal));
+
+  about = "sf_cache_status_append, no memory";
+  static const char came[] = "origin; fwd=stale; key=\"a key of more than sixteen bytes\", b";
+  static const char appended[] = "origin;fwd=stale;key=\"a key of more than sixteen bytes\", b, "
+                                 "edge;hit;detail=\"of more than sixteen bytes\"";
+  static const char own_bytes[] = "edgeof more than sixteen bytes";
+  sf_hop own = {.name = {0, 4}, .detail = {4, 26}, .outcome = SF_HIT, .has_detail = 1,
+                .name_is_token = 1};
+  EACH_REFUSAL((memset(buffer, 0xa5, sizeof buffer), required = 4711,
+                sf_cache_status_append(&seed, SF_RFC8941, came, sizeof came - 1, &own, own_bytes,
+                                       sizeof own_bytes - 1, buffer, sizeof buffer, &required,
+                                       &refusal)),
+               required == sizeof appended - 1 && memcmp(buffer, appended, required) == 0 &&
+                   all_are(buffer + required, sizeof buffer - required),
+               required == 4711 && all_are(buffer, sizeof buffer) && is_untouched(&refusal));
+
   about = "sf_refusal_text, no memory";
   static const char message[] = "byte 0x32 '2' at place 2, expected a space or the end";
   static const char shown[] = "byte 0x32 '2' at place 2, expected a space or the end\n"
@@ -2565,23 +3172,33 @@ static void all(void) {
   macros();
   for (none_is_a_place = 0; none_is_a_place < 2; ++none_is_a_place) {
     worked_texts();
+    bad_dialects();
     bad_calls();
     comparing();
     refusals_in_words();
     nodes_of_values();
     many_keys();
+    very_many_keys();
     lean_refusals();
     finding();
     building();
     changing();
     broken_nodes();
+    odd_nodes();
     priorities();
     priority_texts();
     changed_priorities();
+    forgotten_flags();
+    response_priorities();
+    decisions();
+    other_decisions();
     policies();
     selecting();
+    selecting_rules();
     paths();
     written_hops();
+    appended_hops();
+    excerpts();
     structs();
     joining();
   }
@@ -2600,8 +3217,9 @@ static void past_the_end(size_t text_length, size_t buffer_length) {
     sf_refusal refusal;
     size_t required;
     void *text = take_buffer("a,b", 3), *buffer = take_buffer(NULL, 3);
-    sf_normalise(&seed, SF_RFC9651, SF_LIST, text, text_length, buffer, buffer_length, &required,
-                 &refusal);
+    uint32_t unseen = sf_normalise(&seed, SF_RFC9651, SF_LIST, text, text_length, buffer,
+                                   buffer_length, &required, &refusal);
+    (void)unseen;
     _exit(0);
   }
   int status = 0;
@@ -2630,6 +3248,42 @@ static void too_long(void) {
   munmap(text, length);
 }
 
+/* A text of 4 GiB less a byte, of spaces but for its end, whose decoded byte has the last offset. The
+ * spaces are the same pages of memory again and again. */
+static void nearly_too_long(void) {
+  const char *about = "4 GiB less a byte";
+  enum { STEP = 2 << 20 };
+  static const char end[] = ":YQ:";
+  uint32_t status;
+  size_t length = UINT32_MAX, whole = (size_t)UINT32_MAX + 1;
+  FILE *file = tmpfile();
+  char *spaces = malloc(STEP);
+  if (file == NULL || spaces == NULL)
+    stop("no file");
+  memset(spaces, ' ', STEP);
+  if (fwrite(spaces, 1, STEP, file) != STEP || fflush(file) != 0)
+    stop("no file");
+  free(spaces);
+  char *text = mmap(NULL, whole, PROT_NONE, MAP_PRIVATE | MAP_ANONYMOUS | MAP_NORESERVE, -1, 0);
+  if (text == MAP_FAILED)
+    stop("no addresses");
+  for (size_t at = 0; at < whole; at += STEP)
+    if (mmap(text + at, STEP, PROT_READ | PROT_WRITE, MAP_PRIVATE | MAP_FIXED, fileno(file), 0) ==
+        MAP_FAILED)
+      stop("no addresses");
+  memcpy(text + length - (sizeof end - 1), end, sizeof end - 1);
+  sf_node node;
+  char byte = 0;
+  sf_sizes sizes = {4711, 4712};
+  sf_refusal refusal = untouched;
+  CALL(sf_parse(&seed, SF_RFC9651, SF_ITEM, text, length, &node, 1, &byte, 1, &sizes, &refusal));
+  CHECK(status == SF_OK && sizes.nodes == 1 && sizes.bytes == 1 && byte == 'a');
+  CHECK(node.text_at == UINT32_MAX && node.text_length == 1 && node.type == SF_BYTE_SEQUENCE);
+  CHECK(sf_bytes(&node, text, length, &byte) == &byte && is_untouched(&refusal));
+  munmap(text, whole);
+  fclose(file);
+}
+
 static void *run(void *unused) {
   all();
   return unused;
@@ -2639,6 +3293,7 @@ int main(void) {
   past_the_end(4, 3);
   past_the_end(3, 4);
   too_long();
+  nearly_too_long();
   memory();
   all();
   enum { MOST = 64 };

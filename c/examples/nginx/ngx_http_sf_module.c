@@ -1,22 +1,26 @@
-/* An nginx module that reads the structured fields of a request and of the response to it, and adds this
- * cache to Cache-Status:
+/* An nginx module that reads the structured fields of a request and of the response to it, obeys targeted
+ * cache control, and adds this cache to Cache-Status. README.md has a configuration.
  *
  *   $sf_urgency      0 to 7, by the Priority fields of the request and of the response (RFC 9218
  *                    section 8); 3 if neither sets it
  *   $sf_incremental  1 if the response is of use as it arrives, otherwise 0
  *   $sf_target       the field of the target list that decides (RFC 9213 section 2.2); empty if none
- *                    does, so that Cache-Control decides
- *   $sf_lifetime     the response's freshness lifetime in seconds by that field, in a shared cache;
- *                    empty if it sets none
- *   $sf_storable     1 if that field lets a shared cache store the response, otherwise 0; empty if no
- *                    field of the list decides
+ *                    does, so that Cache-Control decides, and then the others are empty too
+ *   $sf_reuse        what a shared cache does by that field (RFC 9111): not-stored, fresh, stale,
+ *                    revalidate (it is never used without validation) or unspecified (no lifetime)
+ *   $sf_seconds      for how many seconds the response stays fresh; 0 if it is not fresh
+ *   $sf_cause        the directive that decided, such as no-store; empty if none did
  *
  *   sf_target_list NAME ..;    in http, server or location: the names of the target list, in order.
- *                              Without it there is none.
+ *                              Without it there is none. What nginx's cache would store is then stored
+ *                              only if the field that decides says that it is fresh, and for so many
+ *                              seconds; and a stale response is answered by status 504 if that field
+ *                              forbids its use without validation.
  *
- *   sf_cache_status NAME;      in http, server or location: adds a line to Cache-Status (RFC 9211) of a
- *                              response from an upstream server or from the cache of one, behind those
- *                              that came; NAME is this cache, as a String.
+ *   sf_cache_status NAME;      in http, server or location: adds this cache to Cache-Status (RFC 9211) of
+ *                              a response from an upstream server or from the cache of one; NAME is this
+ *                              cache, as a String. If the field that came is malformed, it is replaced:
+ *                              whoever reads it would ignore this cache's part with the rest.
  *
  * A field that is malformed counts as absent; the error log says where it is malformed, at level info.
  * The fields of the response are those that are sent on; before the response's head arrives they are
@@ -36,8 +40,8 @@ typedef struct {
 /* What the target list decides. */
 typedef struct {
   ngx_str_t name; /* empty if no field decides */
-  sf_policy policy;
-} sf_decision;
+  sf_decision decision;
+} sf_target;
 
 static sf_seed seed; /* of this worker */
 
@@ -94,25 +98,47 @@ static ngx_int_t passed(ngx_http_request_t *r, uint32_t status, const ngx_str_t 
 
 static ngx_int_t read_priority(ngx_http_request_t *r, sf_priority_flags *merged) {
   static const ngx_str_t name = ngx_string("Priority");
-  const ngx_list_t *headers[] = {&r->headers_in.headers, &r->headers_out.headers};
-  sf_priority_flags set[] = {SF_PRIORITY_UNSET, SF_PRIORITY_UNSET};
-  for (int i = 0; i < 2; ++i) {
-    ngx_str_t text;
-    if (join_lines(r, headers[i], &name, &text) != NGX_OK)
-      return NGX_ERROR;
-    sf_refusal refusal;
-    uint32_t status = sf_priority(&seed, text.data, text.len, &set[i], &refusal);
-    if (passed(r, status, &name, &text, &refusal) != NGX_OK)
-      return NGX_ERROR;
-  }
-  *merged = sf_priority_merge(&set[0], &set[1]);
+  sf_priority_flags asked = SF_PRIORITY_UNSET;
+  sf_response_priority_flags answered = {0, 0, 0, 0};
+  ngx_str_t text;
+  sf_refusal refusal;
+  if (join_lines(r, &r->headers_in.headers, &name, &text) != NGX_OK)
+    return NGX_ERROR;
+  uint32_t status = sf_priority_in(&seed, SF_RFC8941, text.data, text.len, &asked, &refusal);
+  if (passed(r, status, &name, &text, &refusal) != NGX_OK)
+    return NGX_ERROR;
+  if (join_lines(r, &r->headers_out.headers, &name, &text) != NGX_OK)
+    return NGX_ERROR;
+  status = sf_response_priority(&seed, SF_RFC8941, text.data, text.len, &answered, &refusal);
+  if (passed(r, status, &name, &text, &refusal) != NGX_OK)
+    return NGX_ERROR;
+  *merged = sf_priority_merge(&asked, &answered);
   return NGX_OK;
 }
 
-/* The first field of the target list that is well-formed and not empty. */
-static ngx_int_t read_targets(ngx_http_request_t *r, sf_decision *decision) {
+/* The age of a response in seconds: that of its Age field when it came (RFC 9111 section 5.1), and how
+ * long it is in the cache. */
+static uint64_t age_of(ngx_http_request_t *r) {
+  static const ngx_str_t name = ngx_string("Age");
+  const ngx_list_part_t *part = &r->headers_out.headers.part;
+  ngx_uint_t at = 0;
+  const ngx_table_elt_t *line = next_line(&name, &part, &at);
+  off_t age = line == NULL ? 0 : ngx_atoof(line->value.data, line->value.len);
+  if (age == NGX_ERROR)
+    age = 0;
+#if (NGX_HTTP_CACHE)
+  if (r->cached && r->cache != NULL && r->upstream->cache_status != NGX_HTTP_CACHE_REVALIDATED &&
+      ngx_time() > r->cache->date)
+    age += ngx_time() - r->cache->date;
+#endif
+  return (uint64_t)age;
+}
+
+/* What the first field of the target list that is well-formed and not empty decides, in a shared
+ * cache. */
+static ngx_int_t read_targets(ngx_http_request_t *r, sf_target *target) {
   const sf_settings *settings = ngx_http_get_module_loc_conf(r, ngx_http_sf_module);
-  ngx_memzero(decision, sizeof *decision);
+  ngx_memzero(target, sizeof *target);
   if (settings->names == NULL)
     return NGX_OK;
   const ngx_str_t *names = settings->names->elts;
@@ -121,10 +147,13 @@ static ngx_int_t read_targets(ngx_http_request_t *r, sf_decision *decision) {
     if (join_lines(r, &r->headers_out.headers, &names[i], &text) != NGX_OK)
       return NGX_ERROR;
     sf_refusal refusal;
-    uint32_t status = sf_cache_control(&seed, text.data, text.len, &decision->policy, &refusal);
+    sf_rules rules;
+    uint32_t status = sf_cache_rules(&seed, SF_RFC8941, text.data, text.len, &rules, &refusal);
     if (status == SF_OK) {
-      decision->name = names[i];
-      return NGX_OK;
+      sf_response response = {.age = age_of(r)};
+      target->name = names[i];
+      status = sf_decide(&rules, SF_SHARED_CACHE, &response, &target->decision);
+      return status == SF_OK ? NGX_OK : NGX_ERROR;
     }
     if (passed(r, status, &names[i], &text, &refusal) != NGX_OK)
       return NGX_ERROR;
@@ -166,34 +195,46 @@ static ngx_int_t get_incremental(ngx_http_request_t *r, ngx_http_variable_value_
 
 static ngx_int_t get_target(ngx_http_request_t *r, ngx_http_variable_value_t *value,
                             uintptr_t data) {
-  sf_decision decision;
+  sf_target target;
   (void)data;
-  if (read_targets(r, &decision) != NGX_OK)
+  if (read_targets(r, &target) != NGX_OK)
     return NGX_ERROR;
-  return set_text(value, decision.name.data, decision.name.len);
+  return set_text(value, target.name.data, target.name.len);
 }
 
-static ngx_int_t get_lifetime(ngx_http_request_t *r, ngx_http_variable_value_t *value,
-                              uintptr_t data) {
-  sf_decision decision;
-  uint64_t seconds;
+static ngx_int_t get_reuse(ngx_http_request_t *r, ngx_http_variable_value_t *value,
+                           uintptr_t data) {
+  static ngx_str_t words[] = {ngx_string("not-stored"), ngx_string("fresh"), ngx_string("stale"),
+                              ngx_string("revalidate"), ngx_string("unspecified")};
+  sf_target target;
   (void)data;
-  if (read_targets(r, &decision) != NGX_OK)
+  if (read_targets(r, &target) != NGX_OK)
     return NGX_ERROR;
-  if (decision.name.len == 0 || !sf_lifetime(&decision.policy, 1, &seconds))
+  if (target.name.len == 0)
     return set_text(value, NULL, 0);
-  return set_number(r, value, seconds);
+  const ngx_str_t *word = &words[target.decision.reuse - SF_REUSE_NOT_STORED];
+  return set_text(value, word->data, word->len);
 }
 
-static ngx_int_t get_storable(ngx_http_request_t *r, ngx_http_variable_value_t *value,
-                              uintptr_t data) {
-  sf_decision decision;
+static ngx_int_t get_seconds(ngx_http_request_t *r, ngx_http_variable_value_t *value,
+                             uintptr_t data) {
+  sf_target target;
   (void)data;
-  if (read_targets(r, &decision) != NGX_OK)
+  if (read_targets(r, &target) != NGX_OK)
     return NGX_ERROR;
-  if (decision.name.len == 0)
+  if (target.name.len == 0)
     return set_text(value, NULL, 0);
-  return set_number(r, value, !decision.policy.no_store && !decision.policy.is_private);
+  return set_number(r, value, target.decision.seconds);
+}
+
+static ngx_int_t get_cause(ngx_http_request_t *r, ngx_http_variable_value_t *value,
+                           uintptr_t data) {
+  sf_target target;
+  (void)data;
+  if (read_targets(r, &target) != NGX_OK)
+    return NGX_ERROR;
+  const char *name = sf_cause_name(target.decision.by); /* "" if there is no target */
+  return set_text(value, (u_char *)name, ngx_strlen(name));
 }
 
 /* What this cache did with the request, by nginx's own account. */
@@ -233,32 +274,103 @@ static sf_hop hop_of(ngx_http_request_t *r, const ngx_str_t *cache) {
 
 static ngx_http_output_header_filter_pt next_header_filter;
 
+/* The text of the field that came with this cache's hop at its end, or of the hop alone if what came is
+ * malformed. */
+static ngx_int_t append_hop(ngx_http_request_t *r, const sf_hop *hop, const ngx_str_t *cache,
+                            const ngx_str_t *came, ngx_str_t *text) {
+  static const ngx_str_t name = ngx_string("Cache-Status");
+  sf_refusal refusal;
+  ngx_str_t kept = *came;
+  for (;;) {
+    uint32_t status = sf_cache_status_append(&seed, SF_RFC8941, kept.data, kept.len, hop, cache->data,
+                                             cache->len, text->data, text->len, &text->len, &refusal);
+    if (status == SF_OK)
+      return NGX_OK;
+    if (passed(r, status, &name, &kept, &refusal) != NGX_OK)
+      return NGX_ERROR;
+    if (status == SF_REFUSED)
+      ngx_str_null(&kept);
+    else if (status != SF_SHORT || (text->data = ngx_pnalloc(r->pool, text->len)) == NULL)
+      return NGX_ERROR;
+  }
+}
+
+/* Puts this cache's hop into the field, which then has one line. */
 static ngx_int_t add_hop(ngx_http_request_t *r) {
+  static const ngx_str_t name = ngx_string("Cache-Status");
   const sf_settings *settings = ngx_http_get_module_loc_conf(r, ngx_http_sf_module);
-  if (settings->cache.data == NULL || r->upstream == NULL || r != r->main)
-    return next_header_filter(r);
+  if (settings->cache.data == NULL)
+    return NGX_OK;
   sf_hop hop = hop_of(r, &settings->cache);
-  size_t size = 0;
-  uint32_t status = sf_hop_text(&seed, &hop, settings->cache.data, settings->cache.len, NULL, 0, &size);
-  u_char *text = status == SF_SHORT ? ngx_pnalloc(r->pool, size) : NULL;
-  if (text == NULL || sf_hop_text(&seed, &hop, settings->cache.data, settings->cache.len, text, size,
-                                  &size) != SF_OK)
+  ngx_str_t came, text = ngx_null_string;
+  if (join_lines(r, &r->headers_out.headers, &name, &came) != NGX_OK ||
+      append_hop(r, &hop, &settings->cache, &came, &text) != NGX_OK)
     return NGX_ERROR;
-  ngx_table_elt_t *line = ngx_list_push(&r->headers_out.headers);
+  const ngx_list_part_t *part = &r->headers_out.headers.part;
+  ngx_uint_t at = 0;
+  ngx_table_elt_t *line;
+  while ((line = next_line(&name, &part, &at)) != NULL)
+    line->hash = 0; /* it is not sent */
+  line = ngx_list_push(&r->headers_out.headers);
   if (line == NULL)
     return NGX_ERROR;
   ngx_memzero(line, sizeof *line);
   line->hash = 1;
-  ngx_str_set(&line->key, "Cache-Status");
-  line->value.data = text;
-  line->value.len = size;
-  return next_header_filter(r);
+  line->key = name;
+  line->value = text;
+  return NGX_OK;
+}
+
+/* Lets nginx store what the target list lets it store, for as long; nginx reads these numbers after the
+ * head was sent. Gives NGX_DECLINED for a stale response from the cache that must not be used. */
+static ngx_int_t obey_target(ngx_http_request_t *r) {
+#if (NGX_HTTP_CACHE)
+  ngx_http_upstream_t *upstream = r->upstream;
+  sf_target target;
+  if (r->cache == NULL)
+    return NGX_OK;
+  if (read_targets(r, &target) != NGX_OK)
+    return NGX_ERROR;
+  if (target.name.len == 0)
+    return NGX_OK;
+  uint8_t reuse = target.decision.reuse;
+  switch (upstream->cache_status) {
+  case NGX_HTTP_CACHE_STALE:
+  case NGX_HTTP_CACHE_UPDATING:
+    return reuse == SF_REUSE_REVALIDATE || reuse == SF_REUSE_NOT_STORED ? NGX_DECLINED : NGX_OK;
+  case NGX_HTTP_CACHE_HIT:
+    return NGX_OK;
+  default: /* it came from the upstream server, or was validated there */
+    if (reuse == SF_REUSE_FRESH)
+      r->cache->valid_sec = ngx_time() + (time_t)target.decision.seconds;
+    else
+      upstream->cacheable = 0;
+    return NGX_OK;
+  }
+#else
+  (void)r;
+  return NGX_OK;
+#endif
+}
+
+static ngx_int_t filter_header(ngx_http_request_t *r) {
+  if (r->upstream == NULL || r != r->main)
+    return next_header_filter(r);
+  switch (obey_target(r)) {
+  case NGX_OK:
+    break;
+  case NGX_DECLINED:
+    return ngx_http_filter_finalize_request(r, &ngx_http_sf_module, NGX_HTTP_GATEWAY_TIME_OUT);
+  default:
+    return NGX_ERROR;
+  }
+  return add_hop(r) == NGX_OK ? next_header_filter(r) : NGX_ERROR;
 }
 
 static ngx_int_t add_filter(ngx_conf_t *conf) {
   (void)conf;
   next_header_filter = ngx_http_top_header_filter;
-  ngx_http_top_header_filter = add_hop;
+  ngx_http_top_header_filter = filter_header;
   return NGX_OK;
 }
 
@@ -269,8 +381,9 @@ static ngx_int_t add_variables(ngx_conf_t *conf) {
   } variables[] = {{ngx_string("sf_urgency"), get_urgency},
                    {ngx_string("sf_incremental"), get_incremental},
                    {ngx_string("sf_target"), get_target},
-                   {ngx_string("sf_lifetime"), get_lifetime},
-                   {ngx_string("sf_storable"), get_storable}};
+                   {ngx_string("sf_reuse"), get_reuse},
+                   {ngx_string("sf_seconds"), get_seconds},
+                   {ngx_string("sf_cause"), get_cause}};
   for (size_t i = 0; i < sizeof variables / sizeof *variables; ++i) {
     ngx_str_t name = variables[i].name;
     ngx_http_variable_t *variable = ngx_http_add_variable(conf, &name, NGX_HTTP_VAR_NOCACHEABLE);

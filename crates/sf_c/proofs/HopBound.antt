@@ -17,7 +17,7 @@ use Rattle.sf_value.specs.declared.value.Member.TheVariants as member
 use Rattle.sf_value.specs.declared.value.Field.{Field}
 use Rattle.sf_value.specs.declared.value.Field.TheVariants as field
 use Rattle.sf_value.specs.Grammar.Pairs.{Pairs, value_at}
-use Rattle.sf_value.specs.declared.dialect.Dialect.TheVariants.{Rfc9651}
+use Rattle.sf_value.specs.declared.dialect.Dialect.{Dialect}
 use Rattle.sf_value.specs.declared.value.Kind.TheVariants.{List}
 use Rattle.sf_value.specs.Grammar.Fields.{SpellsField}
 use Rattle.sf_value.specs.Lookups.{as_text, as_token}
@@ -207,11 +207,11 @@ size_few n m ts js hs e f g h =
     omega (arith, ap hops_size f, ap (λ z. hops_size (map hop_content z)) g)
 
 -- and of the two together, of the path of a text
-pub content_few : (n size : ℕ) (t : Seq ℕ) (v : Field) (ts : Seq HopContent) (js hs : Seq Hop)
-    → n ≡ length ts → size ≡ hops_size ts → ts ≡ map hop_content js → js ≡ hs
-    → HopsAreFew → HopBytesAreFew → SpellsField Rfc9651 List t v → hops v ≡ Ok hs
+pub content_few : (k : Dialect) (n size : ℕ) (t : Seq ℕ) (v : Field) (ts : Seq HopContent)
+    (js hs : Seq Hop) → n ≡ length ts → size ≡ hops_size ts → ts ≡ map hop_content js → js ≡ hs
+    → HopsAreFew → HopBytesAreFew → SpellsField k List t v → hops v ≡ Ok hs
     → (10 * n ≤ 8 * length t + 5) × (5 * size ≤ 8 * length t)
-content_few n size t v ts js hs e s f g few small spelled means = (
-  count_few n (8 * length t + 5) ts js hs e f g (few Rfc9651 List t v hs spelled means),
-  size_few size (8 * length t) ts js hs s f g (small Rfc9651 List t v hs spelled means),
+content_few k n size t v ts js hs e s f g few small spelled means = (
+  count_few n (8 * length t + 5) ts js hs e f g (few k List t v hs spelled means),
+  size_few size (8 * length t) ts js hs s f g (small k List t v hs spelled means),
 )

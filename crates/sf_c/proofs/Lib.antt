@@ -15,3 +15,5 @@ pub mod Selecting
 pub mod WrittenPriorities
 pub mod Canonicals
 pub mod NodeTexts
+pub mod SetValues
+pub mod OwnHops

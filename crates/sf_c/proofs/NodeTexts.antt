@@ -20,7 +20,7 @@ use Rattle.sf_c.specs.declared.status.Status.{Status}
 use Rattle.sf_c.specs.declared.status.Status.TheVariants.{Answered, Short}
 use Rattle.sf_c.specs.Normal.{TextOutput}
 use Rattle.sf_c.specs.Priorities.{params_of_flags}
-use Rattle.sf_c.specs.PriorityChanges.{ChangesPriority}
+use Rattle.sf_c.specs.PriorityChanges.{ChangesBy}
 use Rattle.sf_c.specs.PriorityChanges as change
 use Rattle.sf_c.specs.TextBuffers.{PutsText}
 use Rattle.sf_c.specs.Writing.{WritesNodes, NodesOutput, text_buffer}
@@ -44,7 +44,7 @@ pub changes_priority : (old new : TextOutput) (t : List ℕ) (p : PriorityFlags)
     → Valid Rfc9651 kind.Dict (field.Dict (updated (params_of_flags p) m))
     → PutsText (change.text_buffer old) (change.text_buffer new)
     (canon (field.Dict (updated (params_of_flags p) m))) (Some s)
-    → new.refusal ≡ old.refusal → ChangesPriority old new t p (Some s)
+    → new.refusal ≡ old.refusal → ChangesBy old new t p (Some s)
 changes_priority old new t p m Answered h v w e =
     (m, h, canon_only Rfc9651 kind.Dict (field.Dict (updated (params_of_flags p) m)) v, w, e)
 changes_priority old new t p m Short h v w e = (m, h, w, e)

@@ -10,7 +10,6 @@ use Rattle.std.proofs.lemmas.List.{append-nil, length-map, length-set, length-ta
 use Rattle.std.proofs.lemmas.List.{take_more_set}
 use Rattle.std.proofs.Math.Seq.{take-append-add}
 use Rattle.sf_value.specs.declared.dialect.Dialect.{Dialect}
-use Rattle.sf_value.specs.declared.dialect.Dialect.TheVariants.{Rfc9651}
 use Rattle.sf_value.specs.declared.value.Kind.TheVariants.{List}
 use Rattle.sf_value.specs.declared.value.Member.{Member}
 use Rattle.sf_value.specs.Grammar.Fields.{list_of, SpellsField}
@@ -62,8 +61,8 @@ put_behind old new free t used count p fits e small is at long =
 
 -- so many hops were read, with so many bytes and this last hit; whatever members remain, the text
 -- spells those that were read and them
-pub record PathSoFar (text : Seq ℕ) (c : HopCursor) (nodes : Seq HopNode) (bytes : Seq ℕ)
-    (count used : ℕ) (last : Option ℕ) : Type 0 where
+pub record PathSoFar (k : Dialect) (text : Seq ℕ) (c : HopCursor) (nodes : Seq HopNode)
+    (bytes : Seq ℕ) (count used : ℕ) (last : Option ℕ) : Type 0 where
   pub members : Seq Member
   pub path : Seq Hop
   pub means : map member_hop members ≡ map Some path
@@ -73,12 +72,12 @@ pub record PathSoFar (text : Seq ℕ) (c : HopCursor) (nodes : Seq HopNode) (byt
   pub held : HopsHoldUp (take used bytes) (take count nodes)
   pub place : last ≡ served path
   pub reads : (ms : Seq Member) → RemainsInPath c ms
-      → SpellsWhole (SpellsMember Rfc9651) text (members ++ ms)
+      → SpellsWhole (SpellsMember k) text (members ++ ms)
 
-pub none_read : (text : Seq ℕ) (c : HopCursor) (nodes : Seq HopNode) (bytes : Seq ℕ)
-    → ((ms : Seq Member) → RemainsInPath c ms → SpellsWhole (SpellsMember Rfc9651) text ms)
-    → PathSoFar text c nodes bytes 0 0 None
-none_read text c nodes bytes h = record {
+pub none_read : (k : Dialect) (text : Seq ℕ) (c : HopCursor) (nodes : Seq HopNode) (bytes : Seq ℕ)
+    → ((ms : Seq Member) → RemainsInPath c ms → SpellsWhole (SpellsMember k) text ms)
+    → PathSoFar k text c nodes bytes 0 0 None
+none_read k text c nodes bytes h = record {
   members = [];
   path = [];
   means = refl;
@@ -129,13 +128,13 @@ put_hop old new used n h p =
     record { name = p.name; why = p.why; key = p.key; detail = p.detail }
 
 -- one more hop
-pub hop_read : (text : Seq ℕ) (c e : HopCursor) (v : HopView) (nodes : Seq HopNode)
+pub hop_read : (k : Dialect) (text : Seq ℕ) (c e : HopCursor) (v : HopView) (nodes : Seq HopNode)
     (old new : Seq ℕ) (count used : ℕ) (n : HopNode) (last next : Option ℕ)
-    → PathSoFar text c nodes old count used last → ReadsNextHop c e (Some v) → count < length nodes
+    → PathSoFar k text c nodes old count used last → ReadsNextHop c e (Some v) → count < length nodes
     → ((h : Hop) → ShowsHop v h → IsHopPut old new used n h) → end_of n.detail ≤ length new
     → (n.outcome ≡ 1 → next ≡ Some count) → (n.outcome ≢ 1 → next ≡ last)
-    → PathSoFar text e (set nodes count n) new (count + 1) (end_of n.detail) next
-hop_read text c e v nodes old new count used n last next s (m, h, means, shown, remains) small put
+    → PathSoFar k text e (set nodes count n) new (count + 1) (end_of n.detail) next
+hop_read k text c e v nodes old new count used n last next s (m, h, means, shown, remains) small put
     within hit other =
     let p = put h shown in
     let texts : TextsOf h (bytes_of h.name) (why_token (passed_by h.outcome)) (unwrap_or h.key [])
@@ -167,7 +166,7 @@ hop_read text c e v nodes old new count used n last next s (m, h, means, shown, 
           served_more s.path h n.outcome count last next (ap (λ y. y.outcome) p.says) many s.place
           hit other;
       reads = λ ms r.
-          subst (SpellsWhole (SpellsMember Rfc9651) text) (sym (append_assoc s.members (m ∷ []) ms))
+          subst (SpellsWhole (SpellsMember k) text) (sym (append_assoc s.members (m ∷ []) ms))
           (s.reads (m ∷ ms) (remains ms r));
     }
 
@@ -195,13 +194,13 @@ each_meant (m ∷ ms) (h ∷ hs) e =
 each_meant ms hs e = absurd cc
 
 -- the path of a text that was read to its end
-pub path_read : (text : Seq ℕ) (c e : HopCursor) (o : Option HopView) (nodes : Seq HopNode)
-    (bytes : Seq ℕ) (s : PathSizes) → PathSoFar text c nodes bytes s.hops s.bytes s.served
-    → ReadsNextHop c e o → o ≡ None → IsPathOf text nodes bytes s
-path_read text c e o nodes bytes z s r none =
+pub path_read : (k : Dialect) (text : Seq ℕ) (c e : HopCursor) (o : Option HopView) (nodes : Seq HopNode)
+    (bytes : Seq ℕ) (s : PathSizes) → PathSoFar k text c nodes bytes s.hops s.bytes s.served
+    → ReadsNextHop c e o → o ≡ None → IsPathOf k text nodes bytes s
+path_read k text c e o nodes bytes z s r none =
     let left : RemainsInPath c [] = subst (ReadsNextHop c e) none r in
-    let spelled : SpellsField Rfc9651 List text (list_of s.members) =
-    subst (SpellsWhole (SpellsMember Rfc9651) text) (append-nil s.members) (s.reads [] left) in
+    let spelled : SpellsField k List text (list_of s.members) =
+    subst (SpellsWhole (SpellsMember k) text) (append-nil s.members) (s.reads [] left) in
     let used : length (take z.bytes bytes) ≡ z.bytes = length-take-le z.bytes bytes s.within in
     let many : length (take z.hops nodes) ≡ z.hops = length-take-le z.hops nodes s.fits in
     record {
@@ -209,7 +208,7 @@ path_read text c e o nodes bytes z s r none =
       path = s.path;
       only = record {
         spelled = spelled;
-        only = λ w i. one_value Rfc9651 List text w (list_of s.members) i spelled;
+        only = λ w i. one_value k List text w (list_of s.members) i spelled;
       };
       means =
           ap (λ o. unless o (filter_map member_hop s.members)) (all_named s.members s.path s.means)
@@ -284,12 +283,12 @@ path_by nameless s = record {
   is_served = flag_number (is_some s.served);
 }
 
-pub read_few : (t : Seq ℕ) (nodes : Seq HopNode) (bytes : Seq ℕ) (s : PathSizes) (p : Path)
-    (nameless : ℕ) → HopsAreFew → HopBytesAreFew → IsPathOf t nodes bytes s
+pub read_few : (k : Dialect) (t : Seq ℕ) (nodes : Seq HopNode) (bytes : Seq ℕ) (s : PathSizes) (p : Path)
+    (nameless : ℕ) → HopsAreFew → HopBytesAreFew → IsPathOf k t nodes bytes s
     → p ≡ path_by nameless s → IsShort t p
-read_few t nodes bytes s p nameless few small r e =
+read_few k t nodes bytes s p nameless few small r e =
     let count = ap (λ y. y.hops) e ∙ r.count in
     let size = ap (λ y. y.bytes) e ∙ r.size in
-    let a = few Rfc9651 List t r.value r.path r.only.spelled r.means in
-    let b = small Rfc9651 List t r.value r.path r.only.spelled r.means in
+    let a = few k List t r.value r.path r.only.spelled r.means in
+    let b = small k List t r.value r.path r.only.spelled r.means in
     (omega arith, omega arith)

@@ -26,3 +26,10 @@ ChecksCall (Some d) (Some k) (Some s) P old new = P old new d k s
 ChecksCall (Some d) (Some k) None P old new = ⊥
 ChecksCall (Some d) None s P old new = (s ≡ Some BadCall) × (new ≡ old)
 ChecksCall None k s P old new = (s ≡ Some BadCall) × (new ≡ old)
+
+-- the same for a call that takes a dialect and no kind
+abbrev pub ChecksDialect : {Output : Type 0} → Option Dialect → Option Status
+    → (Output → Output → Dialect → Status → Type 0) → Output → Output → Type 0
+ChecksDialect (Some d) (Some s) P old new = P old new d s
+ChecksDialect (Some d) None P old new = ⊥
+ChecksDialect None s P old new = (s ≡ Some BadCall) × (new ≡ old)

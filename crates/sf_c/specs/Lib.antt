@@ -9,8 +9,11 @@ pub mod Normal
 pub mod TextBuffers
 pub mod RefusalTexts
 pub mod Priorities
+pub mod ResponsePriorities
 pub mod PriorityChanges
 pub mod Policies
+pub mod Rules
+pub mod Decisions
 pub mod Joining
 pub mod Spans
 pub mod Finding
@@ -21,5 +24,6 @@ pub mod ScannedHops
 pub mod Paths
 pub mod Selecting
 pub mod GivenHops
+pub mod Appending
 pub mod Writing
 pub mod Laws

@@ -2,7 +2,7 @@
 use Rattle.std.specs.Prelude.{◌≡◌, ℕ, ◌+◌, ◌*◌, ◌<◌, ◌≤◌, ◌⊎◌, List as Seq, length, map}
 use Rattle.std.specs.Prelude.{is_some, unwrap_or}
 use Rattle.std.specs.Prelude.{IsOk, Option, Some, Result, Ok, Err, ⊤}
-use Rattle.sf_value.specs.declared.dialect.Dialect.TheVariants.{Rfc9651}
+use Rattle.sf_value.specs.declared.dialect.Dialect.{Dialect}
 use Rattle.sf_value.specs.declared.value.Field.{Field}
 use Rattle.sf_value.specs.declared.value.Kind.TheVariants.{List}
 use Rattle.sf_parse.specs.Parsers.{IsOnly}
@@ -42,40 +42,40 @@ KeepsLengths old new =
 abbrev pub IsTooSmall : PathOutput → Path → Type 0
 IsTooSmall r p = (length r.hops < p.hops) ⊎ (length r.bytes < p.bytes)
 
--- the text spells a List, and the starts of the buffers describe its hops; or a buffer is too
+-- in the dialect d the text spells a List, and the starts of the buffers describe its hops; or a buffer is too
 -- small; or a member names no cache, the first such at this place; or the struct has the refusal;
 -- or an allocation failed. The buffers' other contents are unspecified; all else is unchanged
-abbrev pub ReportsPath : PathOutput → PathOutput → Seq ℕ → Option Status → Type 0
-ReportsPath old new t (Some Answered) =
+abbrev pub ReportsPath : PathOutput → PathOutput → Seq ℕ → Dialect → Status → Type 0
+ReportsPath old new t d Answered =
     (v : Field) × (hs : Seq Hop)
-    × IsOnly Rfc9651 List t v
+    × IsOnly d List t v
     × (hops v ≡ Ok hs)
     × SaysPath new.path hs
     × (new.path.nameless ≡ old.path.nameless)
     × HopsAtStart (map hop_content hs) new.hops new.bytes
     × KeepsLengths old new
     × (new.refusal ≡ old.refusal)
-ReportsPath old new t (Some Short) =
+ReportsPath old new t d Short =
     (v : Field) × (hs : Seq Hop)
-    × IsOnly Rfc9651 List t v
+    × IsOnly d List t v
     × (hops v ≡ Ok hs)
     × SaysPath new.path hs
     × (new.path.nameless ≡ old.path.nameless)
     × IsTooSmall old new.path
     × KeepsLengths old new
     × (new.refusal ≡ old.refusal)
-ReportsPath old new t (Some NotACache) =
+ReportsPath old new t d NotACache =
     (v : Field)
-    × IsOnly Rfc9651 List t v
+    × IsOnly d List t v
     × (hops v ≡ Err new.path.nameless)
     × (new.path ≡ record old.path { nameless = new.path.nameless })
     × KeepsLengths old new
     × (new.refusal ≡ old.refusal)
-ReportsPath old new t (Some Refused) =
-    SaysRefusal Rfc9651 List t new.refusal × KeepsLengths old new × (new.path ≡ old.path)
-ReportsPath old new t (Some OutOfMemory) =
+ReportsPath old new t d Refused =
+    SaysRefusal d List t new.refusal × KeepsLengths old new × (new.path ≡ old.path)
+ReportsPath old new t d OutOfMemory =
     KeepsLengths old new × (new.path ≡ old.path) × (new.refusal ≡ old.refusal)
-ReportsPath old new t status = ⊥
+ReportsPath old new t d status = ⊥
 
 -- the caches that a List names; or the place of its first member that names none, whatever memory
 -- there is: an allocation fails only if each member names a cache

@@ -1,22 +1,26 @@
 -- A priority as a struct.
-use Rattle.std.specs.Prelude.{◌≡◌, ℕ, pos, ◌==◌, nat_le, not, if◌then◌else◌, List, [], ◌∷◌, ◌++◌}
+use Rattle.std.specs.Prelude.{◌≡◌, ℕ, pos, ◌==◌, ◌&&◌, ◌||◌, nat_le, nat_lt, not, true, false}
+use Rattle.std.specs.Prelude.{if◌then◌else◌, List, [], ◌∷◌, ◌++◌}
 use Rattle.std.specs.Prelude.{is_some, codes, Bool, Option, Some, None}
-use Rattle.sf_value.specs.declared.dialect.Dialect.TheVariants.{Rfc9651}
+use Rattle.sf_value.specs.declared.dialect.Dialect.{Dialect}
 use Rattle.sf_value.specs.declared.value.Bare.TheVariants.{Boolean, Integer}
 use Rattle.sf_value.specs.declared.value.Dict.{Dict as Dictionary}
 use Rattle.sf_value.specs.declared.value.Field.{Field}
+use Rattle.sf_value.specs.declared.value.Field.TheVariants as field
 use Rattle.sf_value.specs.declared.value.Kind.TheVariants.{Dict}
 use Rattle.sf_value.specs.declared.value.Member.{Member}
+use Rattle.sf_value.specs.Grammar.Canonical.{canon}
 use Rattle.sf_value.specs.Grammar.Pairs.{Pairs}
 use Rattle.sf_parse.specs.Parsers.{IsOnly}
 use Rattle.sf_use.specs.declared.priority.Asked.{Asked}
 use Rattle.sf_use.specs.Priority.{params_of_field, priority_with_defaults, bare_member}
-use Rattle.sf_use.specs.Ranges.{least_urgent}
+use Rattle.sf_use.specs.Ranges.{least_urgent, usual_urgency}
 use Rattle.sf_c.specs.declared.priority.PriorityFlags.{PriorityFlags}
 use Rattle.sf_c.specs.declared.refusal.SyntaxRefusal.{SyntaxRefusal}
 use Rattle.sf_c.specs.declared.status.Status.{Status}
-use Rattle.sf_c.specs.declared.status.Status.TheVariants.{Answered, Refused, OutOfMemory}
+use Rattle.sf_c.specs.declared.status.Status.TheVariants.{Answered, Refused, OutOfMemory, Invalid}
 use Rattle.sf_c.specs.Refusals.{SaysRefusal, flag_number}
+use Rattle.sf_c.specs.TextBuffers.{PutsText, TextBuffer}
 
 -- the struct has these parameters, and the defaults for absent ones (RFC 9218 sections 4.1 and 4.2)
 abbrev pub SaysAsked : PriorityFlags → Asked → Type 0
@@ -46,18 +50,18 @@ pub record PriorityOutput : Type 0 where
   pub priority : PriorityFlags
   pub refusal : SyntaxRefusal
 
--- the text spells a Dictionary, and the struct has its parameters; or the other struct has the
--- refusal. Everything else is unchanged
-abbrev pub AsksFor : PriorityOutput → PriorityOutput → List ℕ → Option Status → Type 0
-AsksFor old new t (Some Answered) =
+-- in the dialect d the text spells a Dictionary, and the struct has its parameters; or the other
+-- struct has the refusal. Everything else is unchanged
+abbrev pub AsksFor : PriorityOutput → PriorityOutput → List ℕ → Dialect → Status → Type 0
+AsksFor old new t d Answered =
     (v : Field)
-    × IsOnly Rfc9651 Dict t v
+    × IsOnly d Dict t v
     × SaysAsked new.priority (params_of_field v)
     × (new.refusal ≡ old.refusal)
-AsksFor old new t (Some Refused) =
-    SaysRefusal Rfc9651 Dict t new.refusal × (new.priority ≡ old.priority)
-AsksFor old new t (Some OutOfMemory) = new ≡ old
-AsksFor old new t status = ⊥
+AsksFor old new t d Refused =
+    SaysRefusal d Dict t new.refusal × (new.priority ≡ old.priority)
+AsksFor old new t d OutOfMemory = new ≡ old
+AsksFor old new t d status = ⊥
 
 -- the member u with this urgency (RFC 9218 section 4.1), if there is one
 abbrev pub urgency_member : Option ℕ → Pairs Member
@@ -72,3 +76,19 @@ incremental_member (Some b) = (codes "i", bare_member (Boolean b)) ∷ []
 -- the Dictionary that sets these parameters and nothing else, also to the defaults
 abbrev pub dict_of_params : Asked → Dictionary
 dict_of_params a = record { members = urgency_member a.urgency ++ incremental_member a.incremental }
+
+-- a value that is not set, but for the default that reading a field writes, or an urgency that is
+-- none: it would not be in the text
+abbrev pub has_unset_value : PriorityFlags → Bool
+has_unset_value p =
+    nat_lt least_urgent p.urgency
+    || ((p.has_urgency == 0) && (not (p.urgency == 0) && not (p.urgency == usual_urgency)))
+    || ((p.has_incremental == 0) && not (p.incremental == 0))
+
+-- the text of the Dictionary that sets what the struct sets is put into a buffer that is long
+-- enough; Invalid if and only if a value of the struct would not be in it
+abbrev pub WritesPriority : TextBuffer → TextBuffer → PriorityFlags → Option Status → Type 0
+WritesPriority old new p (Some Invalid) = (has_unset_value p ≡ true) × (new ≡ old)
+WritesPriority old new p status =
+    (has_unset_value p ≡ false)
+    × PutsText old new (canon (field.Dict (dict_of_params (params_of_flags p)))) status

@@ -2,7 +2,7 @@
 use Rattle.std.specs.Prelude.{◌≡◌, ℕ, pos, ◌+◌, ◌*◌, Bool, true, false, List as Seq, [], length}
 use Rattle.std.specs.Prelude.{map, take, is_some, unwrap_or, Ok}
 use Rattle.std.specs.Option.{option_and, option_copied, option_map}
-use Rattle.sf_value.specs.declared.dialect.Dialect.TheVariants.{Rfc9651}
+use Rattle.sf_value.specs.declared.dialect.Dialect.{Dialect}
 use Rattle.sf_value.specs.declared.value.Field.{Field}
 use Rattle.sf_value.specs.declared.value.Kind.TheVariants.{List}
 use Rattle.sf_parse.specs.Parsers.{IsOnly}
@@ -65,11 +65,13 @@ pub record IsHopPut (old new : Seq ℕ) (used : ℕ) (n : HopNode) (h : Hop) : T
   pub detail : PutsSpan with_key (take (end_of n.detail) new) (detail_bytes h.detail) n.detail
   pub says : says_by n ≡ says_of h
 
--- the text spells a List, and no other value, and the starts of the buffers describe its hops
-pub record IsPathOf (t : Seq ℕ) (nodes : Seq HopNode) (bytes : Seq ℕ) (s : PathSizes) : Type 0 where
+-- in the dialect the text spells a List, and no other value, and the starts of the buffers describe
+-- its hops
+pub record IsPathOf (k : Dialect) (t : Seq ℕ) (nodes : Seq HopNode) (bytes : Seq ℕ)
+    (s : PathSizes) : Type 0 where
   pub value : Field
   pub path : Seq Hop
-  pub only : IsOnly Rfc9651 List t value
+  pub only : IsOnly k List t value
   pub means : hops value ≡ Ok path
   pub count : s.hops ≡ length path
   pub size : s.bytes ≡ hops_size (map hop_content path)

@@ -1,12 +1,14 @@
 //! Cache-Status (RFC 9211).
 ghost use Rattle.std.specs.Prelude.{◌≡◌, is_some, unwrap_or, Some};
+ghost use Rattle.sf_value.specs.declared.dialect.Dialect.TheVariants.{Rfc9651};
 ghost use Rattle.sf_value.specs.declared.value.Kind.TheVariants as kind_is;
 ghost use Rattle.sf_value.specs.Grammar.Fields.{kind_of};
+ghost use Rattle.sf_c.specs.Calls.{ChecksDialect, dialect_at};
 ghost use Rattle.sf_c.specs.Paths.{NamesCaches, SaysFew, ReportsPath};
 ghost use Rattle.sf_c.specs.Refusals.{flag_number};
 ghost use Rattle.sf_c.specs.Statuses.{status_at};
 
-use crate::call::{Scan, parse};
+use crate::call::{Scan, dialect_of, parse};
 use crate::hop_scan::scan_hops;
 use crate::hops::{HopNode, flatten_hops};
 use crate::laws::hops_are_few;
@@ -69,21 +71,61 @@ pub extern "C" fn sf_cache_status(
     refusal: &mut SyntaxRefusal,
 ) -> u32
     // The buffers describe the hops of the List, or the status says why not.
-    ensures reports { ReportsPath
+    ensures reports { ChecksDialect (Some Rfc9651) (status_at result)
+        (λ old new. ReportsPath old new text.now)
         (record { hops = hops.old; bytes = bytes.old; path = path.old; refusal = refusal.old })
-        (record { hops = hops.new; bytes = bytes.new; path = path.new; refusal = refusal.new })
-        text.now (status_at result) }
+        (record { hops = hops.new; bytes = bytes.new; path = path.new; refusal = refusal.new }) }
     // If they are reported, the hops are at most four fifths of the text's length, rounded to the
     // nearest number, and the bytes at most eight fifths.
     ensures few { SaysFew text.now path.new (status_at result) }
 {
-    path_of(alloc, seed, text, hops, bytes, path, refusal).code()
+    path_of(
+        alloc,
+        seed,
+        Dialect::Rfc9651,
+        text,
+        hops,
+        bytes,
+        path,
+        refusal,
+    )
+    .code()
+}
+
+/// The path of a response by the text of its Cache-Status field in a dialect, as by
+/// [`sf_cache_status`]; or `BadCall` for a number that is no dialect.
+#[unsafe(no_mangle)]
+pub extern "C" fn sf_cache_status_in(
+    alloc: Global,
+    seed: &Seed,
+    dialect: u32,
+    text: &[u8],
+    hops: &mut [HopNode],
+    bytes: &mut [u8],
+    path: &mut Path,
+    refusal: &mut SyntaxRefusal,
+) -> u32
+    // BadCall if and only if the number is no dialect; otherwise the buffers describe the hops of
+    // the List, or the status says why not.
+    ensures reports { ChecksDialect (dialect_at dialect) (status_at result)
+        (λ old new. ReportsPath old new text.now)
+        (record { hops = hops.old; bytes = bytes.old; path = path.old; refusal = refusal.old })
+        (record { hops = hops.new; bytes = bytes.new; path = path.new; refusal = refusal.new }) }
+    // If they are reported, the hops are at most four fifths of the text's length, rounded to the
+    // nearest number, and the bytes at most eight fifths.
+    ensures few { SaysFew text.now path.new (status_at result) }
+{
+    let Some(dialect) = dialect_of(dialect) else {
+        return Status::BadCall.code();
+    };
+    path_of(alloc, seed, dialect, text, hops, bytes, path, refusal).code()
 }
 
 /// The result of [`sf_cache_status`].
 fn path_of(
     alloc: Global,
     seed: &Seed,
+    dialect: Dialect,
     text: &[u8],
     hops: &mut [HopNode],
     bytes: &mut [u8],
@@ -94,17 +136,17 @@ fn path_of(
     ensures reports { ReportsPath
         (record { hops = hops.old; bytes = bytes.old; path = path.old; refusal = refusal.old })
         (record { hops = hops.new; bytes = bytes.new; path = path.new; refusal = refusal.new })
-        text.now (Some result) }
+        text.now dialect result }
     // If they are reported, the hops are at most four fifths of the text's length, rounded to the
     // nearest number, and the bytes at most eight fifths.
     ensures few { SaysFew text.now path.new (Some result) }
 {
-    if let Some(found) = scan_hops(text, hops, bytes) {
+    if let Some(found) = scan_hops(dialect, text, hops, bytes) {
         hops_are_few();
         path.set(found.hops, found.bytes, found.served);
         return Status::Answered;
     }
-    path_by_tree(alloc, seed, text, hops, bytes, path, refusal)
+    path_by_tree(alloc, seed, dialect, text, hops, bytes, path, refusal)
 }
 
 /// The result of [`sf_cache_status`], by the tree of the value. It is not inlined, so that an
@@ -113,6 +155,7 @@ fn path_of(
 fn path_by_tree(
     alloc: Global,
     seed: &Seed,
+    dialect: Dialect,
     text: &[u8],
     hops: &mut [HopNode],
     bytes: &mut [u8],
@@ -122,14 +165,14 @@ fn path_by_tree(
     ensures reports { ReportsPath
         (record { hops = hops.old; bytes = bytes.old; path = path.old; refusal = refusal.old })
         (record { hops = hops.new; bytes = bytes.new; path = path.new; refusal = refusal.new })
-        text.now (Some result) }
+        text.now dialect result }
     ensures few { SaysFew text.now path.new (Some result) }
 {
     let field = match parse(
         alloc,
         seed,
         Scan::Declined,
-        Dialect::Rfc9651,
+        dialect,
         Kind::List,
         text,
         refusal,

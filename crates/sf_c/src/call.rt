@@ -1,7 +1,6 @@
 //! The numbers that C passes for a dialect and a kind, and parsing for every call.
 ghost use Rattle.std.specs.Prelude.{◌≡◌};
 ghost use Rattle.std.specs.Result.{result_map_both};
-ghost use Rattle.sf_value.specs.declared.dialect.Dialect.TheVariants.{Rfc9651};
 ghost use Rattle.sf_value.specs.declared.value.Field.TheVariants as field_is;
 ghost use Rattle.sf_value.specs.declared.value.Kind.TheVariants as kind_is;
 ghost use Rattle.sf_parse.specs.Parsers.{Parses};
@@ -90,23 +89,16 @@ pub(crate) fn parse_dict(
     alloc: Global,
     seed: &Seed,
     scan: Scan,
+    dialect: Dialect,
     text: &[u8],
     refusal: &mut SyntaxRefusal,
 ) -> Result<Dict, Status>
     // The text spells this Dictionary and no other value, or the struct has its refusal, or an
     // allocation failed.
-    ensures { ParsesOrSays refusal.old refusal.new text.now Rfc9651 kind_is.Dict
+    ensures { ParsesOrSays refusal.old refusal.new text.now dialect kind_is.Dict
         (result_map_both field_is.Dict (λ status. status) result) }
 {
-    match parse(
-        alloc,
-        seed,
-        scan,
-        Dialect::Rfc9651,
-        Kind::Dict,
-        text,
-        refusal,
-    )? {
+    match parse(alloc, seed, scan, dialect, Kind::Dict, text, refusal)? {
         Field::Dict(dict) => Ok(dict),
         _ => unreachable!(),
     }

@@ -17,6 +17,7 @@ use crate::buffer::put;
 use crate::hops::HopNode;
 use crate::span::Span;
 use sf_use::{HopCursor, HopStatus, HopView, NameView};
+use sf_value::Dialect;
 use sf_view::Slice;
 
 /// How many hops and bytes were read, and which hop the response came from.
@@ -37,13 +38,18 @@ const NO_BYTES: Slice = Slice {
 };
 
 /// Reads the hops of a text into the buffers; `None` says nothing.
-pub(crate) fn scan_hops(text: &[u8], hops: &mut [HopNode], bytes: &mut [u8]) -> Option<PathSizes>
+pub(crate) fn scan_hops(
+    dialect: Dialect,
+    text: &[u8],
+    hops: &mut [HopNode],
+    bytes: &mut [u8],
+) -> Option<PathSizes>
     ensures same_hops { length hops.new ≡ length hops.old }
     ensures same_bytes { length bytes.new ≡ length bytes.old }
-    // The text spells a List, and the starts of the buffers describe its hops.
-    ensures read { IfSome result (IsPathOf text.now hops.new bytes.new) }
+    // In the dialect the text spells a List, and the starts of the buffers describe its hops.
+    ensures read { IfSome result (IsPathOf dialect text.now hops.new bytes.new) }
 {
-    let mut cursor = HopCursor::new(text);
+    let mut cursor = HopCursor::new_in(dialect, text);
     let mut count = 0;
     let mut used = 0;
     let mut served = None;

@@ -84,7 +84,7 @@ fn text_of(alloc: Global, seed: &RandomState, hop: &Hop) -> Result<Vec<u8>, OutO
 }
 
 /// The hop that the struct describes.
-fn hop_of(alloc: Global, hop: &HopNode, bytes: &[u8]) -> Result<Hop, Status>
+pub(crate) fn hop_of(alloc: Global, hop: &HopNode, bytes: &[u8]) -> Result<Hop, Status>
     ensures { MatchResult result (λ made. GivesHop bytes.now hop.now made)
         (GivesNone (GivesHop bytes.now hop.now)) }
 {

@@ -1,14 +1,21 @@
 //! Priorities (RFC 9218).
 ghost use Rattle.std.specs.Prelude.{◌≡◌, Some};
+ghost use Rattle.sf_value.specs.declared.dialect.Dialect.TheVariants.{Rfc9651};
 ghost use Rattle.sf_use.specs.Priority.{merge_params};
+ghost use Rattle.sf_use.specs.ResponsePriority.{asked_of};
+ghost use Rattle.sf_c.specs.Calls.{ChecksDialect, dialect_at};
 ghost use Rattle.sf_c.specs.Priorities.{AsksFor, SaysAsked, params_of_flags, flag_at, urgency_at};
+ghost use Rattle.sf_c.specs.Priorities.{has_unset_value as is_unset};
+ghost use Rattle.sf_c.specs.ResponsePriorities.{response_of_flags};
 ghost use Rattle.sf_c.specs.Statuses.{status_at};
 
-use crate::call::{Scan, parse_dict};
+use crate::call::{Scan, dialect_of, parse_dict};
 use crate::refusal::SyntaxRefusal;
+use crate::response_priority::ResponsePriorityFlags;
 use crate::seed::Seed;
 use crate::status::Status;
 use sf_use::{Asked, Priority, PriorityField, Urgency, merge};
+use sf_value::Dialect;
 use std::alloc::Global;
 
 /// The parameters of a Priority field, with the defaults for absent ones (RFC 9218 section 4). In C
@@ -50,11 +57,21 @@ impl PriorityFlags {
             incremental: flag_of(self.has_incremental, self.incremental),
         }
     }
+
+    /// Whether the struct has a value that it does not set, but for the default that reading a
+    /// field writes, or an urgency that is none.
+    pub(crate) fn has_unset_value(&self) -> bool
+        ensures { result ≡ is_unset self.now }
+    {
+        self.urgency > 7
+            || (self.has_urgency == 0 && self.urgency != 0 && self.urgency != 3)
+            || (self.has_incremental == 0 && self.incremental != 0)
+    }
 }
 
-/// The parameters in the text of a Priority field (RFC 9218 section 5). Returns `Answered` and sets
-/// `priority`; `Refused` if the text spells no Dictionary, with the refusal in `refusal`; or
-/// `OutOfMemory`.
+/// The parameters in the text of the Priority field of a request (RFC 9218 section 5). Returns
+/// `Answered` and sets `priority`; `Refused` if the text spells no Dictionary, with the refusal in
+/// `refusal`; or `OutOfMemory`.
 #[unsafe(no_mangle)]
 pub extern "C" fn sf_priority(
     alloc: Global,
@@ -64,26 +81,56 @@ pub extern "C" fn sf_priority(
     refusal: &mut SyntaxRefusal,
 ) -> u32
     // The parameters of the Dictionary, or the other struct says why the text spells none.
-    ensures { AsksFor (record { priority = priority.old; refusal = refusal.old })
-        (record { priority = priority.new; refusal = refusal.new }) text.now (status_at result) }
+    ensures { ChecksDialect (Some Rfc9651) (status_at result)
+        (λ old new. AsksFor old new text.now)
+        (record { priority = priority.old; refusal = refusal.old })
+        (record { priority = priority.new; refusal = refusal.new }) }
 {
-    read_params(alloc, seed, text, priority, refusal).code()
+    read_params(alloc, seed, Dialect::Rfc9651, text, priority, refusal).code()
 }
 
-/// Merges the priorities of a client and a server (RFC 9218 section 8): each parameter is the
-/// server's if the server sets it, otherwise the client's; defaults are filled in. A flag counts as
-/// 1 if it is not 0, and an urgency above 7 as not set.
+/// The parameters in the text of the Priority field of a request in a dialect, as by
+/// [`sf_priority`]; or `BadCall` for a number that is no dialect.
 #[unsafe(no_mangle)]
-pub extern "C" fn sf_priority_merge(client: &PriorityFlags, server: &PriorityFlags) -> PriorityFlags
+pub extern "C" fn sf_priority_in(
+    alloc: Global,
+    seed: &Seed,
+    dialect: u32,
+    text: &[u8],
+    priority: &mut PriorityFlags,
+    refusal: &mut SyntaxRefusal,
+) -> u32
+    // BadCall if and only if the number is no dialect; otherwise the parameters of the Dictionary,
+    // or why the text spells none.
+    ensures { ChecksDialect (dialect_at dialect) (status_at result)
+        (λ old new. AsksFor old new text.now)
+        (record { priority = priority.old; refusal = refusal.old })
+        (record { priority = priority.new; refusal = refusal.new }) }
+{
+    let Some(dialect) = dialect_of(dialect) else {
+        return Status::BadCall.code();
+    };
+    read_params(alloc, seed, dialect, text, priority, refusal).code()
+}
+
+/// Merges the priority of a request and that of its response (RFC 9218 section 8): each parameter
+/// is the server's if the server sets it, otherwise the client's; defaults are filled in. A flag
+/// counts as 1 if it is not 0, and an urgency above 7 as not set.
+#[unsafe(no_mangle)]
+pub extern "C" fn sf_priority_merge(
+    request: &PriorityFlags,
+    response: &ResponsePriorityFlags,
+) -> PriorityFlags
     // Each parameter is the server's if the server sets it, otherwise the client's if the client
     // sets it, otherwise the default.
-    ensures { SaysAsked result (merge_params (params_of_flags client.now) (params_of_flags server.now)) }
+    ensures { SaysAsked result
+        (merge_params (params_of_flags request.now) (asked_of (response_of_flags response.now))) }
 {
-    PriorityFlags::of(merge(client.asked(), server.asked()))
+    PriorityFlags::of(merge(request.asked(), response.priority().as_asked()))
 }
 
 /// The urgency, if it is set and in range.
-fn urgency_of(has_urgency: u8, urgency: u8) -> Option<Urgency>
+pub(crate) fn urgency_of(has_urgency: u8, urgency: u8) -> Option<Urgency>
     ensures { result ≡ urgency_at has_urgency urgency }
 {
     if has_urgency == 0 {
@@ -93,7 +140,7 @@ fn urgency_of(has_urgency: u8, urgency: u8) -> Option<Urgency>
 }
 
 /// The flag, if it is set.
-fn flag_of(has_flag: u8, flag: u8) -> Option<bool>
+pub(crate) fn flag_of(has_flag: u8, flag: u8) -> Option<bool>
     ensures { result ≡ flag_at has_flag flag }
 {
     if has_flag == 0 {
@@ -106,19 +153,20 @@ fn flag_of(has_flag: u8, flag: u8) -> Option<bool>
 fn read_params(
     alloc: Global,
     seed: &Seed,
+    dialect: Dialect,
     text: &[u8],
     priority: &mut PriorityFlags,
     refusal: &mut SyntaxRefusal,
 ) -> Status
     // The parameters of the Dictionary, or the other struct says why the text spells none.
     ensures { AsksFor (record { priority = priority.old; refusal = refusal.old })
-        (record { priority = priority.new; refusal = refusal.new }) text.now (Some result) }
+        (record { priority = priority.new; refusal = refusal.new }) text.now dialect result }
 {
-    if let Some(asked) = PriorityField::scan(text) {
+    if let Some(asked) = PriorityField::scan_in(dialect, text) {
         *priority = PriorityFlags::of(asked);
         return Status::Answered;
     }
-    params_by_tree(alloc, seed, text, priority, refusal)
+    params_by_tree(alloc, seed, dialect, text, priority, refusal)
 }
 
 /// Reads the parameters of a text that was declined, from the tree of its value. It is not inlined,
@@ -127,15 +175,16 @@ fn read_params(
 fn params_by_tree(
     alloc: Global,
     seed: &Seed,
+    dialect: Dialect,
     text: &[u8],
     priority: &mut PriorityFlags,
     refusal: &mut SyntaxRefusal,
 ) -> Status
     // The parameters of the Dictionary, or the other struct says why the text spells none.
     ensures { AsksFor (record { priority = priority.old; refusal = refusal.old })
-        (record { priority = priority.new; refusal = refusal.new }) text.now (Some result) }
+        (record { priority = priority.new; refusal = refusal.new }) text.now dialect result }
 {
-    match parse_dict(alloc, seed, Scan::Declined, text, refusal) {
+    match parse_dict(alloc, seed, Scan::Declined, dialect, text, refusal) {
         Ok(dict) => {
             *priority = PriorityFlags::of(Priority::from_dict(&dict));
             Status::Answered

@@ -6,7 +6,7 @@ ghost use Rattle.sf_value.specs.declared.value.Kind.TheVariants as kind_is;
 ghost use Rattle.sf_value.specs.Grammar.Canonical.{canon};
 ghost use Rattle.sf_value.specs.Grammar.Valid.{Valid};
 ghost use Rattle.sf_use.specs.PriorityUpdate.{updated};
-ghost use Rattle.sf_c.specs.PriorityChanges.{ChangesPriority};
+ghost use Rattle.sf_c.specs.PriorityChanges.{ChangesBy, ChangesPriority};
 ghost use Rattle.sf_c.specs.Statuses.{status_at};
 
 use crate::buffer::put_text;
@@ -16,7 +16,7 @@ use crate::refusal::SyntaxRefusal;
 use crate::seed::Seed;
 use crate::status::Status;
 use sf_use::{Asked, update_priority};
-use sf_value::{Dict, Field, OutOfMemory};
+use sf_value::{Dialect, Dict, Field, OutOfMemory};
 use sf_write::to_text;
 use std::alloc::Global;
 use std::hash::RandomState;
@@ -25,7 +25,8 @@ use std::hash::RandomState;
 /// it: the members `u` and `i` are overwritten in place, or go last if the field has none, and all
 /// others stay. Returns `Answered` if the text is at the start of the buffer; `Short` if the buffer
 /// has fewer than `required` bytes; `Refused` if the text spells no Dictionary, with the refusal in
-/// `refusal`; or `OutOfMemory`.
+/// `refusal`; `Invalid` if the struct has a value that it does not set, or an urgency above 7; or
+/// `OutOfMemory`.
 #[unsafe(no_mangle)]
 pub extern "C" fn sf_priority_change(
     alloc: Global,
@@ -42,11 +43,12 @@ pub extern "C" fn sf_priority_change(
         (record { buffer = buffer.new; required = required.new; refusal = refusal.new })
         text.now priority.now (status_at result) }
 {
-    change(alloc, seed, text, priority, buffer, required, refusal).code()
+    change_valid(alloc, seed, text, priority, buffer, required, refusal).code()
 }
 
 /// As [`sf_priority_change`].
-fn change(
+#[tactic(auto, using(crate::proofs::SetValues::changes_valid))]
+fn change_valid(
     alloc: Global,
     seed: &Seed,
     text: &[u8],
@@ -60,7 +62,28 @@ fn change(
         (record { buffer = buffer.new; required = required.new; refusal = refusal.new })
         text.now priority.now (Some result) }
 {
-    let dict = match parse_dict(alloc, seed, Scan::Skipped, text, refusal) {
+    if priority.has_unset_value() {
+        return Status::Invalid;
+    }
+    change(alloc, seed, text, priority, buffer, required, refusal)
+}
+
+/// As [`sf_priority_change`], for a struct whose values are all set.
+fn change(
+    alloc: Global,
+    seed: &Seed,
+    text: &[u8],
+    priority: &PriorityFlags,
+    buffer: &mut [u8],
+    required: &mut usize,
+    refusal: &mut SyntaxRefusal,
+) -> Status
+    ensures { ChangesBy
+        (record { buffer = buffer.old; required = required.old; refusal = refusal.old })
+        (record { buffer = buffer.new; required = required.new; refusal = refusal.new })
+        text.now priority.now (Some result) }
+{
+    let dict = match parse_dict(alloc, seed, Scan::Skipped, Dialect::Rfc9651, text, refusal) {
         Ok(dict) => dict,
         Err(status) => return status,
     };

@@ -1,8 +1,8 @@
 //! The text of a Priority field.
-ghost use Rattle.std.specs.Prelude.{◌≡◌, ◌≤◌, [], ◌∷◌, Some, decimal};
+ghost use Rattle.std.specs.Prelude.{◌≡◌, ◌≤◌, ◌⊎◌, [], ◌∷◌, Some, decimal};
 ghost use Rattle.sf_value.specs.declared.value.Field.TheVariants as field_is;
 ghost use Rattle.sf_value.specs.Grammar.Canonical.{canon};
-ghost use Rattle.sf_c.specs.Priorities.{params_of_flags, dict_of_params};
+ghost use Rattle.sf_c.specs.Priorities.{WritesPriority, dict_of_params};
 ghost use Rattle.sf_c.specs.Statuses.{status_at};
 ghost use Rattle.sf_c.specs.TextBuffers.{PutsText};
 
@@ -13,7 +13,8 @@ use sf_use::{Asked, Urgency};
 
 /// The text of a Priority field (RFC 9218 section 5) that sets what the struct sets, and nothing
 /// else: `u` if it sets an urgency, then `i` if it sets the flag, also to their defaults. Returns
-/// `Answered` if the buffer holds the text, otherwise `Short`. If the text is empty, the field is
+/// `Answered` if the buffer holds the text, `Short` if it is too small, or `Invalid` if the struct
+/// has a value that it does not set, or an urgency above 7. If the text is empty, the field is
 /// not to be sent. Does not allocate.
 #[unsafe(no_mangle)]
 pub extern "C" fn sf_priority_text(
@@ -21,17 +22,32 @@ pub extern "C" fn sf_priority_text(
     buffer: &mut [u8],
     required: &mut usize,
 ) -> u32
-    // The buffer holds the canonical text of the Dictionary, or is too small for it.
-    ensures puts { PutsText (record { buffer = buffer.old; required = required.old })
-        (record { buffer = buffer.new; required = required.new })
-        (canon (field_is.Dict (dict_of_params (params_of_flags priority.now)))) (status_at result) }
-    ensures short { required.new ≤ 9 }
+    // The buffer holds the canonical text of the Dictionary, or is too small for it; or the struct
+    // is not valid.
+    ensures writes { WritesPriority (record { buffer = buffer.old; required = required.old })
+        (record { buffer = buffer.new; required = required.new }) priority.now
+        (status_at result) }
+    // A text has at most 9 bytes.
+    ensures short { (required.new ≤ 9) ⊎ (required.new ≡ required.old) }
 {
-    write(priority.asked(), buffer, required).code()
+    write_priority(priority, buffer, required).code()
+}
+
+/// As [`sf_priority_text`].
+#[tactic(auto, using(crate::proofs::SetValues::writes_priority))]
+fn write_priority(priority: &PriorityFlags, buffer: &mut [u8], required: &mut usize) -> Status
+    ensures writes { WritesPriority (record { buffer = buffer.old; required = required.old })
+        (record { buffer = buffer.new; required = required.new }) priority.now (Some result) }
+    ensures short { (required.new ≤ 9) ⊎ (required.new ≡ required.old) }
+{
+    if priority.has_unset_value() {
+        return Status::Invalid;
+    }
+    write(priority.asked(), buffer, required)
 }
 
 /// Writes the text that sets these parameters.
-fn write(asked: Asked, buffer: &mut [u8], required: &mut usize) -> Status
+pub(crate) fn write(asked: Asked, buffer: &mut [u8], required: &mut usize) -> Status
     ensures puts { PutsText (record { buffer = buffer.old; required = required.old })
         (record { buffer = buffer.new; required = required.new })
         (canon (field_is.Dict (dict_of_params asked))) (Some result) }

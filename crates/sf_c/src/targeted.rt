@@ -12,7 +12,7 @@ use crate::refusal::SyntaxRefusal;
 use crate::seed::Seed;
 use crate::status::Status;
 use sf_use::{Directives, Policy};
-use sf_value::Dict;
+use sf_value::{Dialect, Dict};
 use std::alloc::Global;
 
 /// The directives of a targeted field (RFC 9213 section 2.1). In C an `sf_policy`.
@@ -39,7 +39,7 @@ pub struct PolicyFlags {
 
 impl PolicyFlags {
     /// The struct of a policy.
-    fn of(policy: Policy) -> PolicyFlags
+    pub(crate) fn of(policy: Policy) -> PolicyFlags
         // The struct has the policy as numbers, with 0 for absent seconds.
         ensures { SaysPolicy result policy }
     {
@@ -56,7 +56,7 @@ impl PolicyFlags {
     }
 
     /// The policy of the struct.
-    fn policy(&self) -> Policy
+    pub(crate) fn policy(&self) -> Policy
         ensures { result ≡ policy_by self.now }
     {
         Policy {
@@ -107,7 +107,7 @@ pub extern "C" fn sf_lifetime(policy: &PolicyFlags, shared: u32, seconds: &mut u
 }
 
 /// The seconds, if they are set.
-fn seconds_of(has_seconds: u8, seconds: u64) -> Option<u64>
+pub(crate) fn seconds_of(has_seconds: u8, seconds: u64) -> Option<u64>
     ensures { result ≡ seconds_at has_seconds seconds }
 {
     if has_seconds == 0 {
@@ -177,7 +177,7 @@ fn policy_by_tree(
     ensures { SaysToCache (record { policy = policy.old; refusal = refusal.old })
         (record { policy = policy.new; refusal = refusal.new }) text.now (Some result) }
 {
-    match parse_dict(alloc, seed, Scan::Declined, text, refusal) {
+    match parse_dict(alloc, seed, Scan::Declined, Dialect::Rfc9651, text, refusal) {
         Ok(dict) => directed(&dict, policy),
         Err(status) => status,
     }

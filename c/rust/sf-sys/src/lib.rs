@@ -47,6 +47,15 @@ pub struct PriorityFlags {
 }
 
 #[repr(C)]
+#[derive(Clone, Copy, Debug, PartialEq, Eq)]
+pub struct ResponsePriorityFlags {
+    pub urgency: u8,
+    pub incremental: u8,
+    pub has_urgency: u8,
+    pub has_incremental: u8,
+}
+
+#[repr(C)]
 pub struct Policy {
     pub max_age: u64,
     pub s_maxage: u64,
@@ -56,6 +65,33 @@ pub struct Policy {
     pub no_store: u8,
     pub no_cache: u8,
     pub is_private: u8,
+}
+
+#[repr(C)]
+pub struct Rules {
+    pub policy: Policy,
+    pub invalid_max_age: u8,
+    pub invalid_s_maxage: u8,
+    pub proxy_revalidate: u8,
+    pub must_understand: u8,
+    pub is_public: u8,
+}
+
+#[repr(C)]
+pub struct Response {
+    pub age: u64,
+    pub lifetime: u64,
+    pub has_lifetime: u8,
+    pub is_understood: u8,
+}
+
+#[repr(C)]
+pub struct Decision {
+    pub seconds: u64,
+    pub reuse: u8,
+    pub by: u8,
+    pub allows_storing: u8,
+    pub allows_authorized: u8,
 }
 
 #[repr(C)]
@@ -110,7 +146,11 @@ const _: () = {
     assert!(size_of::<Node>() == 32);
     assert!(size_of::<Sizes>() == 16);
     assert!(size_of::<PriorityFlags>() == 4);
+    assert!(size_of::<ResponsePriorityFlags>() == 4);
     assert!(size_of::<Policy>() == 24);
+    assert!(size_of::<Rules>() == 32);
+    assert!(size_of::<Response>() == 24);
+    assert!(size_of::<Decision>() == 16);
     assert!(size_of::<Span>() == 16);
     assert!(size_of::<Hop>() == 88);
     assert!(size_of::<Path>() == 40);
@@ -174,6 +214,31 @@ pub const REQUEST: u16 = 6;
 pub const STALE: u16 = 7;
 pub const PARTIAL: u16 = 8;
 pub const OTHER: u16 = 9;
+
+// An `sf_cache`.
+pub const SHARED_CACHE: u32 = 31;
+pub const PRIVATE_CACHE: u32 = 32;
+
+// An `sf_reuse`, as a decision has it.
+pub const REUSE_NOT_STORED: u8 = 41;
+pub const REUSE_FRESH: u8 = 42;
+pub const REUSE_STALE: u8 = 43;
+pub const REUSE_REVALIDATE: u8 = 44;
+pub const REUSE_UNSPECIFIED: u8 = 45;
+
+// An `sf_cause`, as a decision has it.
+pub const BY_NOTHING: u8 = 51;
+pub const BY_NO_STORE: u8 = 52;
+pub const BY_PRIVATE: u8 = 53;
+pub const BY_MUST_UNDERSTAND: u8 = 54;
+pub const BY_NO_CACHE: u8 = 55;
+pub const BY_MAX_AGE: u8 = 56;
+pub const BY_S_MAXAGE: u8 = 57;
+pub const BY_INVALID_MAX_AGE: u8 = 58;
+pub const BY_INVALID_S_MAXAGE: u8 = 59;
+pub const BY_EXPIRES: u8 = 60;
+pub const BY_MUST_REVALIDATE: u8 = 61;
+pub const BY_PROXY_REVALIDATE: u8 = 62;
 
 extern "C" {
     pub fn sf_version() -> u32;
@@ -268,10 +333,32 @@ extern "C" {
         priority: *mut PriorityFlags,
         refusal: *mut Refusal,
     ) -> u32;
+    pub fn sf_priority_in(
+        seed: *const [u8; 16],
+        dialect: u32,
+        text: *const c_void,
+        length: usize,
+        priority: *mut PriorityFlags,
+        refusal: *mut Refusal,
+    ) -> u32;
+    pub fn sf_response_priority(
+        seed: *const [u8; 16],
+        dialect: u32,
+        text: *const c_void,
+        length: usize,
+        priority: *mut ResponsePriorityFlags,
+        refusal: *mut Refusal,
+    ) -> u32;
     pub fn sf_priority_merge(
-        client: *const PriorityFlags,
-        server: *const PriorityFlags,
+        request: *const PriorityFlags,
+        response: *const ResponsePriorityFlags,
     ) -> PriorityFlags;
+    pub fn sf_response_priority_text(
+        priority: *const ResponsePriorityFlags,
+        buffer: *mut c_void,
+        buffer_length: usize,
+        required: *mut usize,
+    ) -> u32;
     pub fn sf_priority_text(
         priority: *const PriorityFlags,
         buffer: *mut c_void,
@@ -304,6 +391,30 @@ extern "C" {
         index: *mut usize,
         policy: *mut Policy,
     ) -> u32;
+    pub fn sf_cache_rules(
+        seed: *const [u8; 16],
+        dialect: u32,
+        text: *const c_void,
+        length: usize,
+        rules: *mut Rules,
+        refusal: *mut Refusal,
+    ) -> u32;
+    pub fn sf_select_rules(
+        seed: *const [u8; 16],
+        dialect: u32,
+        texts: *const c_void,
+        texts_length: usize,
+        fields: *const Span,
+        fields_length: usize,
+        index: *mut usize,
+        rules: *mut Rules,
+    ) -> u32;
+    pub fn sf_decide(
+        rules: *const Rules,
+        cache: u32,
+        response: *const Response,
+        decision: *mut Decision,
+    ) -> u32;
     pub fn sf_cache_status(
         seed: *const [u8; 16],
         text: *const c_void,
@@ -323,6 +434,31 @@ extern "C" {
         buffer: *mut c_void,
         buffer_length: usize,
         required: *mut usize,
+    ) -> u32;
+    pub fn sf_cache_status_in(
+        seed: *const [u8; 16],
+        dialect: u32,
+        text: *const c_void,
+        length: usize,
+        hops: *mut Hop,
+        hops_capacity: usize,
+        bytes: *mut c_void,
+        bytes_capacity: usize,
+        path: *mut Path,
+        refusal: *mut Refusal,
+    ) -> u32;
+    pub fn sf_cache_status_append(
+        seed: *const [u8; 16],
+        dialect: u32,
+        text: *const c_void,
+        length: usize,
+        hop: *const Hop,
+        bytes: *const c_void,
+        bytes_length: usize,
+        buffer: *mut c_void,
+        buffer_length: usize,
+        required: *mut usize,
+        refusal: *mut Refusal,
     ) -> u32;
     pub fn sf_join(
         line: *const c_void,
@@ -371,6 +507,10 @@ mod tests {
         assert_eq!(at!(PriorityFlags, incremental), 1);
         assert_eq!(at!(PriorityFlags, has_urgency), 2);
         assert_eq!(at!(PriorityFlags, has_incremental), 3);
+        assert_eq!(at!(ResponsePriorityFlags, urgency), 0);
+        assert_eq!(at!(ResponsePriorityFlags, incremental), 1);
+        assert_eq!(at!(ResponsePriorityFlags, has_urgency), 2);
+        assert_eq!(at!(ResponsePriorityFlags, has_incremental), 3);
         assert_eq!(at!(Policy, max_age), 0);
         assert_eq!(at!(Policy, s_maxage), 8);
         assert_eq!(at!(Policy, has_max_age), 16);
@@ -379,6 +519,21 @@ mod tests {
         assert_eq!(at!(Policy, no_store), 19);
         assert_eq!(at!(Policy, no_cache), 20);
         assert_eq!(at!(Policy, is_private), 21);
+        assert_eq!(at!(Rules, policy), 0);
+        assert_eq!(at!(Rules, invalid_max_age), 24);
+        assert_eq!(at!(Rules, invalid_s_maxage), 25);
+        assert_eq!(at!(Rules, proxy_revalidate), 26);
+        assert_eq!(at!(Rules, must_understand), 27);
+        assert_eq!(at!(Rules, is_public), 28);
+        assert_eq!(at!(Response, age), 0);
+        assert_eq!(at!(Response, lifetime), 8);
+        assert_eq!(at!(Response, has_lifetime), 16);
+        assert_eq!(at!(Response, is_understood), 17);
+        assert_eq!(at!(Decision, seconds), 0);
+        assert_eq!(at!(Decision, reuse), 8);
+        assert_eq!(at!(Decision, by), 9);
+        assert_eq!(at!(Decision, allows_storing), 10);
+        assert_eq!(at!(Decision, allows_authorized), 11);
         assert_eq!(at!(Span, at), 0);
         assert_eq!(at!(Span, length), 8);
         assert_eq!(at!(Hop, name), 0);

@@ -1,7 +1,7 @@
 //! What a proxy concludes from the heads of a request and its response, on standard input: a line
 //! `> Name: value` is of the request, and `< Name: value` of the response.
 
-use sf::{Choice, Error, Outcome, Path, Priority};
+use sf::{Cache, Error, Outcome, Path, Priority, Response, Reuse, RulesChoice};
 use std::io::{self, Read};
 
 /// The targeted fields that this cache obeys, in order (RFC 9213 section 2.2).
@@ -47,16 +47,20 @@ fn source(path: &Path) -> String {
     }
 }
 
-/// What a shared cache does with the response (RFC 9213).
-fn decision(choice: Choice) -> String {
-    match choice {
-        Choice::Fallback => "Cache-Control decides".to_string(),
-        Choice::Field { index, policy } => match policy.lifetime(true) {
-            _ if !policy.may_store_shared() => format!("{}: don't store it", TARGETS[index]),
-            Some(seconds) => format!("{}: store it for {seconds} s", TARGETS[index]),
-            None => format!("{}: store it", TARGETS[index]),
-        },
-    }
+/// What a shared cache does with a new response (RFC 9213 and RFC 9111).
+fn decision(choice: RulesChoice) -> String {
+    let (index, rules) = match choice {
+        RulesChoice::Field { index, rules } => (index, rules),
+        RulesChoice::Fallback => return "Cache-Control decides".to_string(),
+    };
+    let what = match rules.decide(Cache::Shared, Response::default()).reuse {
+        Reuse::NotStored => "don't store it".to_string(),
+        Reuse::Fresh { seconds } => format!("store it, fresh for {seconds} s"),
+        Reuse::Stale => "store it, stale".to_string(),
+        Reuse::Revalidate => "store it, validate it before each use".to_string(),
+        Reuse::Unspecified => "no lifetime is set".to_string(),
+    };
+    format!("{}: {what}", TARGETS[index])
 }
 
 fn main() -> Result<(), Box<dyn std::error::Error>> {
@@ -74,6 +78,6 @@ fn main() -> Result<(), Box<dyn std::error::Error>> {
     println!("{}", source(&read(&heads, '<', "Cache-Status")?));
     let targets = TARGETS.map(|name| field(&heads, '<', name));
     let targets: Vec<_> = targets.into_iter().collect::<Result<_, _>>()?;
-    println!("{}", decision(sf::select(targets)?));
+    println!("{}", decision(sf::select_rules(targets)?));
     Ok(())
 }

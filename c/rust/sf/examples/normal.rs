@@ -1,11 +1,11 @@
 //! The canonical text of a Priority field, and the priority of a response with it.
 
-use sf::{Dictionary, Priority};
+use sf::{Dictionary, Priority, ResponsePriority};
 
 fn main() -> Result<(), sf::Error> {
     println!("{}", Dictionary::parse("u=1,  i=?1")?);
 
-    let both = Priority::parse("u=5, i")?.merged_with(Priority::parse("u=1")?);
+    let both = Priority::parse("u=5, i")?.merged_with(ResponsePriority::parse("u=1")?);
     println!(
         "urgency {} incremental {}",
         both.urgency(),

@@ -2,7 +2,10 @@
 //! on standard input: a line `> Name: value` is of the request, and `< Name: value` of the
 //! response.
 
-use sf::{Error, Forward, Forwarded, Hop, Priority, TokenRef};
+use sf::{
+    Cache, Dialect, Error, Forward, Forwarded, Hop, Parser, Priority, Response, ResponsePriority,
+    Reuse, RulesChoice, TokenRef,
+};
 use std::io::{self, BufRead};
 
 /// This cache.
@@ -11,6 +14,8 @@ const NAME: &TokenRef = TokenRef::constant("ExampleCDN");
 const TARGET_LIST: [&str; 2] = ["ExampleCDN-Cache-Control", "CDN-Cache-Control"];
 
 fn main() -> Result<(), Box<dyn std::error::Error>> {
+    let words: Vec<String> = std::env::args().skip(1).collect(); // private, understood
+    let has_word = |word: &str| words.iter().any(|said| said == word);
     let lines: Vec<String> = io::stdin().lock().lines().collect::<Result<_, _>>()?;
     let field = |side: char, name: &str| {
         sf::join(lines.iter().filter_map(|line| {
@@ -20,35 +25,52 @@ fn main() -> Result<(), Box<dyn std::error::Error>> {
     };
 
     let asked = Priority::parse(field('>', "Priority")?).or_else(Error::as_absent)?;
-    let answered = Priority::parse(field('<', "Priority")?).or_else(Error::as_absent)?;
+    let answered = ResponsePriority::parse(field('<', "Priority")?).or_else(Error::as_absent)?;
     let both = asked.merged_with(answered);
     let how = ["", ", incremental"][usize::from(both.incremental())];
     println!("urgency {}{how}", both.urgency());
 
+    // RFC 9213 cites RFC 8941, and has a field of no newer type.
+    let parser = Parser::new().with_dialect(Dialect::Rfc8941);
     let targets = TARGET_LIST.map(|name| field('<', name));
     let targets: Vec<_> = targets.into_iter().collect::<Result<_, _>>()?;
-    let choice = sf::select(targets)?;
-    let name = choice
-        .index()
-        .map_or("no targeted field", |index| TARGET_LIST[index]);
-    let stored = choice.policy().filter(sf::Policy::may_store_shared);
-    let lifetime = stored.and_then(|policy| policy.lifetime(true));
-    let what = ["don't store it", "store it"][usize::from(stored.is_some())];
-    let fresh = lifetime.map(|seconds| format!(", fresh for {seconds} s"));
-    println!("by {name}: {what}{}", fresh.unwrap_or_default());
-
-    // Members of the response's Priority that are not known here stay (RFC 9218 section 4).
-    let text = match both.change(field('<', "Priority")?) {
-        Err(Error::Refused(_)) => both.serialize()?,
-        text => text?,
+    let cache = [Cache::Shared, Cache::Private][usize::from(has_word("private"))];
+    let response = Response {
+        age: String::from_utf8(field('<', "Age")?)?.parse().unwrap_or(0),
+        lifetime: None,
+        is_understood: has_word("understood"),
     };
-    if !text.is_empty() {
-        println!("Priority: {text}");
+    let decision = match parser.select_rules(targets)? {
+        RulesChoice::Fallback => None,
+        RulesChoice::Field { index, rules } => {
+            let decision = rules.decide(cache, response);
+            let by = decision.by.map(|cause| format!(" ({cause})"));
+            let (name, by) = (TARGET_LIST[index], by.unwrap_or_default());
+            match decision.reuse {
+                Reuse::NotStored => println!("by {name}: don't store it{by}"),
+                Reuse::Fresh { seconds } => println!("by {name}: fresh for {seconds} s{by}"),
+                Reuse::Stale => println!("by {name}: stale{by}"),
+                Reuse::Revalidate => println!("by {name}: validate it before each use{by}"),
+                Reuse::Unspecified => println!("by {name}: no lifetime{by}"),
+            }
+            Some(decision)
+        }
+    };
+    if decision.is_none() {
+        println!("by no targeted field: Cache-Control decides");
     }
-    let forwarded = Forwarded::new(Forward::UriMiss).with_stored(stored.is_some());
+
+    let stored = decision.map_or(false, |decision| decision.may_store());
+    let forwarded = Forwarded::new(Forward::UriMiss).with_stored(stored);
     let mut hop = Hop::new(NAME).with_outcome(forwarded);
-    hop.ttl = lifetime.map(Into::into);
-    let path = hop.append_to([field('<', "Cache-Status")?])?;
-    println!("Cache-Status: {}", String::from_utf8_lossy(&path));
+    hop.ttl = decision
+        .and_then(|decision| decision.fresh_for())
+        .map(Into::into);
+    // A hop that is added to malformed lines would be ignored with them: it is sent alone.
+    let path = match parser.append_hop(&hop, [field('<', "Cache-Status")?]) {
+        Err(Error::Refused(_)) => hop.serialize()?,
+        path => path?,
+    };
+    println!("Cache-Status: {path}");
     Ok(())
 }

@@ -230,11 +230,48 @@ pub(crate) fn priority(seed: &Seed, text: &[u8]) -> Result<raw::PriorityFlags, E
     done(status, &refusal).map(|()| flags)
 }
 
+/// What the Priority field of a response sets.
+pub(crate) fn response_priority(
+    seed: &Seed,
+    dialect: Dialect,
+    text: &[u8],
+) -> Result<raw::ResponsePriorityFlags, Error> {
+    let mut refusal = NO_REFUSAL;
+    let mut flags = raw::ResponsePriorityFlags {
+        urgency: 0,
+        incremental: 0,
+        has_urgency: 0,
+        has_incremental: 0,
+    };
+    let status = unsafe {
+        raw::sf_response_priority(
+            &seed.bytes,
+            dialect as u32,
+            start(text),
+            text.len(),
+            &mut flags,
+            &mut refusal,
+        )
+    };
+    done(status, &refusal).map(|()| flags)
+}
+
+pub(crate) fn response_priority_text(
+    flags: &raw::ResponsePriorityFlags,
+    buffer: &mut [u8],
+) -> Result<Fit<usize>, Error> {
+    let mut required = 0;
+    let length = buffer.len();
+    let status =
+        unsafe { raw::sf_response_priority_text(flags, start_mut(buffer), length, &mut required) };
+    fit(status, required, required > length, &NO_REFUSAL)
+}
+
 pub(crate) fn priority_merge(
-    client: raw::PriorityFlags,
-    server: raw::PriorityFlags,
+    request: raw::PriorityFlags,
+    response: raw::ResponsePriorityFlags,
 ) -> raw::PriorityFlags {
-    unsafe { raw::sf_priority_merge(&client, &server) }
+    unsafe { raw::sf_priority_merge(&request, &response) }
 }
 
 pub(crate) fn priority_text(
@@ -327,6 +364,56 @@ pub(crate) fn select_one(seed: &Seed, text: &[u8]) -> Result<Option<raw::Policy>
     }
 }
 
+const NO_RULES: raw::Rules = raw::Rules {
+    policy: NO_POLICY,
+    invalid_max_age: 0,
+    invalid_s_maxage: 0,
+    proxy_revalidate: 0,
+    must_understand: 0,
+    is_public: 0,
+};
+
+/// The directives of a targeted field, for a decision; `None` if it has no members.
+pub(crate) fn cache_rules(
+    seed: &Seed,
+    dialect: Dialect,
+    text: &[u8],
+) -> Result<Option<raw::Rules>, Error> {
+    let mut refusal = NO_REFUSAL;
+    let mut rules = NO_RULES;
+    let status = unsafe {
+        raw::sf_cache_rules(
+            &seed.bytes,
+            dialect as u32,
+            start(text),
+            text.len(),
+            &mut rules,
+            &mut refusal,
+        )
+    };
+    match status {
+        raw::EMPTY => Ok(None),
+        status => done(status, &refusal).map(|()| Some(rules)),
+    }
+}
+
+/// What a cache decides.
+pub(crate) fn decide(
+    rules: &raw::Rules,
+    cache: u32,
+    response: &raw::Response,
+) -> Result<raw::Decision, Error> {
+    let mut decision = raw::Decision {
+        seconds: 0,
+        reuse: raw::REUSE_NOT_STORED,
+        by: raw::BY_NOTHING,
+        allows_storing: 0,
+        allows_authorized: 0,
+    };
+    let status = unsafe { raw::sf_decide(rules, cache, response, &mut decision) };
+    done(status, &NO_REFUSAL).map(|()| decision)
+}
+
 pub(crate) fn lifetime(policy: &raw::Policy, shared: bool) -> Option<u64> {
     let mut seconds = 0;
     let has_one = unsafe { raw::sf_lifetime(policy, u32::from(shared), &mut seconds) };
@@ -390,6 +477,37 @@ pub(crate) fn hop_text(
         )
     };
     fit(status, required, required > length, &NO_REFUSAL)
+}
+
+/// The text of a Cache-Status field with a hop at its end.
+#[cfg(feature = "alloc")]
+pub(crate) fn cache_status_append(
+    seed: &Seed,
+    dialect: Dialect,
+    text: &[u8],
+    hop: &raw::Hop,
+    bytes: &[u8],
+    buffer: &mut [u8],
+) -> Result<Fit<usize>, Error> {
+    let mut refusal = NO_REFUSAL;
+    let mut required = 0;
+    let length = buffer.len();
+    let status = unsafe {
+        raw::sf_cache_status_append(
+            &seed.bytes,
+            dialect as u32,
+            start(text),
+            text.len(),
+            hop,
+            start(bytes),
+            bytes.len(),
+            start_mut(buffer),
+            length,
+            &mut required,
+            &mut refusal,
+        )
+    };
+    fit(status, required, required > length, &refusal)
 }
 
 /// Appends a line to joined lines; the length that is short is the buffer's.

@@ -98,29 +98,59 @@ impl Parser {
         let seed = self.seed();
         written(128, |buffer| ffi::hop_text(&seed, &hop, &bytes, buffer))
     }
+
+    /// Appends a hop to the lines of a Cache-Status field, by the dialect of the parser: see
+    /// [`Hop::append_to`]. RFC 9211 cites RFC 8941.
+    ///
+    /// # Errors
+    ///
+    /// Those of [`Hop::append_to`].
+    ///
+    /// ```
+    /// let hop = sf::Hop::new(sf::TokenRef::constant("edge")).with_outcome(sf::Outcome::Hit);
+    /// let old = sf::Parser::new().with_dialect(sf::Dialect::Rfc8941);
+    /// assert_eq!(old.append_hop(&hop, ["a;hit", "b"]).unwrap(), "a;hit, b, edge;hit");
+    /// assert!(old.append_hop(&hop, ["a;x=@1"]).is_err());
+    /// ```
+    pub fn append_hop(
+        &self,
+        hop: &Hop<'_>,
+        lines: impl IntoIterator<Item = impl AsRef<[u8]>>,
+    ) -> Result<String, Error> {
+        let text = crate::join(lines.into_iter().filter(|line| !line.as_ref().is_empty()))?;
+        let mut bytes = Vec::new();
+        let hop = raw_hop(hop, &mut bytes)?;
+        let (seed, dialect) = (self.seed(), self.dialect());
+        written(text.len() + 128, |buffer| {
+            ffi::cache_status_append(&seed, dialect, &text, &hop, &bytes, buffer)
+        })
+    }
 }
 
 #[cfg(feature = "std")]
 impl Hop<'_> {
     /// Appends this hop to the lines of a Cache-Status field that came from the caches nearer the
-    /// origin, and returns the text of all, joined. Empty lines are left out, and the others are
-    /// not checked.
+    /// origin, and returns the canonical text of all, which is sent in their place. Empty lines are
+    /// left out.
     ///
     /// # Errors
     ///
-    /// [`Error::OutOfMemory`] only.
+    /// [`Error::Refused`] if the lines are not a well-formed List: who reads them ignores all of
+    /// them, and each line that is added (RFC 9651 section 4.2), so nothing is appended. Send the
+    /// text of [`Hop::serialize`] in their place. [`Error::Invalid`] if the outcome is
+    /// [`Outcome::Conflict`], since only one of `hit` and `fwd` should appear (RFC 9211 section
+    /// 2.1).
     ///
     /// ```
     /// let hop = sf::Hop::new(sf::TokenRef::constant("edge")).with_outcome(sf::Outcome::Hit);
-    /// assert_eq!(hop.append_to(["origin; fwd=miss"]).unwrap(), b"origin; fwd=miss, edge;hit");
+    /// assert_eq!(hop.append_to(["origin; fwd=miss"]).unwrap(), "origin;fwd=miss, edge;hit");
+    /// assert!(matches!(hop.append_to(["origin;;"]), Err(sf::Error::Refused(_))));
     /// ```
     pub fn append_to(
         &self,
         lines: impl IntoIterator<Item = impl AsRef<[u8]>>,
-    ) -> Result<Vec<u8>, Error> {
-        let before = crate::join(lines.into_iter().filter(|line| !line.as_ref().is_empty()))?;
-        let hop = self.serialize()?.into_bytes();
-        crate::join([before, hop].iter().filter(|text| !text.is_empty()))
+    ) -> Result<String, Error> {
+        Parser::new().append_hop(self, lines)
     }
 
     /// Writes the text of a Cache-Status field whose only member is this hop: a field line of its

@@ -1,7 +1,8 @@
 //! Fields in and out of a `HeaderMap` of the crate `http`.
 
 use crate::{
-    join, Choice, Dictionary, Error, FieldType, Hop, Item, List, Parser, Path, Policy, Priority,
+    join, CacheRules, Choice, Dictionary, Error, FieldType, Hop, Item, List, Parser, Path, Policy,
+    Priority, ResponsePriority, RulesChoice,
 };
 use alloc::string::String;
 use alloc::vec::Vec;
@@ -173,6 +174,52 @@ impl Priority {
     }
 }
 
+impl ResponsePriority {
+    /// Reads the Priority field of the head of a response; the default if the head has none.
+    ///
+    /// # Errors
+    ///
+    /// [`Error::Refused`] if it is malformed: see [`ResponsePriority::parse`].
+    ///
+    /// ```
+    /// let mut headers = http::HeaderMap::new();
+    /// headers.insert("priority", http::HeaderValue::from_static("u=1"));
+    /// let response = sf::ResponsePriority::from_headers(&headers).unwrap();
+    /// assert_eq!((response.urgency.map(u8::from), response.incremental), (Some(1), None));
+    /// ```
+    pub fn from_headers(headers: &HeaderMap) -> Result<ResponsePriority, Error> {
+        ResponsePriority::parse(text_of(headers, PRIORITY)?)
+    }
+}
+
+impl CacheRules {
+    /// Chooses the field of a target list that a cache obeys, by the names of the list in order:
+    /// see [`select_rules`](crate::select_rules).
+    ///
+    /// # Errors
+    ///
+    /// [`Error::OutOfMemory`] only.
+    ///
+    /// ```
+    /// let mut headers = http::HeaderMap::new();
+    /// headers.insert("cdn-cache-control", http::HeaderValue::from_static("no-store"));
+    /// let choice = sf::CacheRules::select_from_headers(&headers, ["cdn-cache-control"]).unwrap();
+    /// assert!(matches!(choice, sf::RulesChoice::Field { index: 0, .. }));
+    /// ```
+    pub fn select_from_headers(
+        headers: &HeaderMap,
+        names: impl IntoIterator<Item = impl AsHeaderName>,
+    ) -> Result<RulesChoice, Error> {
+        for (index, name) in names.into_iter().enumerate() {
+            let choice = crate::select_rules([text_of(headers, name)?])?;
+            if let RulesChoice::Field { rules, .. } = choice {
+                return Ok(RulesChoice::Field { index, rules });
+            }
+        }
+        Ok(RulesChoice::Fallback)
+    }
+}
+
 impl Policy {
     /// Chooses the field of a target list that a cache obeys, by the names of the list in order:
     /// see [`select`](crate::select).
@@ -221,11 +268,11 @@ impl Path {
 }
 
 impl Hop<'_> {
-    /// Appends this hop to the Cache-Status field of a head, as a line of its own.
+    /// Appends this hop to the Cache-Status field of a head, whose lines become one.
     ///
     /// # Errors
     ///
-    /// [`Error::OutOfMemory`] only.
+    /// Those of [`Hop::append_to`]; the head is then unchanged.
     ///
     /// ```
     /// let mut headers = http::HeaderMap::new();
@@ -234,7 +281,7 @@ impl Hop<'_> {
     /// assert_eq!(headers["cache-status"], "edge;hit");
     /// ```
     pub fn append_to_headers(&self, headers: &mut HeaderMap) -> Result<(), Error> {
-        headers.append(CACHE_STATUS, value_of(self.serialize())?);
-        Ok(())
+        let text = self.append_to([text_of(headers, CACHE_STATUS)?]);
+        put(headers, HeaderName::from_static(CACHE_STATUS), text)
     }
 }

@@ -46,6 +46,7 @@ mod texts;
 mod tree;
 
 // Fields of which the RFCs say what they mean.
+mod decision;
 mod hop;
 #[cfg(feature = "alloc")]
 mod hop_text;
@@ -62,6 +63,7 @@ mod serde;
 
 pub use bare::{GenericBareItem, RefBareItem};
 pub use date::Date;
+pub use decision::{Cache, CacheRules, Cause, Decision, Response, Reuse, RulesChoice};
 pub use error::{Error, Refusal};
 pub use event::{Event, Events};
 pub use hop::{Forward, Forwarded, FwdStatus, Hop, Name, Outcome};
@@ -69,7 +71,7 @@ pub use kind::{Dialect, Kind};
 pub use number::{Decimal, Integer};
 pub use parser::Parser;
 pub use policy::{Choice, Policy, Seconds};
-pub use priority::{Priority, Urgency};
+pub use priority::{Priority, ResponsePriority, Urgency};
 pub use seed::Seed;
 pub use text::{KeyRef, StringRef, TokenRef};
 pub use view::{Node, Nodes, Role, Space, View};
@@ -89,6 +91,7 @@ pub use {
 
 #[cfg(feature = "std")]
 pub use {
+    decision::select_rules,
     parser::{check, equal, normalise},
     policy::select,
 };

@@ -111,6 +111,11 @@ impl Parser {
         Parser { seed, dialect }
     }
 
+    /// The RFC by which texts are parsed.
+    pub(crate) const fn dialect(&self) -> Dialect {
+        self.dialect
+    }
+
     /// A seed for one call.
     pub(crate) fn seed(&self) -> Seed {
         self.seed.seed()

@@ -83,12 +83,13 @@ impl fmt::Display for Urgency {
     }
 }
 
-/// The parameters of a Priority field (RFC 9218 section 4); `None` is one that the field does not
-/// set. Its `Display` is the text of a field that sets what it sets, and nothing else.
+/// The parameters of the Priority field of a request (RFC 9218 section 4); `None` is one that the
+/// field does not set, which has its default. Its `Display` is the text of a field that sets what it
+/// sets, and nothing else. [`ResponsePriority`] is that of a response.
 ///
 /// ```
 /// let request: sf::Priority = "u=5, i".parse().unwrap();
-/// let response: sf::Priority = "u=1".parse().unwrap();
+/// let response: sf::ResponsePriority = "u=1".parse().unwrap();
 /// let merged = request.merged_with(response);
 /// assert_eq!((merged.urgency().get(), merged.incremental()), (1, true));
 /// assert_eq!(merged.to_string(), "u=1, i");
@@ -142,17 +143,18 @@ impl Priority {
 
     /// Merges the priority of a client's request, this one, with that of a server's response (RFC
     /// 9218 section 8). Each parameter is the server's if the server sets it, otherwise the
-    /// client's.
+    /// client's. The result is for the sender of the response to this client; the field of the
+    /// response is end-to-end (section 5), and is passed on as the server wrote it.
     ///
     /// ```
     /// let request = sf::Priority::parse("u=5, i").unwrap();
-    /// let response = sf::Priority::parse("i=?0").unwrap();
+    /// let response = sf::ResponsePriority::parse("i=?0").unwrap();
     /// let merged = request.merged_with(response);
     /// assert_eq!((merged.urgency().get(), merged.incremental), (5, Some(false)));
     /// ```
     #[must_use]
-    pub fn merged_with(self, server: Priority) -> Priority {
-        ffi::priority_merge(self.into(), server.into()).into()
+    pub fn merged_with(self, response: ResponsePriority) -> Priority {
+        ffi::priority_merge(self.into(), response.into()).into()
     }
 
     /// Writes the text of a Priority field that sets what this priority sets, and nothing else, as
@@ -222,7 +224,124 @@ impl fmt::Display for Priority {
     }
 }
 
+/// What a server sets by the Priority field of a response (RFC 9218 section 8). `None` is a
+/// parameter that the field does not set, which leaves what the client asked for: it has no default
+/// there. Its `Display` is the text of a field that sets what it sets, and nothing else.
+///
+/// ```
+/// use sf::{Priority, ResponsePriority};
+/// let response: ResponsePriority = "u=1".parse().unwrap();
+/// assert_eq!((response.urgency.map(u8::from), response.incremental), (Some(1), None));
+/// let fixed = ResponsePriority::fixed(Priority::default());
+/// assert_eq!(fixed.to_string(), "u=3, i=?0");
+/// ```
+#[derive(Clone, Copy, Debug, Default, PartialEq, Eq, Hash)]
+pub struct ResponsePriority {
+    /// The urgency (section 4.1).
+    pub urgency: Option<Urgency>,
+    /// Whether the response is of use as it arrives (section 4.2).
+    pub incremental: Option<bool>,
+}
+
+impl From<raw::ResponsePriorityFlags> for ResponsePriority {
+    fn from(flags: raw::ResponsePriorityFlags) -> ResponsePriority {
+        let urgency = (flags.has_urgency != 0).then_some(flags.urgency);
+        ResponsePriority {
+            urgency: urgency.and_then(|number| Urgency::new(number).ok()),
+            incremental: (flags.has_incremental != 0).then_some(flags.incremental != 0),
+        }
+    }
+}
+
+impl From<ResponsePriority> for raw::ResponsePriorityFlags {
+    fn from(priority: ResponsePriority) -> raw::ResponsePriorityFlags {
+        raw::ResponsePriorityFlags {
+            urgency: priority.urgency.map_or(0, Urgency::get),
+            incremental: u8::from(priority.incremental == Some(true)),
+            has_urgency: u8::from(priority.urgency.is_some()),
+            has_incremental: u8::from(priority.incremental.is_some()),
+        }
+    }
+}
+
+impl ResponsePriority {
+    /// Reads the text of the Priority field of a response (RFC 9218 section 8), as
+    /// [`Priority::parse`] reads that of a request.
+    ///
+    /// # Errors
+    ///
+    /// [`Error::Refused`] if the text is not a well-formed Dictionary.
+    ///
+    /// ```
+    /// let response = sf::ResponsePriority::parse("i=?0").unwrap();
+    /// assert_eq!((response.urgency, response.incremental), (None, Some(false)));
+    /// ```
+    #[cfg(feature = "std")]
+    pub fn parse(text: impl AsRef<[u8]>) -> Result<ResponsePriority, Error> {
+        Parser::new().response_priority(text)
+    }
+
+    /// The priority of a response that sets both parameters, so that it has them whatever the
+    /// client asked for.
+    ///
+    /// ```
+    /// let fixed = sf::ResponsePriority::fixed(sf::Priority::default());
+    /// let request = sf::Priority::parse("u=5, i").unwrap();
+    /// assert_eq!(request.merged_with(fixed).to_string(), "u=3, i=?0");
+    /// ```
+    #[must_use]
+    pub fn fixed(priority: Priority) -> ResponsePriority {
+        ResponsePriority {
+            urgency: Some(priority.urgency()),
+            incremental: Some(priority.incremental()),
+        }
+    }
+
+    /// Writes the text of the Priority field of a response that sets what this priority sets, and
+    /// nothing else, as `to_string` does. If the text is empty, the field is not to be sent.
+    ///
+    /// # Errors
+    ///
+    /// [`Error::OutOfMemory`] only.
+    ///
+    /// ```
+    /// let priority = sf::ResponsePriority { urgency: None, incremental: Some(false) };
+    /// assert_eq!(priority.serialize().unwrap(), "i=?0");
+    /// ```
+    #[cfg(feature = "alloc")]
+    pub fn serialize(self) -> Result<alloc::string::String, Error> {
+        crate::buffer::copied_text(self.text()?.as_str())
+    }
+
+    fn text(self) -> Result<Short<16>, Error> {
+        Short::written(|buffer| ffi::response_priority_text(&self.into(), buffer))
+    }
+}
+
+impl fmt::Display for ResponsePriority {
+    fn fmt(&self, f: &mut fmt::Formatter<'_>) -> fmt::Result {
+        f.pad(self.text().map_err(|_| fmt::Error)?.as_str())
+    }
+}
+
 impl Parser {
+    /// Reads the text of the Priority field of a response, by the dialect of the parser: see
+    /// [`ResponsePriority::parse`]. RFC 9218 cites RFC 8941.
+    ///
+    /// # Errors
+    ///
+    /// [`Error::Refused`] if the text is not a well-formed Dictionary.
+    ///
+    /// ```
+    /// let old = sf::Parser::new().with_dialect(sf::Dialect::Rfc8941);
+    /// assert_eq!(old.response_priority("u=1").unwrap().to_string(), "u=1");
+    /// assert!(old.response_priority("u=1, x=@1").is_err());
+    /// ```
+    pub fn response_priority(&self, text: impl AsRef<[u8]>) -> Result<ResponsePriority, Error> {
+        ffi::response_priority(&self.seed(), self.dialect(), text.as_ref())
+            .map(ResponsePriority::from)
+    }
+
     /// Reads the text of a Priority field, by RFC 9651 whatever the dialect: see
     /// [`Priority::parse`].
     ///

@@ -5,7 +5,8 @@ use crate::ffi::Rules;
 use crate::nodes::Nodes;
 use crate::{
     BareItem, Date, Decimal, Dictionary, Error, FwdStatus, GenericBareItem, InnerList, Integer,
-    Item, Kind, List, ListEntry, Parameters, Parser, Path, Policy, Priority, Seconds, Urgency,
+    Item, Kind, List, ListEntry, Parameters, Parser, Path, Policy, Priority, ResponsePriority,
+    Seconds, Urgency,
 };
 use alloc::string::String;
 use core::fmt;
@@ -48,6 +49,8 @@ read!(InnerList, |text| Parser::new().inner_list(text));
 read!(BareItem, |text| Parser::new().bare_item(text));
 read!(Parameters, |text| Parser::new().parameters(text));
 read!(Priority, |text| Parser::new().priority(text));
+read!(ResponsePriority, |text| Parser::new()
+    .response_priority(text));
 read!(Policy, |text| Parser::new()
     .policy(text)?
     .ok_or(Error::Empty));

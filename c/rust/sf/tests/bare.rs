@@ -65,7 +65,7 @@ fn values_are_nodes_and_events() {
 fn fields_are_interpreted() {
     let parser = parser();
     let client = parser.priority("u=5, i").unwrap();
-    let merged = client.merged_with(parser.priority("u=1").unwrap());
+    let merged = client.merged_with(parser.response_priority("u=1").unwrap());
     assert_eq!(merged.urgency(), Urgency::new(1).unwrap());
     assert_eq!(merged.to_string(), "u=1, i");
     assert_eq!(Priority::default().to_string(), "");

@@ -95,6 +95,12 @@ fn a_head_is_written() {
     hop.append_to_headers(&mut headers).unwrap();
     hop.append_to_headers(&mut headers).unwrap();
     let lines: Vec<_> = headers.get_all("cache-status").iter().collect();
-    assert_eq!(lines, ["edge;fwd=uri-miss;stored"; 2]);
+    assert_eq!(
+        lines,
+        ["edge;fwd=uri-miss;stored, edge;fwd=uri-miss;stored"]
+    );
     assert_eq!(Path::from_headers(&headers).unwrap().hops().len(), 2);
+    let mut malformed = head(&[("cache-status", "a;hit,")]);
+    assert!(hop.append_to_headers(&mut malformed).is_err());
+    assert_eq!(malformed["cache-status"], "a;hit,");
 }

@@ -2,14 +2,15 @@
 //! Cache-Status.
 
 use sf::{
-    equal, select, Choice, Dialect, Error, Forward, Forwarded, FwdStatus, Hop, Kind, Name, Outcome,
-    Parser, Path, Policy, Priority, Seconds, StringRef, TokenRef, Urgency,
+    equal, select, select_rules, Cache, CacheRules, Cause, Choice, Dialect, Error, Forward,
+    Forwarded, FwdStatus, Hop, Kind, Name, Outcome, Parser, Path, Policy, Priority, Response,
+    ResponsePriority, Reuse, RulesChoice, Seconds, StringRef, TokenRef, Urgency,
 };
 
 #[test]
 fn priorities_are_merged() {
     let client = Priority::parse("u=5, i").unwrap();
-    let server = Priority::parse("u=1").unwrap();
+    let server = ResponsePriority::parse("u=1").unwrap();
     let merged = client.merged_with(server);
     let one = Urgency::new(1).unwrap();
     assert_eq!(
@@ -60,14 +61,180 @@ fn a_hop_is_appended() {
         .with_collapsed(false);
     let hop = Hop::new(Name::token("here").unwrap()).with_outcome(forwarded);
     let own = "here;fwd=uri-miss;fwd-status=200;stored;collapsed=?0";
-    let of =
-        |lines: &[&str]| std::string::String::from_utf8(hop.append_to(lines).unwrap()).unwrap();
+    let of = |lines: &[&str]| hop.append_to(lines).unwrap();
     assert_eq!(of(&[]), own);
     assert_eq!(of(&[""]), own);
     assert_eq!(of(&["a;hit"]), format!("a;hit, {own}"));
     assert_eq!(of(&["a", "", "b, c"]), format!("a, b, c, {own}"));
+    assert_eq!(of(&["a; hit,b"]), format!("a;hit, b, {own}"));
     let path = Path::parse(of(&["a", "b"])).unwrap();
     assert_eq!(path.hops().last(), Some(hop));
+    // Nothing is appended to what is malformed: it would be ignored with the rest.
+    for text in ["a;hit,", "a b", "a;;b", "(", "\u{e9}"] {
+        let refused = hop.append_to([text]).unwrap_err();
+        assert_eq!(refused.as_absent(), Ok(std::string::String::new()));
+    }
+    // Only one of hit and fwd should appear (RFC 9211 section 2.1).
+    let both = Hop::new(TokenRef::constant("here")).with_outcome(Outcome::Conflict(forwarded));
+    assert_eq!(both.append_to(["a;hit"]), Err(Error::Invalid));
+    assert_eq!(both.append_to(["a;hit,"]), Err(Error::Invalid));
+    let old = Parser::new().with_dialect(Dialect::Rfc8941);
+    assert!(old.append_hop(&hop, ["a;x=@1"]).is_err());
+    assert_eq!(of(&["a;x=@1"]), format!("a;x=@1, {own}"));
+}
+
+// RFC 9218 section 8: an absent parameter leaves what the client asked for.
+#[test]
+fn priorities_of_responses() {
+    let of = |text: &str| ResponsePriority::parse(text).unwrap();
+    for text in ["", "u=3", "u=0", "i", "i=?0", "u=3, i=?0", "u=7, i"] {
+        assert_eq!(of(text).to_string(), text);
+        assert_eq!(of(text).serialize().unwrap(), text);
+    }
+    assert_eq!(of("u=8, i=1, x"), ResponsePriority::default());
+    let request = Priority::parse("u=5, i").unwrap();
+    let sent = |text: &str| {
+        let merged = request.merged_with(of(text));
+        (merged.urgency().get(), merged.incremental())
+    };
+    assert_eq!(sent(""), (5, true));
+    assert_eq!(sent("u=3"), (3, true));
+    assert_eq!(sent("i=?0"), (5, false));
+    let fixed = ResponsePriority::fixed(Priority::default());
+    assert_eq!(fixed.to_string(), "u=3, i=?0");
+    assert!(ResponsePriority::parse("u=1,").is_err());
+    let old = Parser::new().with_dialect(Dialect::Rfc8941);
+    assert!(old.response_priority("u=1, x=@1").is_err());
+    assert_eq!(of("u=1, x=@1").to_string(), "u=1");
+}
+
+// RFC 9111 sections 3, 4.2 and 5.2.2.
+#[test]
+fn a_cache_decides() {
+    let rows: [(&str, Cache, u64, Reuse, Option<Cause>); 12] = [
+        (
+            "max-age=60",
+            Cache::Shared,
+            59,
+            Reuse::Fresh { seconds: 1 },
+            Some(Cause::MaxAge),
+        ),
+        (
+            "max-age=60",
+            Cache::Private,
+            60,
+            Reuse::Stale,
+            Some(Cause::MaxAge),
+        ),
+        (
+            "max-age=60, no-cache",
+            Cache::Shared,
+            0,
+            Reuse::Revalidate,
+            Some(Cause::NoCache),
+        ),
+        (
+            "max-age=60, no-store",
+            Cache::Private,
+            0,
+            Reuse::NotStored,
+            Some(Cause::NoStore),
+        ),
+        (
+            "private, max-age=60",
+            Cache::Shared,
+            0,
+            Reuse::NotStored,
+            Some(Cause::Private),
+        ),
+        (
+            "private, max-age=60",
+            Cache::Private,
+            0,
+            Reuse::Fresh { seconds: 60 },
+            Some(Cause::MaxAge),
+        ),
+        (
+            "must-revalidate, max-age=1",
+            Cache::Private,
+            1,
+            Reuse::Revalidate,
+            Some(Cause::MustRevalidate),
+        ),
+        (
+            "s-maxage=1",
+            Cache::Shared,
+            1,
+            Reuse::Revalidate,
+            Some(Cause::SMaxage),
+        ),
+        (
+            "proxy-revalidate, max-age=1",
+            Cache::Shared,
+            1,
+            Reuse::Revalidate,
+            Some(Cause::ProxyRevalidate),
+        ),
+        (
+            "max-age=1.5, x",
+            Cache::Shared,
+            0,
+            Reuse::Stale,
+            Some(Cause::InvalidMaxAge),
+        ),
+        (
+            "s-maxage=a, max-age=9",
+            Cache::Shared,
+            0,
+            Reuse::Revalidate,
+            Some(Cause::InvalidSMaxage),
+        ),
+        ("a", Cache::Shared, 0, Reuse::Unspecified, None),
+    ];
+    for (text, cache, age, reuse, by) in rows {
+        let rules = CacheRules::parse(text).unwrap().unwrap();
+        let decision = rules.decide(
+            cache,
+            Response {
+                age,
+                ..Response::default()
+            },
+        );
+        assert_eq!((decision.reuse, decision.by), (reuse, by), "{text}");
+    }
+    let rules = CacheRules::parse("must-understand, no-store, max-age=5")
+        .unwrap()
+        .unwrap();
+    let understood = Response {
+        is_understood: true,
+        ..Response::default()
+    };
+    assert_eq!(
+        rules.decide(Cache::Shared, Response::default()).by,
+        Some(Cause::NoStore)
+    );
+    assert_eq!(
+        rules.decide(Cache::Shared, understood).fresh_for(),
+        Some(5.into())
+    );
+    let public = CacheRules::parse("public").unwrap().unwrap();
+    let other = Response {
+        lifetime: Some(u64::MAX),
+        age: 1,
+        is_understood: false,
+    };
+    let decision = public.decide(Cache::Shared, other);
+    assert_eq!(
+        decision.reuse,
+        Reuse::Fresh {
+            seconds: (1 << 31) - 1
+        }
+    ); // section 1.2.2
+    assert_eq!(decision.by, Some(Cause::Expires));
+    assert!(decision.allows_storing && decision.allows_authorized && decision.may_store());
+    assert_eq!(CacheRules::parse(""), Ok(None));
+    assert_eq!(select_rules(["", "a b"]), Ok(RulesChoice::Fallback));
+    assert_eq!(Cause::InvalidSMaxage.to_string(), "invalid s-maxage");
 }
 
 #[test]
@@ -319,7 +486,8 @@ fn the_servers_parameters_override() {
         ("i", "", "i"),
         ("", "", ""),
     ] {
-        let [client, server] = [client, server].map(|text| text.parse::<Priority>().unwrap());
+        let client: Priority = client.parse().unwrap();
+        let server: ResponsePriority = server.parse().unwrap();
         assert_eq!(client.merged_with(server).to_string(), merged);
     }
 }

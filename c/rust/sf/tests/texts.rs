@@ -2,7 +2,7 @@
 
 use sf::{
     check, equal, normalise, Dictionary, Error, FieldType, Item, Kind, List, ListEntry, Parser,
-    Path, Priority, Urgency,
+    Path, Priority, ResponsePriority, Urgency,
 };
 
 const PARTS: [&[u8]; 40] = [
@@ -182,7 +182,11 @@ fn any_text_is_parsed_or_refused() {
             };
             let changed = sets.change(&text).unwrap();
             let before = Priority::parse(&text).unwrap();
-            assert_eq!(Priority::parse(changed), Ok(before.merged_with(sets)));
+            let response = ResponsePriority {
+                urgency: sets.urgency,
+                incremental: sets.incremental,
+            };
+            assert_eq!(Priority::parse(changed), Ok(before.merged_with(response)));
         }
         accepted += usize::from(check(Kind::List, &text).is_ok());
         match Path::parse(&text) {

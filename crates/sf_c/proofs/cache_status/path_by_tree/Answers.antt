@@ -7,7 +7,7 @@ use Rattle.sf_c.proofs.cache_status.path_by_tree.Goals as goal
 few : (c : After-set) → IsShort c.args.text.now c.set.new.self
 few c =
     subst (λ p. IsShort c.args.text.now p) (sym c.set.ensures)
-    (content_few c.count.result c.size.result c.args.text.now c.in-Ok.field _ _
+    (content_few c.args.dialect c.count.result c.size.result c.args.text.now c.in-Ok.field _ _
     c.in-Ok-caches_in.caches c.count.ensures c.size.ensures c.in-Ok-flatten_hops.ensures
     c.hops.ensures c.hops_are_few.ensures.hops c.hops_are_few.ensures.bytes
     c.in-Ok.ensures.0.spelled c.in-Ok-caches_in.ensures.0)

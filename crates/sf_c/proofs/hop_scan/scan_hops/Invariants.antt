@@ -7,7 +7,7 @@ abbrev pub invariant-loop-hop : goal.invariant-loop-hop
 invariant-loop-hop l = record {
   same_hops : length l.hops ≡ length l.initial.hops;
   same_bytes : length l.bytes ≡ length l.initial.bytes;
-  so_far : PathSoFar l.text l.cursor l.hops l.bytes l.count l.used l.served;
+  so_far : PathSoFar l.fn.dialect l.text l.cursor l.hops l.bytes l.count l.used l.served;
 }
 
 abbrev pub decreases-loop-hop : goal.decreases-loop-hop

@@ -8,17 +8,17 @@ returns-in-Empty c =
     let there = c.in-Some.ensures in
     let ignored =
     ignored_empty
-    (record { policy = c.args.policy.now; refusal = c.of-refusal.result })
-    (record { policy = c.direct.new.policy; refusal = c.direct.new.refusal })
-    c.in-Some.text.now c.in-Empty.ensures in
-    (there.0, subst IsIgnored there.1 ignored, c.in-Empty.ensures.2.1)
+    (record { rules = c.args.rules.now; refusal = c.of-refusal.result })
+    (record { rules = c.rule.new.rules; refusal = c.rule.new.refusal })
+    c.in-Some.text.now c.args.dialect c.in-Empty.ensures in
+    (there.0, subst (IsIgnored c.args.dialect) there.1 ignored, c.in-Empty.ensures.2.1)
 
 pub returns-in-Refused : goal.returns-in-Refused
 returns-in-Refused c =
     let there = c.in-Some.ensures in
     let ignored =
     ignored_refused
-    (record { policy = c.args.policy.now; refusal = c.of-refusal.result })
-    (record { policy = c.direct.new.policy; refusal = c.direct.new.refusal })
-    c.in-Some.text.now c.in-Refused.ensures in
-    (there.0, subst IsIgnored there.1 ignored, c.in-Refused.ensures.1)
+    (record { rules = c.args.rules.now; refusal = c.of-refusal.result })
+    (record { rules = c.rule.new.rules; refusal = c.rule.new.refusal })
+    c.in-Some.text.now c.args.dialect c.in-Refused.ensures in
+    (there.0, subst (IsIgnored c.args.dialect) there.1 ignored, c.in-Refused.ensures.1)

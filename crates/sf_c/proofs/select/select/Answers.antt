@@ -15,7 +15,7 @@ returns-in-Answered c =
     let ignored = c.loop-place.invariant.ignored in (
       take place fields,
       get_or fields place nowhere,
-      reached c.args.texts.now fields place nowhere c.loop-place-test.true ignored,
+      reached c.args.dialect c.args.texts.now fields place nowhere c.loop-place-test.true ignored,
       index_of fields place c.loop-place-test.true,
       found.0,
       found.1,
@@ -29,9 +29,9 @@ returns-in-BadCall c =
     let kept = c.loop-place.invariant in (
       take place fields,
       get_or fields place nowhere,
-      reached c.args.texts.now fields place nowhere c.loop-place-test.true kept.ignored,
+      reached c.args.dialect c.args.texts.now fields place nowhere c.loop-place-test.true kept.ignored,
       found.0,
-      same_output _ _ _ _ kept.index_kept (found.1 ∙ kept.policy_kept),
+      same_output _ _ _ _ kept.index_kept (found.1 ∙ kept.rules_kept),
     )
 
 pub returns-in-OutOfMemory : goal.returns-in-OutOfMemory
@@ -42,9 +42,9 @@ returns-in-OutOfMemory c =
     let kept = c.loop-place.invariant in (
       take place fields,
       get_or fields place nowhere,
-      reached c.args.texts.now fields place nowhere c.loop-place-test.true kept.ignored,
+      reached c.args.dialect c.args.texts.now fields place nowhere c.loop-place-test.true kept.ignored,
       found.0,
-      same_output _ _ _ _ kept.index_kept (found.1 ∙ kept.policy_kept),
+      same_output _ _ _ _ kept.index_kept (found.1 ∙ kept.rules_kept),
     )
 
 pub loop-place-preserved : goal.loop-place-preserved
@@ -53,8 +53,8 @@ loop-place-preserved c =
     let kept = c.loop-place.invariant in
     record {
       ignored =
-          ignored_more c.args.texts.now c.args.fields.now c.loop-place.place nowhere
+          ignored_more c.args.dialect c.args.texts.now c.args.fields.now c.loop-place.place nowhere
           c.loop-place-test.true kept.ignored found.0 found.1;
-      policy_kept = found.2 ∙ kept.policy_kept;
+      rules_kept = found.2 ∙ kept.rules_kept;
       index_kept = kept.index_kept;
     }
