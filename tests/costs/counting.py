@@ -61,6 +61,7 @@ def built(crate, *words):
         for name in names
     )
     if not os.path.exists(program) or os.path.getmtime(program) < newest:
+        stop_if_built_only(program)
         if shutil.which("rt") is None:
             stop(f"no {program}, and no rt to build it: the Rattle toolchain is not on the PATH")
         run = ["rt", "run", *(["--", *words] if words else [])]
@@ -71,10 +72,19 @@ def built(crate, *words):
 
 
 def made(folder, target):
-    """Makes a target of a Makefile."""
+    """Makes a target of a Makefile; it is taken as it is where BUILT_ONLY is set."""
     words = ["make", "--no-print-directory", "-C", f"{TOP}/{folder}", target]
+    if os.environ.get("BUILT_ONLY") and os.path.exists(f"{TOP}/{folder}/{target}"):
+        return
+    stop_if_built_only(f"{folder}/{target}")
     if subprocess.run(words, stdout=sys.stderr).returncode:
         stop(f"{folder}/{target} is not made")
+
+
+def stop_if_built_only(what):
+    """Ends a script that would prove and build something, where the variable BUILT_ONLY is set."""
+    if os.environ.get("BUILT_ONLY"):
+        stop(f"{what} is not built, or a source is newer")
 
 
 def compiled(source, to, *flags):
