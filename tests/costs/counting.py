@@ -19,6 +19,9 @@ COPYING = f"glibc.cpu.hwcaps={WITHOUT}"
 # much behind other records as in a program of its own.
 ALLOCATING = "glibc.malloc.tcache_count=0:glibc.malloc.mxfast=0"
 
+# The most seconds of the processor that a run with some records takes; most take three.
+SECONDS = 60
+
 
 def stop(why):
     """Ends a script that cannot count."""
@@ -109,8 +112,8 @@ def tuned(*tunables):
 
 def counted(program, records, folder):
     """The instructions of the calls of each record, which one run of the program makes; `None` for
-    a record at which it fails. The calls begin and end where the program calls `calls_begin`
-    and `calls_end`."""
+    a record at which it fails or takes too long. The calls begin and end where the program calls
+    `calls_begin` and `calls_end`."""
     source = tempfile.TemporaryFile(dir=folder)
     source.write(b"".join(records))
     source.seek(0)
@@ -122,7 +125,8 @@ def counted(program, records, folder):
             f"--callgrind-out-file={work}/counts",
         ]
         how = {"stdin": source, "capture_output": True, "env": tuned(COPYING, ALLOCATING)}
-        ran = subprocess.run([*VALGRIND, *flags, program], **how)
+        limited = ["sh", "-c", f'ulimit -t {SECONDS}; exec "$@"', "", *VALGRIND, *flags, program]
+        ran = subprocess.run(limited, **how)
         if ran.returncode and len(records) > 1:
             half = len(records) // 2
             halves = (records[:half], records[half:])
