@@ -1,7 +1,8 @@
 """The calls that are made on shapes: operations of crates/sf_calls and, with `c_`, of calls.c."""
 
-from counting import TOP, built, compiled, made, record
+import functools
 
+from counting import TOP, built, compiled, made, record
 
 
 def calls_of(names, kinds=("item", "list", "dict")):
@@ -76,10 +77,16 @@ def programs(calls, folder):
     return made_by
 
 
+@functools.lru_cache(maxsize=4)
+def text_of(shape, size):
+    """The text of a shape. The calls on it are made one after the other, so few texts are kept."""
+    return shape.make(size)
+
+
 def job(made_by, shape, call, size):
     """The program that makes a call on a shape of this size, and its record."""
     operation, _, parameter = call.partition(" ")
-    text = shape.make(size)
+    text = text_of(shape, size)
     if call in ("sf_targeted", "sflint"):
         name = NAMES[shape.kind]
         text = name + text.replace(b"\n", b"\n" + name)

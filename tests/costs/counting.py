@@ -19,6 +19,9 @@ COPYING = f"glibc.cpu.hwcaps={WITHOUT}"
 # much behind other records as in a program of its own.
 ALLOCATING = "glibc.malloc.tcache_count=0:glibc.malloc.mxfast=0"
 
+# The most seconds of the processor that a run with some records takes; most take three.
+SECONDS = 60
+
 
 def stop(why):
     """Ends a script that cannot count."""
@@ -61,6 +64,7 @@ def built(crate, *words):
         for name in names
     )
     if not os.path.exists(program) or os.path.getmtime(program) < newest:
+        stop_if_built_only(program)
         if shutil.which("rt") is None:
             stop(f"no {program}, and no rt to build it: the Rattle toolchain is not on the PATH")
         run = ["rt", "run", *(["--", *words] if words else [])]
@@ -71,10 +75,19 @@ def built(crate, *words):
 
 
 def made(folder, target):
-    """Makes a target of a Makefile."""
+    """Makes a target of a Makefile; it is taken as it is where BUILT_ONLY is set."""
     words = ["make", "--no-print-directory", "-C", f"{TOP}/{folder}", target]
+    if os.environ.get("BUILT_ONLY") and os.path.exists(f"{TOP}/{folder}/{target}"):
+        return
+    stop_if_built_only(f"{folder}/{target}")
     if subprocess.run(words, stdout=sys.stderr).returncode:
         stop(f"{folder}/{target} is not made")
+
+
+def stop_if_built_only(what):
+    """Ends a script that would prove and build something, where the variable BUILT_ONLY is set."""
+    if os.environ.get("BUILT_ONLY"):
+        stop(f"{what} is not built, or a source is newer")
 
 
 def compiled(source, to, *flags):
@@ -99,8 +112,8 @@ def tuned(*tunables):
 
 def counted(program, records, folder):
     """The instructions of the calls of each record, which one run of the program makes; `None` for
-    a record at which it fails. The calls begin and end where the program calls `calls_begin`
-    and `calls_end`."""
+    a record at which it fails or takes too long. The calls begin and end where the program calls
+    `calls_begin` and `calls_end`."""
     source = tempfile.TemporaryFile(dir=folder)
     source.write(b"".join(records))
     source.seek(0)
@@ -112,7 +125,8 @@ def counted(program, records, folder):
             f"--callgrind-out-file={work}/counts",
         ]
         how = {"stdin": source, "capture_output": True, "env": tuned(COPYING, ALLOCATING)}
-        ran = subprocess.run([*VALGRIND, *flags, program], **how)
+        limited = ["sh", "-c", f'ulimit -t {SECONDS}; exec "$@"', "", *VALGRIND, *flags, program]
+        ran = subprocess.run(limited, **how)
         if ran.returncode and len(records) > 1:
             half = len(records) // 2
             halves = (records[:half], records[half:])
