@@ -8,7 +8,7 @@ pub loop-hop-init : goal.loop-hop-init
 loop-hop-init c = record {
   same_hops = refl;
   same_bytes = refl;
-  so_far = none_read _ _ _ _ _ c.new-cursor.ensures;
+  so_far = none_read _ _ _ _ _ c.new_in-cursor.ensures;
 }
 
 pub loop-hop-preserved : goal.loop-hop-preserved
