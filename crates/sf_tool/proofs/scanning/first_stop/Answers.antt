@@ -1,16 +1,16 @@
 use Rattle.std.proofs.Common.{rules, ◌≢◌}
 use Rattle.sf_value.specs.declared.value.Kind.TheVariants as kind_is
 use Rattle.sf_tool.proofs.AcceptedLines.{has_read_line, has_read_all}
-use Rattle.sf_tool.proofs.scanning.unaccepted_line.Goals as goal
+use Rattle.sf_tool.proofs.scanning.first_stop.Goals as goal
 
 pub loop-line-preserved : goal.loop-line-preserved
 loop-line-preserved c =
     has_read_line _ _ _ c.loop-line.rest.now c.in-Some.line.now c.in-Some.more.now
-    c.trimmed.result.now c.loop-line.invariant c.in-Some.ensures.lines c.trimmed.ensures
+    c.trimmed-text.result.now _ c.loop-line.invariant c.in-Some.ensures.lines c.trimmed-text.ensures
     (c.has_members.ensures (search rules))
 
 pub returns : goal.returns
 returns c =
     let kind : c.args.kind ≢ kind_is.Item = search rules in
-    has_read_all _ _ _ c.loop-line.rest.now kind c.loop-line.invariant
+    has_read_all _ _ _ c.loop-line.rest.now _ kind c.loop-line.invariant
     c.in_default-split_line.ensures.lines
