@@ -1,6 +1,6 @@
 -- Lines that come after members, parsed after one member in their place.
 use Rattle.std.proofs.Common.{◌≡◌, ℕ, ◌+◌, ◌-◌, ◌≤◌, Bool, List, [], ◌∷◌, ◌++◌, length}
-use Rattle.std.proofs.Common.{Option, Some, None, Err, inr, refl, sym, ap, ◌∙◌, subst}
+use Rattle.std.proofs.Common.{Option, Some, None, Err, inl, inr, refl, sym, ap, ◌∙◌, subst}
 use Rattle.std.proofs.Common.{append_assoc, length-append, arith}
 use Rattle.std.proofs.Math.Seq.{take-append_seam}
 use Rattle.sf_value.specs.declared.dialect.Dialect.{Dialect}
@@ -20,7 +20,7 @@ use Rattle.sf_parse.proofs.Interchange.{refusals_move, comma_viable, members_for
 use Rattle.sf_view.proofs.Members.{only_of}
 use Rattle.sf_tool.specs.Lines.{lines_of}
 use Rattle.sf_tool.specs.Run.{joined}
-use Rattle.sf_tool.specs.Scanning.{SpellsMembers, StopsAfter}
+use Rattle.sf_tool.specs.Scanning.{SpellsMembers, StopsAfter, StopsAt}
 
 -- the field of these members
 field_of : (d : Dialect) (k : Kind) (t : List ℕ) → SpellsMembers d k t
@@ -155,3 +155,9 @@ refused_within d k input rest place at (Some b) expected may_end s r = (
   after d k input rest place s at (Some b) expected may_end r,
   within d k input rest place s at (Some b) expected may_end r,
 )
+
+-- the scan did not stop at the first line
+pub stopped_after : (d : Dialect) (k : Kind) (input rest : List ℕ) (place : ℕ)
+    → StopsAt d k input rest place → (place ≡ 0 → ⊥) → StopsAfter d k input rest place
+stopped_after d k input rest place (inl e) n = absurd (n e)
+stopped_after d k input rest place (inr s) n = s
