@@ -39,24 +39,28 @@ one_member d kind.Item t h = absurd h
 one_member d kind.List t h = (
   member.Item (item (Token one) []),
   [],
-  [],
-  one,
-  [],
-  refl,
-  tt,
-  (one, [], refl, (one, [], refl, (refl, (refl, tt)), ([], refl, refl)), refl),
-  tt,
+  (
+    [],
+    one,
+    [],
+    refl,
+    tt,
+    (one, [], refl, (one, [], refl, (refl, (refl, tt)), ([], refl, refl)), refl),
+    tt,
+  ),
 )
 one_member d kind.Dict t h = (
   (one, flag []),
   [],
-  [],
-  one,
-  [],
-  refl,
-  tt,
-  (one, [], refl, ([], (refl, tt), inr ([], refl, refl, ([], refl, refl))), refl),
-  tt,
+  (
+    [],
+    one,
+    [],
+    refl,
+    tt,
+    (one, [], refl, ([], (refl, tt), inr ([], refl, refl, ([], refl, refl))), refl),
+    tt,
+  ),
 )
 
 -- members, a comma and a space
