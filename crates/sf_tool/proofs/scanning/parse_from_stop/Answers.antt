@@ -1,7 +1,6 @@
-use Rattle.std.proofs.Common.{◌≡◌, ◌∷◌, [], ◌×◌, ◌≤◌, ◌+◌, Err, Ok, length, rules, arith, subst}
+use Rattle.std.proofs.Common.{Err, Ok, arith, rules, subst}
 use Rattle.sf_parse.specs.declared.refusal.Refusal.TheVariants.{Syntax}
 use Rattle.sf_field.specs.Lines.{ParsesLines}
-use Rattle.sf_tool.specs.Scanning.{StopsAfter}
 use Rattle.sf_tool.proofs.AfterMembers.{stopped_after, accepted_after, refused_after, refused_within}
 use Rattle.sf_tool.proofs.InputLines.{length-joined}
 use Rattle.sf_tool.proofs.scanning.parse_from_stop.Goals as goal
