@@ -41,6 +41,6 @@ returns-in-Err-Syntax c =
     subst (λ ls. ParsesLines d k ls (Err (Syntax e.place e.found e.expected e.may_end)))
     c.after-lines.ensures (rw e.field-0-is at e.ensures.parses) in (
       refused_after d k c.args.input.now c.args.stop.rest.now c.args.stop.place e.place e.found
-      e.expected e.may_end s parsed.0,
+          e.expected e.may_end s parsed.0,
       tt,
     )
