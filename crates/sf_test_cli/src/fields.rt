@@ -205,6 +205,128 @@ fn checks_lines(rt: HostRuntime) -> Result<(), Fail> {
     Ok(())
 }
 
+/// Lines after members, which `check` and `normalise` read one by one: a mistake in a later line, and
+/// Strings that span lines.
+#[test]
+fn lines_after_members(rt: HostRuntime) -> Result<(), Fail> {
+    let seed = RandomState::new(&rt)?;
+    let refused_lists: [Row; 7] = [
+        (
+            b"a\nb\n=\nc\nd\n",
+            b"refused at 6 found 0x3d expected 09 20 22 25 28 2a 2d 30-3a 3f-5a 61-7a\n",
+            REFUSED,
+        ),
+        (
+            b"\"a\"\r\n =\r\n\r\n\r\n",
+            b"refused at 5 found 0x3d expected 09 20 22 25 28 2a 2d 30-3a 3f-5a 61-7a\n",
+            REFUSED,
+        ),
+        // The mistake is after a String that spans two lines.
+        (
+            b"a\n\"b\nc\"\n=\nd\n",
+            b"refused at 11 found 0x3d expected 09 20 22 25 28 2a 2d 30-3a 3f-5a 61-7a\n",
+            REFUSED,
+        ),
+        (
+            b"a\nb;\nc\n",
+            b"refused at 5 found 0x2c expected 20 2a 61-7a\n",
+            REFUSED,
+        ),
+        (
+            b"a\nb\nc;",
+            b"refused at 8 ended expected 20 2a 61-7a\n",
+            REFUSED,
+        ),
+        (
+            b"a\n(b\nc)\n",
+            b"refused at 5 found 0x2c expected 20-21 23-27 29-2b 2d-3b 41-5a 5e-7a 7c 7e\n",
+            REFUSED,
+        ),
+        (
+            b"a\n\"b\nc\n",
+            b"refused at 8 ended expected 20-7e\n",
+            REFUSED,
+        ),
+    ];
+    let accepted_lists: [Row; 2] = [
+        (
+            b"b\n\"x\ny\"\na;q=1.50",
+            b"b, \"x, y\", a;q=1.5\n",
+            ACCEPTED,
+        ),
+        (b"a\n(b  c)\n\"\n\"\n", b"a, (b c), \", \"\n", ACCEPTED),
+    ];
+    let check = Request::Check(Dialect::Rfc9651, Kind::List);
+    let normalise = Request::Normalise(Dialect::Rfc9651, Kind::List);
+    expect_rows(&rt, &seed, &check, &refused_lists);
+    expect_rows(&rt, &seed, &normalise, &refused_lists);
+    expect_rows(&rt, &seed, &normalise, &accepted_lists);
+    let refused_dicts: [Row; 2] = [
+        (
+            b"a=1\nb\n1\nc\n",
+            b"refused at 8 found 0x31 expected 09 20 2a 61-7a\n",
+            REFUSED,
+        ),
+        (
+            b"a\nb=\n",
+            b"refused at 5 ended expected 22 25 28 2a 2d 30-3a 3f-5a 61-7a\n",
+            REFUSED,
+        ),
+    ];
+    let accepted_dicts: [Row; 2] = [
+        (b"a=1\nb=\"x\ny\"\na=2", b"a=2, b=\"x, y\"\n", ACCEPTED),
+        (
+            b"c\nb=\"x\ny\";p;q;p=?0\na",
+            b"c, b=\"x, y\";p=?0;q, a\n",
+            ACCEPTED,
+        ),
+    ];
+    let check = Request::Check(Dialect::Rfc9651, Kind::Dict);
+    let normalise = Request::Normalise(Dialect::Rfc9651, Kind::Dict);
+    expect_rows(&rt, &seed, &check, &refused_dicts);
+    expect_rows(&rt, &seed, &normalise, &refused_dicts);
+    expect_rows(&rt, &seed, &normalise, &accepted_dicts);
+    Ok(())
+}
+
+/// Four long lines that are accepted, a line that is refused, and 786,400 empty lines.
+fn lines_after_a_mistake(alloc: Global) -> Result<Vec<u8>, AllocError> {
+    let mut bytes = Vec::new(alloc);
+    for _ in 0..4u32 {
+        bytes.push(b'"')?;
+        let spaces = spaces(alloc, 65_535)?;
+        bytes.extend_from_slice(spaces.as_slice())?;
+        bytes.extend_from_slice(b"\"\n")?;
+    }
+    bytes.extend_from_slice(b"=\n")?;
+    for _ in 0..786_400u32 {
+        bytes.push(b'\n')?;
+    }
+    Ok(bytes)
+}
+
+#[test]
+fn many_lines_after_a_mistake(rt: HostRuntime) -> Result<(), Fail> {
+    let seed = RandomState::new(&rt)?;
+    let input = lines_after_a_mistake(rt.alloc())?;
+    assert_eq!(&rt; input.len(), 1_048_554);
+    let text = b"refused at 262156 found 0x3d expected 09 20 22 25 28 2a 2d 30-3a 3f-5a 61-7a\n";
+    for request in [
+        Request::Check(Dialect::Rfc9651, Kind::List),
+        Request::Normalise(Dialect::Rfc9651, Kind::List),
+        Request::Show(Dialect::Rfc9651, Kind::List),
+    ] {
+        expect_long(&rt, &seed, &request, input.as_slice(), text, REFUSED);
+    }
+    let mut blanks = spaces(rt.alloc(), 1_048_500)?;
+    blanks.insert(0, b'\n')?;
+    blanks.insert(0, b'=')?;
+    let text = b"refused at 0 found 0x3d expected 20 22 25 2a 2d 30-3a 3f-5a 61-7a\n";
+    let show = Request::Show(Dialect::Rfc9651, Kind::Item);
+    expect_long(&rt, &seed, &show, blanks.as_slice(), text, REFUSED);
+    Ok(())
+}
+
 #[test]
 fn repeated_keys(rt: HostRuntime) -> Result<(), Fail> {
     let seed = RandomState::new(&rt)?;

@@ -1,7 +1,7 @@
 -- Lines that are accepted one by one, and the text that they are together.
-use Rattle.std.proofs.Common.{◌≡◌, ◌≢◌, ℕ, ◌*◌, ◌≤◌, ◌⊎◌, inl, inr, true, List, []}
+use Rattle.std.proofs.Common.{◌≡◌, ◌≢◌, ℕ, ◌+◌, ◌*◌, ◌≤◌, ◌⊎◌, inl, inr, true, List, []}
 use Rattle.std.proofs.Common.{◌∷◌, ◌++◌, length, map, Result, refl, sym, ap, ◌∙◌}
-use Rattle.std.proofs.Common.{subst, arith, append_assoc, append-nil}
+use Rattle.std.proofs.Common.{subst, arith, append_assoc, length-append}
 use Rattle.std.specs.Str.Lines.{lines}
 use Rattle.sf_value.specs.declared.dialect.Dialect.{Dialect}
 use Rattle.sf_value.specs.declared.value.Field.{Field}
@@ -25,7 +25,7 @@ use Rattle.sf_field.proofs.Feeding as fed
 use Rattle.sf_field.proofs.OneText.{parsed_lines}
 use Rattle.sf_tool.specs.Lines.{trim, lines_of}
 use Rattle.sf_tool.specs.Run.{joined, input_limit}
-use Rattle.sf_tool.specs.Scanning.{SpellsSome, SpellsMembers}
+use Rattle.sf_tool.specs.Scanning.{SpellsSome, SpellsMembers, StopsAt}
 
 module _ {X : Type 0} (P : List ℕ → X → Type 0) where
   commas_append : (s before behind f r : List ℕ) (xs : List X) (y : X) (ys : List X)
@@ -111,49 +111,84 @@ empty_only d kind.Item n = absurd (n refl)
 empty_only d kind.List n = (list_of [], only_of d kind.List [] (list_of []) tt)
 empty_only d kind.Dict n = (dict_of [], only_of d kind.Dict [] (dict_of []) ([], refl, tt))
 
--- no line was read, or what was read has members, and the lines of the rest come after it
-abbrev pub HasRead : Dialect → Kind → List ℕ → List ℕ → Type 0
-HasRead d k input rest =
-    (rest ≡ input)
-    ⊎ ((p : List ℕ) × SpellsMembers d k p × (joined input ≡ p ++ fed.behind true (lines_of rest)))
+-- no line was read; or what was read has members, and the lines of the rest come after it, at this
+-- place of the joined text
+abbrev pub HasRead : Dialect → Kind → List ℕ → List ℕ → ℕ → Type 0
+HasRead d k input rest place =
+    ((rest ≡ input) × (place ≡ 0))
+    ⊎ ((p : List ℕ) × SpellsMembers d k p × (place ≡ length p + 2)
+    × (joined input ≡ join (p ∷ lines_of rest)))
 
 -- the lines of an input from the first on
 pub first_of : (input line more text : List ℕ) → lines input ≡ line ∷ lines more
     → text ≡ trim line → lines_of input ≡ text ∷ lines_of more
 first_of input line more text e t = ap (map trim) e ∙ ap (λ l. l ∷ lines_of more) (sym t)
 
+-- two lines, joined as one
+join_two : (p t : List ℕ) (ls : List (List ℕ))
+    → join (p ∷ t ∷ ls) ≡ join ((p ++ 44 ∷ 32 ∷ t) ∷ ls)
+join_two p t ls =
+    ap (λ z. p ++ 44 ∷ 32 ∷ z) (fed.joined (t ∷ ls))
+    ∙ sym (append_assoc p (44 ∷ 32 ∷ t) (fed.behind true ls))
+    ∙ sym (fed.joined ((p ++ 44 ∷ 32 ∷ t) ∷ ls))
+
 -- one more line was read
-pub has_read_line : (d : Dialect) (k : Kind) (input rest line more text : List ℕ)
-    → HasRead d k input rest → lines rest ≡ line ∷ lines more → text ≡ trim line
-    → SpellsMembers d k text → HasRead d k input more
-has_read_line d k input rest line more text (inl e) l t m =
+pub has_read_line : (d : Dialect) (k : Kind) (input rest line more text : List ℕ) (place : ℕ)
+    → HasRead d k input rest place → lines rest ≡ line ∷ lines more → text ≡ trim line
+    → SpellsMembers d k text → HasRead d k input more (place + (length text + 2))
+has_read_line d k input rest line more text place (inl (e, z)) l t m =
     inr (
       text,
       m,
-      ap joined (sym e)
-          ∙ ap join (first_of rest line more text l t)
-          ∙ fed.joined (text ∷ lines_of more),
+      omega (arith, z),
+      ap joined (sym e) ∙ ap join (first_of rest line more text l t),
     )
-has_read_line d k input rest line more text (inr (p, h, e)) l t m =
+has_read_line d k input rest line more text place (inr (p, h, n, e)) l t m =
     inr (
       p ++ 44 ∷ 32 ∷ text,
       members_join d k p text h m,
+      omega (arith, n, length-append p (44 ∷ 32 ∷ text)),
       e
-          ∙ ap (λ ls. p ++ fed.behind true ls) (first_of rest line more text l t)
-          ∙ sym (append_assoc p (44 ∷ 32 ∷ text) (fed.behind true (lines_of more))),
+          ∙ ap (λ ls. join (p ∷ ls)) (first_of rest line more text l t)
+          ∙ join_two p text (lines_of more),
     )
 
+-- what was read is within the joined text
+pub has_read_within : (d : Dialect) (k : Kind) (input rest : List ℕ) (place : ℕ)
+    → HasRead d k input rest place → place ≤ length (joined input) + 2
+has_read_within d k input rest place (inl (e, z)) = omega (arith, z)
+has_read_within d k input rest place (inr (p, h, n, e)) =
+    let left = fed.behind true (lines_of rest) in
+    let whole : length (joined input) ≡ length (p ++ left) =
+    ap length (e ∙ fed.joined (p ∷ lines_of rest)) in
+    omega (arith, n, whole, length-append p left)
+
+-- the next line is not accepted by itself
+pub has_read_stops : (d : Dialect) (k : Kind) (input rest line more : List ℕ) (place : ℕ)
+    → HasRead d k input rest place → lines rest ≡ line ∷ lines more
+    → StopsAt d k input rest place
+has_read_stops d k input rest line more place (inl (e, z)) l = inl z
+has_read_stops d k input rest line more place (inr (p, h, n, e)) l =
+    inr (record {
+      text = p;
+      line = trim line;
+      more = lines_of more;
+      members = h;
+      place_is = n;
+      left = ap (map trim) l;
+      whole = e ∙ ap (λ ls. join (p ∷ map trim ls)) l;
+    })
+
 -- all lines were read
-pub has_read_all : (d : Dialect) (k : Kind) (input rest : List ℕ) → k ≢ kind.Item
-    → HasRead d k input rest → lines rest ≡ [] → (v : Field) × IsOnly d k (joined input) v
-has_read_all d k input rest n (inl e) none =
+pub has_read_all : (d : Dialect) (k : Kind) (input rest : List ℕ) (place : ℕ) → k ≢ kind.Item
+    → HasRead d k input rest place → lines rest ≡ [] → (v : Field) × IsOnly d k (joined input) v
+has_read_all d k input rest place n (inl (e, z)) none =
     let P : List ℕ → Type 0 = λ t. (v : Field) × IsOnly d k t v in
     let empty : joined input ≡ [] = ap joined (sym e) ∙ ap (λ ls. join (map trim ls)) none in
     subst P (sym empty) (empty_only d k n)
-has_read_all d k input rest n (inr (p, h, e)) none =
+has_read_all d k input rest place n (inr (p, h, m, e)) none =
     let P : List ℕ → Type 0 = λ t. (v : Field) × IsOnly d k t v in
-    let whole : joined input ≡ p =
-    e ∙ ap (λ ls. p ++ fed.behind true (map trim ls)) none ∙ append-nil p in
+    let whole : joined input ≡ p = e ∙ ap (λ ls. join (p ∷ map trim ls)) none in
     subst P (sym whole) (members_only d k p h)
 
 -- a result for the joined text, which is short, is one for the lines

@@ -11,3 +11,4 @@ pub mod Reports
 pub mod Places
 pub mod Spots
 pub mod AcceptedLines
+pub mod AfterMembers

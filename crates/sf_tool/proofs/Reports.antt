@@ -13,7 +13,7 @@ use Rattle.sf_parse.specs.declared.refusal.Refusal.TheVariants.{OutOfMemory, Syn
 use Rattle.sf_parse.specs.declared.refusal.Refusal.TheVariants.{ReadFault}
 use Rattle.sf_parse.specs.AllocationFree.{TakesNoMemory}
 use Rattle.sf_parse.specs.AllocationFreeParsers.{NotForMemory}
-use Rattle.sf_parse.specs.Parsers.{IsSyntax}
+use Rattle.sf_parse.specs.Parsers.{IsOnly, IsSyntax}
 use Rattle.sf_write.specs.Writing.{SendsText}
 use Rattle.sf_field.specs.Asking.{Asks, Means}
 use Rattle.sf_field.specs.Lines.{ParsesLines}
@@ -39,6 +39,7 @@ use Rattle.sf_tool.specs.Run.{joined, input_limit, view_request, view_text}
 use Rattle.sf_tool.specs.Run.{MayAllocate, Refuses, Responds, Answers, Reports, ReportsText}
 use Rattle.sf_tool.specs.Run.{ReportsRefusal, ReportsAskFault, ReportsInputFault, IsOfText}
 use Rattle.sf_tool.specs.Run.{IsAskOfText}
+use Rattle.sf_tool.specs.Scanning.{ReportsOnly}
 
 -- the text of an input was to be written
 pub reports_text : (request : Request) (input text : List ℕ) (status : Status) (old new : SinkState)
@@ -123,6 +124,15 @@ responds : (view : View) (d : Dialect) (kind : Kind) (input : List ℕ)
     → RespondsTo (view_request view d kind) d kind (view_text view) input
 responds Tree d kind input text status r = r
 responds view d kind input text status r = r
+
+-- a view of the only value of the joined lines was to be written
+pub reports_only : (view : View) (d : Dialect) (kind : Kind) (input t : List ℕ) (old new : SinkState)
+    (result : Status) → t ≡ joined input → ReportsOnly (view_text view) d kind t old new result
+    → Reports (view_request view d kind) input old new result
+reports_only view d kind input t old new result e (v, only, r) =
+    reports_text (view_request view d kind) input (view_text view v) Accepted old new result
+    (responds view d kind input (view_text view v) Accepted
+    (v, subst (λ s. IsOnly d kind s v) e only, refl)) r
 
 for-memory : (view : View) (d : Dialect) (kind : Kind) (input : List ℕ) (e : Refusal)
     → (TakesNoMemory kind (joined input) → NotForMemory (Err e)) → e ≡ OutOfMemory

@@ -1,5 +1,6 @@
 -- The field lines of an input.
-use Rattle.std.specs.Prelude.{ℕ, ◌-◌, Bool, List, map, length, take, drop, ◌==◌}
+use Rattle.std.specs.Prelude.{ℕ, ◌-◌, Bool, List, ◌∷◌, map, length, take, drop, ◌==◌}
+use Rattle.std.specs.Prelude.{Option, Some, None}
 use Rattle.std.specs.List.{prefix_len, suffix_len}
 use Rattle.std.specs.Str.Lines.{lines}
 use Rattle.sf_value.specs.Ascii.{line_feed}
@@ -22,3 +23,8 @@ trim bytes = without_trail (without_lead bytes)
 -- then without the blanks at its ends; an empty last part is no line
 abbrev pub lines_of : List ℕ → List (List ℕ)
 lines_of input = map trim (lines input)
+
+-- a line, if there is one, and then the lines of an input
+abbrev pub lines_after : Option (List ℕ) → List ℕ → List (List ℕ)
+lines_after None input = lines_of input
+lines_after (Some line) input = line ∷ lines_of input

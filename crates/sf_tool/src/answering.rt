@@ -10,8 +10,8 @@ ghost use Rattle.sf_tool.specs.ChoiceLines.{field_lines, refused_line};
 ghost use Rattle.sf_tool.specs.PathLines.{not_a_cache_line, path_lines};
 ghost use Rattle.sf_tool.specs.PriorityLine.{priority_line};
 ghost use Rattle.sf_tool.specs.Run.{ReportsText, ReportsRefusal, ReportsAskFault, IsOfText, IsAskOfText};
-ghost use Rattle.sf_tool.specs.Run.{view_text};
-ghost use Rattle.sf_tool.specs.Scanning.{ReportsCanonical};
+ghost use Rattle.sf_tool.specs.Run.{canonical_line, view_text};
+ghost use Rattle.sf_tool.specs.Scanning.{ReportsOnly};
 ghost use Rattle.sf_tool.specs.Texts.{too_long_line};
 
 use crate::choice::put_chosen;
@@ -24,7 +24,7 @@ use sf_field::{AskFault, UseFault};
 use sf_parse::Refusal;
 use sf_use::{CachePath, Policy, Priority};
 use sf_value::{Dialect, Field, Kind, Sink};
-use sf_view::{Node, Unviewed, scan_settled};
+use sf_view::{Node, accepts, scan_settled};
 use sf_write::{Sent, put, put_field};
 use std::alloc::Global;
 
@@ -92,17 +92,45 @@ const FEW: usize = 32;
 fn answer_viewed<W: Sink>(nodes: &sf_view::View, kind: Kind, sink: &mut W) -> Status
     // Accepted if the whole text was written; Stopped if a write failed after a prefix of it.
     ensures { (d : Which) (t : List ℕ) → IsViewed d kind t nodes.now
-        → ReportsCanonical d kind t (W.state sink.old) (W.state sink.new) result }
+        → ReportsOnly canonical_line d kind t (W.state sink.old) (W.state sink.new) result }
 {
     let sent = sf_view::put_view(nodes, kind, Ok(0), sink);
     ended(put(b"\n", sent, sink), Status::Accepted)
+}
+
+/// Writes a view of the field that a text spells, without building it. `None` if it is the tree, or
+/// if a scan declined the text: it is refused, or [`answer_nodes`] makes no nodes of it; then nothing
+/// was written.
+pub(crate) fn answer_scanned<W: Sink>(
+    alloc: Global,
+    view: View,
+    dialect: Dialect,
+    kind: Kind,
+    text: &[u8],
+    sink: &mut W,
+) -> Option<Status>
+    // Accepted if the whole text was written; Stopped if a write failed after a prefix of it.
+    ensures { MatchOption result (W.state sink.new ≡ W.state sink.old)
+        (λ status. ReportsOnly (view_text view) dialect kind text.now
+        (W.state sink.old) (W.state sink.new) status) }
+{
+    match view {
+        View::Tree => return None,
+        View::Verdict => {
+            if accepts(dialect, kind, text) {
+                return Some(answer_made(b"accepted\n", Status::Accepted, sink));
+            }
+            return None;
+        }
+        View::Canonical => return answer_nodes(alloc, dialect, kind, text, sink),
+    }
 }
 
 /// Writes the canonical text of the field that a text spells, and a line feed, from nodes that
 /// point into the text. `None` if there are no nodes, because the text is refused, a key of
 /// parameters is repeated, too many keys have one hash, or an allocation failed; then nothing was
 /// written.
-pub(crate) fn answer_nodes<W: Sink>(
+fn answer_nodes<W: Sink>(
     alloc: Global,
     dialect: Dialect,
     kind: Kind,
@@ -111,16 +139,24 @@ pub(crate) fn answer_nodes<W: Sink>(
 ) -> Option<Status>
     // Accepted if the whole text was written; Stopped if a write failed after a prefix of it.
     ensures { MatchOption result (W.state sink.new ≡ W.state sink.old)
-        (λ status. ReportsCanonical dialect kind text.now
+        (λ status. ReportsOnly canonical_line dialect kind text.now
         (W.state sink.old) (W.state sink.new) status) }
 {
     let mut few = [Node::NONE; FEW];
-    match sf_view::View::scan(dialect, kind, text, &mut few) {
-        Ok(view) => return Some(answer_viewed(&view, kind, sink)),
-        // More nodes don't help: the text is refused, or a key of parameters is repeated.
-        Err(Unviewed::Declined) if kind != Kind::Dict => return None,
-        Err(_) => return answer_many_nodes(alloc, dialect, kind, text, sink),
+    if let Ok(view) = sf_view::View::scan(dialect, kind, text, &mut few) {
+        return Some(answer_viewed(&view, kind, sink));
     }
+    // More nodes don't help: the text is refused, or a key of parameters is repeated.
+    if kind != Kind::Dict && !are_used_up(&few) {
+        return None;
+    }
+    answer_many_nodes(alloc, dialect, kind, text, sink)
+}
+
+/// Whether a scan may have had too few nodes, so that one of the last three was written: only an Inner
+/// List and an Item in it are written after the nodes of their parts.
+fn are_used_up(nodes: &[Node; FEW]) -> bool {
+    nodes[FEW - 3..].iter().any(|node| node.size != 0)
 }
 
 /// The same with more nodes than are on the stack, and for a Dictionary in which a key is repeated.
@@ -132,7 +168,7 @@ fn answer_many_nodes<W: Sink>(
     sink: &mut W,
 ) -> Option<Status>
     ensures { MatchOption result (W.state sink.new ≡ W.state sink.old)
-        (λ status. ReportsCanonical dialect kind text.now
+        (λ status. ReportsOnly canonical_line dialect kind text.now
         (W.state sink.old) (W.state sink.new) status) }
 {
     let mut nodes = Vec::new(alloc);

@@ -89,16 +89,19 @@ pub fn split_line(input: &[u8]) -> Option<(&[u8], &[u8])>
 /// is dropped, and then the spaces and tabs at both ends of each line.
 #[derive(Drop)]
 pub(crate) struct InputLines<'a> {
+    /// A line that comes before those of the input.
+    first: Option<&'a [u8]>,
     rest: &'a [u8],
 }
 
 impl<'a> Model for InputLines<'a> {
     ghost use Rattle.std.specs.Prelude.{List, ℕ};
-    ghost use Rattle.sf_tool.specs.Lines.{lines_of as lines_in};
+    ghost use Rattle.std.specs.Option.{option_copied};
+    ghost use Rattle.sf_tool.specs.Lines.{lines_after};
 
     ghost Value = { List (List ℕ) };
 
-    ghost view = { λ l. lines_in l.rest.now };
+    ghost view = { λ l. lines_after (option_copied l.first) l.rest.now };
 }
 
 impl<'a> InputLines<'a> {
@@ -106,13 +109,39 @@ impl<'a> InputLines<'a> {
     pub(crate) fn new(input: &'a [u8]) -> InputLines<'a>
         ensures { result ≡ lines_in input.now }
     {
-        InputLines { rest: input }
+        InputLines {
+            first: None,
+            rest: input,
+        }
+    }
+
+    /// Returns this line, and then the lines of this input.
+    pub(crate) fn after(line: &'a [u8], input: &'a [u8]) -> InputLines<'a>
+        ensures { result ≡ line.now ∷ lines_in input.now }
+    {
+        InputLines {
+            first: Some(line),
+            rest: input,
+        }
     }
 }
 
+/// The length of an input up to which its lines may be cut ahead.
+const SHORT: usize = 1024;
+
+/// To cut a line costs as much as it is long, and nothing is cut after a line that is refused: so
+/// only the lines of a short input are asked for ahead, and that of an input of one line.
 impl<'a> AskingCost for InputLines<'a> {
     fn asking_is_free(&self) -> bool {
-        true
+        self.rest.len() <= SHORT || is_one_line(self.rest)
+    }
+}
+
+/// Whether the input has at most one line.
+fn is_one_line(input: &[u8]) -> bool {
+    match split_line(input) {
+        Some((_, more)) => more.is_empty(),
+        None => true,
     }
 }
 
@@ -120,6 +149,10 @@ impl<'a> FieldLines<'a> for InputLines<'a> {
     ghost lines = { λ lines. lines };
 
     fn next_line(&mut self) -> Option<&'a [u8]> {
+        if let Some(line) = self.first {
+            self.first = None;
+            return Some(line);
+        }
         let (line, rest) = split_line(self.rest)?;
         self.rest = rest;
         Some(trimmed(line))

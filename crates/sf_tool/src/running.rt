@@ -1,8 +1,9 @@
 //! Running a request.
-ghost use Rattle.std.specs.Prelude.{◌≡◌, ◌≤◌, [], length, IfErr, IfSome, MatchOption};
+ghost use Rattle.std.specs.Prelude.{◌≡◌, ◌≤◌, [], length, IfErr, IfSome};
+ghost use Rattle.sf_value.specs.declared.value.Field.{Field as FieldValue};
 ghost use Rattle.sf_field.specs.Asking.{Asks};
 ghost use Rattle.sf_field.specs.Lines.{ParsesLines};
-ghost use Rattle.sf_parse.specs.Parsers.{Parses};
+ghost use Rattle.sf_parse.specs.Parsers.{IsOnly, Parses};
 ghost use Rattle.sf_parse.specs.AllocationFree.{TakesNoMemory};
 ghost use Rattle.sf_parse.specs.AllocationFreeParsers.{NotForMemory};
 ghost use Rattle.sf_tool.specs.declared.request.Request.TheVariants as request_is;
@@ -11,13 +12,13 @@ ghost use Rattle.sf_tool.specs.Lines.{lines_of as lines_in};
 ghost use Rattle.sf_tool.specs.ChoiceLines.{choice_lines, IsPlaceOf};
 ghost use Rattle.sf_tool.specs.Explaining.{ExplainsWith, Explains, ExplainsField, ExplainsLine};
 ghost use Rattle.sf_tool.specs.Explaining.{ExplainsPath};
-ghost use Rattle.sf_tool.specs.Scanning.{ReportsCanonical};
 ghost use Rattle.sf_tool.specs.Run.{Runs, Reports, ReportsInputFault, ReportsText};
 ghost use Rattle.sf_tool.specs.Run.{input_limit, joined, view_request, IsOfText, IsAskOfText};
 
 use crate::answering::{
-    View, answer_ask_fault, answer_chosen, answer_fallback, answer_made, answer_nodes, answer_path,
-    answer_priority, answer_refusal, answer_refused_line, answer_too_long, answer_view,
+    View, answer_ask_fault, answer_chosen, answer_fallback, answer_made, answer_path,
+    answer_priority, answer_refusal, answer_refused_line, answer_scanned, answer_too_long,
+    answer_view,
 };
 use crate::cutting::InputLines;
 use crate::explaining::{
@@ -26,9 +27,10 @@ use crate::explaining::{
 use crate::fields::{InputFault, read_fields};
 use crate::reading::{ReadAllFault, read_all};
 use crate::request::Request;
-use crate::scanning::{begins_accepted, first_unaccepted, join_lines, only_line, pays_to_join};
+use crate::scanning::{first_stop, join_lines, only_line, parse_from_stop};
 use crate::status::Status;
 use http_header::HeaderName;
+use memchr::memchr;
 use sf_field::{AskFault, Consumer, UseFault, ask_from, parse_from};
 use sf_parse::{Refusal, parse_text_in};
 use sf_use::{CacheStatus, Choice, PriorityField, select};
@@ -95,17 +97,18 @@ pub fn run<R: Source, W: Sink, E: Sink>(
     }
 }
 
-/// Parses the input's lines as one field. If they were scanned before, `doubtful` is the input from
-/// the first line on that was not found to be accepted, and empty if all were.
+/// Parses the input's lines as one field. `declined` is their joined text, if there is one and a scan
+/// declined it.
 fn parse_input(
     alloc: Global,
     seed: &RandomState,
     dialect: Dialect,
     kind: Kind,
     input: &[u8],
-    doubtful: Option<&[u8]>,
+    declined: Option<&[u8]>,
 ) -> Result<Field, Refusal>
-    requires { length input.now ≤ input_limit }
+    requires short { length input.now ≤ input_limit }
+    requires declined { IfSome declined (λ text. text.now ≡ joined input.now) }
     // The input's lines spell this value and no other, or this is their exact refusal, or an
     // allocation failed.
     ensures parses { ParsesLines dialect kind (lines_in input.now) result }
@@ -114,43 +117,16 @@ fn parse_input(
     // Lines whose joined text is allocation-free are not refused as out of memory.
     ensures allocation_free { TakesNoMemory kind (joined input.now) → NotForMemory result }
 {
-    if let Some(from) = doubtful {
-        if let Some(parsed) = parse_doubtful(alloc, seed, dialect, kind, input, from) {
+    if let Some(text) = declined {
+        if let Some(parsed) = parse_scanned(alloc, seed, dialect, kind, text) {
             return parsed;
         }
     }
-    match only_line(input) {
-        Some(line) => return parse_text_in(alloc, seed, dialect, kind, line),
-        None => return parse_from(alloc, seed, dialect, kind, InputLines::new(input)),
-    }
+    parse_from(alloc, seed, dialect, kind, InputLines::new(input))
 }
 
-/// Parses an input whose lines may be refused from one on: if they are, from the last whole member
-/// before that. Several lines are joined before, if that pays, as it does if none is doubtful. `None`
-/// claims nothing.
-fn parse_doubtful(
-    alloc: Global,
-    seed: &RandomState,
-    dialect: Dialect,
-    kind: Kind,
-    input: &[u8],
-    from: &[u8],
-) -> Option<Result<Field, Refusal>>
-    requires { length input.now ≤ input_limit }
-    ensures parses { IfSome result (λ r. ParsesLines dialect kind (lines_in input.now) r) }
-    ensures for_text { IfSome result NotForMemory }
-{
-    if let Some(line) = only_line(input) {
-        return parse_scanned(alloc, seed, dialect, kind, line);
-    }
-    if !pays_to_join(input, from) {
-        return None;
-    }
-    let text = join_lines(alloc, input).ok()?;
-    parse_scanned(alloc, seed, dialect, kind, text.as_slice())
-}
-
-/// Parses a text that a scan declined; `None` if an allocation failed.
+/// Parses a text that a scan declined; `None` if an allocation failed. A text without a comma has no
+/// member that may be left out.
 fn parse_scanned(
     alloc: Global,
     seed: &RandomState,
@@ -161,7 +137,11 @@ fn parse_scanned(
     ensures parses { IfSome result (λ r. Parses dialect kind text.now r) }
     ensures for_text { IfSome result NotForMemory }
 {
-    match parse_declined(alloc, seed, dialect, kind, text) {
+    let parsed = match memchr(b',', text) {
+        Some(_) => parse_declined(alloc, seed, dialect, kind, text),
+        None => parse_text_in(alloc, seed, dialect, kind, text),
+    };
+    match parsed {
         Err(Refusal::OutOfMemory) => None,
         parsed => Some(parsed),
     }
@@ -182,17 +162,20 @@ fn answer_field<W: Sink>(
     ensures { Reports (view_request view dialect kind) input.now
         (W.state sink.old) (W.state sink.new) result }
 {
-    match view {
-        View::Tree => answer_parsed(alloc, seed, view, dialect, kind, input, None, sink),
-        View::Verdict => answer_verdict(alloc, seed, dialect, kind, input, sink),
-        View::Canonical => answer_normalised(alloc, seed, dialect, kind, input, sink),
+    if matches!(view, View::Tree) {
+        return answer_parsed(alloc, seed, view, dialect, kind, input, None, sink);
+    }
+    match only_line(input) {
+        Some(line) => return answer_text(alloc, seed, view, dialect, kind, input, line, sink),
+        None => return answer_lines(alloc, seed, view, dialect, kind, input, sink),
     }
 }
 
-/// Writes whether the input's lines are accepted as one field, or why not.
-fn answer_verdict<W: Sink>(
+/// The same for several lines. A mistake ends the work at its line: no later line is read.
+fn answer_lines<W: Sink>(
     alloc: Global,
     seed: &RandomState,
+    view: View,
     dialect: Dialect,
     kind: Kind,
     input: &[u8],
@@ -200,71 +183,94 @@ fn answer_verdict<W: Sink>(
 ) -> Status
     requires { length input.now ≤ input_limit }
     // The whole answer was written; or a prefix of it, and a write failed; or nothing.
-    ensures { Reports (request_is.Check dialect kind) input.now
+    ensures { Reports (view_request view dialect kind) input.now
         (W.state sink.old) (W.state sink.new) result }
 {
-    let from = first_unaccepted(alloc, dialect, kind, input);
-    if from.is_none() {
-        return answer_made(b"accepted\n", Status::Accepted, sink);
-    }
-    answer_parsed(alloc, seed, View::Verdict, dialect, kind, input, from, sink)
-}
-
-/// Writes the canonical text of the input's field, and a line feed, or why the input is refused.
-/// Nodes of a long line are made only after a sixteenth of it was accepted, so that work does not grow
-/// with an input that is refused early.
-fn answer_normalised<W: Sink>(
-    alloc: Global,
-    seed: &RandomState,
-    dialect: Dialect,
-    kind: Kind,
-    input: &[u8],
-    sink: &mut W,
-) -> Status
-    requires { length input.now ≤ input_limit }
-    // The whole answer was written; or a prefix of it, and a write failed; or nothing.
-    ensures { Reports (request_is.Normalise dialect kind) input.now
-        (W.state sink.old) (W.state sink.new) result }
-{
-    let view = View::Canonical;
-    if begins_accepted(dialect, kind, input) {
-        if let Some(status) = answer_canonical(alloc, dialect, kind, input, sink) {
-            return status;
-        }
-        return answer_parsed(alloc, seed, view, dialect, kind, input, Some(input), sink);
-    }
-    let Some(from) = first_unaccepted(alloc, dialect, kind, input) else {
-        if let Some(status) = answer_canonical(alloc, dialect, kind, input, sink) {
-            return status;
-        }
-        // Several lines are joined again, since one text is parsed in less time; none is doubtful.
-        let doubtful: Option<&[u8]> = match only_line(input) {
-            Some(_) => None,
-            None => Some(&[]),
-        };
-        return answer_parsed(alloc, seed, view, dialect, kind, input, doubtful, sink);
+    let Some(stop) = first_stop(dialect, kind, input) else {
+        return answer_accepted(alloc, seed, view, dialect, kind, input, sink);
     };
-    answer_parsed(alloc, seed, view, dialect, kind, input, Some(from), sink)
+    match parse_from_stop(alloc, seed, dialect, kind, input, stop) {
+        Some(Ok(())) => return answer_accepted(alloc, seed, view, dialect, kind, input, sink),
+        Some(Err(refusal)) => return answer_refusal(refusal, sink),
+        None => return answer_parsed(alloc, seed, view, dialect, kind, input, None, sink),
+    }
 }
 
-/// Writes the canonical text of the input's field, and a line feed, without building the field;
-/// `None` if nothing was written.
-fn answer_canonical<W: Sink>(
+/// The same for lines that are accepted.
+fn answer_accepted<W: Sink>(
     alloc: Global,
+    seed: &RandomState,
+    view: View,
     dialect: Dialect,
     kind: Kind,
     input: &[u8],
     sink: &mut W,
-) -> Option<Status>
-    ensures { MatchOption result (W.state sink.new ≡ W.state sink.old)
-        (λ status. ReportsCanonical dialect kind (joined input.now)
-        (W.state sink.old) (W.state sink.new) status) }
+) -> Status
+    requires short { length input.now ≤ input_limit }
+    requires accepted { (v : FieldValue) × IsOnly dialect kind (joined input.now) v }
+    // The whole answer was written; or a prefix of it, and a write failed; or nothing.
+    ensures { Reports (view_request view dialect kind) input.now
+        (W.state sink.old) (W.state sink.new) result }
 {
-    if let Some(line) = only_line(input) {
-        return answer_nodes(alloc, dialect, kind, line, sink);
+    match view {
+        View::Verdict => return answer_made(b"accepted\n", Status::Accepted, sink),
+        _ => return answer_joined(alloc, seed, view, dialect, kind, input, sink),
     }
-    let text = join_lines(alloc, input).ok()?;
-    answer_nodes(alloc, dialect, kind, text.as_slice(), sink)
+}
+
+/// The same by the joined text of the lines, if there is memory for it.
+fn answer_joined<W: Sink>(
+    alloc: Global,
+    seed: &RandomState,
+    view: View,
+    dialect: Dialect,
+    kind: Kind,
+    input: &[u8],
+    sink: &mut W,
+) -> Status
+    requires { length input.now ≤ input_limit }
+    // The whole answer was written; or a prefix of it, and a write failed; or nothing.
+    ensures { Reports (view_request view dialect kind) input.now
+        (W.state sink.old) (W.state sink.new) result }
+{
+    match join_lines(alloc, input) {
+        Ok(text) => {
+            return answer_text(
+                alloc,
+                seed,
+                view,
+                dialect,
+                kind,
+                input,
+                text.as_slice(),
+                sink,
+            );
+        }
+        Err(_) => return answer_parsed(alloc, seed, view, dialect, kind, input, None, sink),
+    }
+}
+
+/// The same for the joined text of the lines.
+fn answer_text<W: Sink>(
+    alloc: Global,
+    seed: &RandomState,
+    view: View,
+    dialect: Dialect,
+    kind: Kind,
+    input: &[u8],
+    text: &[u8],
+    sink: &mut W,
+) -> Status
+    requires short { length input.now ≤ input_limit }
+    requires text { text.now ≡ joined input.now }
+    // The whole answer was written; or a prefix of it, and a write failed; or nothing.
+    ensures { Reports (view_request view dialect kind) input.now
+        (W.state sink.old) (W.state sink.new) result }
+{
+    match answer_scanned(alloc, view, dialect, kind, text, sink) {
+        Some(status) => return status,
+        None => return answer_parsed(alloc, seed, view, dialect, kind, input, Some(text), sink),
+    }
 }
 
 /// Writes a view of the input's field, which is built, or why it is refused.
@@ -275,15 +281,16 @@ fn answer_parsed<W: Sink>(
     dialect: Dialect,
     kind: Kind,
     input: &[u8],
-    doubtful: Option<&[u8]>,
+    declined: Option<&[u8]>,
     sink: &mut W,
 ) -> Status
-    requires { length input.now ≤ input_limit }
+    requires short { length input.now ≤ input_limit }
+    requires declined { IfSome declined (λ text. text.now ≡ joined input.now) }
     // The whole answer was written; or a prefix of it, and a write failed; or nothing.
     ensures { Reports (view_request view dialect kind) input.now
         (W.state sink.old) (W.state sink.new) result }
 {
-    match parse_input(alloc, seed, dialect, kind, input, doubtful) {
+    match parse_input(alloc, seed, dialect, kind, input, declined) {
         Ok(field) => answer_view(view, field, sink),
         Err(refusal) => answer_refusal(refusal, sink),
     }

@@ -1,17 +1,18 @@
-//! The joined text of an input's lines, and whether it is accepted, before a field is built.
-ghost use Rattle.std.specs.Prelude.{◌≡◌, ◌≢◌, ◌++◌, IfNone, IfOk, IfSome, IsTrue};
+//! The lines of an input, read one by one before a field is built, and their joined text.
+ghost use Rattle.std.specs.Prelude.{◌≡◌, ◌≢◌, ◌++◌, ◌≤◌, length, IfNone, IfOk, IfSome, IsTrue};
 ghost use Rattle.sf_value.specs.declared.value.Field.{Field};
 ghost use Rattle.sf_value.specs.declared.value.Kind.TheVariants as kind_is;
 ghost use Rattle.sf_parse.specs.Parsers.{IsOnly};
-ghost use Rattle.sf_tool.specs.Run.{joined};
-ghost use Rattle.sf_tool.specs.Scanning.{SpellsMembers};
+ghost use Rattle.sf_tool.specs.Run.{joined, input_limit};
+ghost use Rattle.sf_tool.specs.Scanning.{SpellsMembers, StopsAt, AcceptedOrRefused};
 
-use crate::cutting::{split_line, trimmed};
-use memchr::memrchr;
-use sf_field::append_line;
+use crate::cutting::{InputLines, split_line, trimmed};
+use sf_field::{append_line, parse_from};
+use sf_parse::Refusal;
 use sf_value::{Dialect, Kind, OutOfMemory, is_ows};
 use sf_view::accepts;
 use std::alloc::Global;
+use std::hash::RandomState;
 
 /// Returns the joined text of an input of at most one line, which is a part of it; `None` if it has
 /// more lines.
@@ -44,79 +45,36 @@ pub(crate) fn join_lines(alloc: Global, input: &[u8]) -> Result<Vec<u8>, OutOfMe
     Ok(text)
 }
 
-/// Returns the input from its first line on that is not accepted; `None` if its lines are accepted
-/// as one field of the kind. A line claims nothing: what follows it may complete it.
-pub(crate) fn first_unaccepted(
-    alloc: Global,
-    dialect: Dialect,
-    kind: Kind,
-    input: &[u8],
-) -> Option<&[u8]>
+/// Where the lines of an input are no longer accepted one by one.
+#[derive(Clone, Copy, Drop)]
+pub(crate) struct Stop<'a> {
+    /// The input from the first line on that has no member, or is not accepted by itself. A line
+    /// claims nothing: what follows it may complete it.
+    rest: &'a [u8],
+    /// How much of the joined text comes before this line: 0 if it is the first one.
+    place: usize,
+}
+
+/// Returns where the lines of an input stop being accepted one by one; `None` if all are, and they
+/// are accepted as one field of the kind. Nothing after the line at which they stop is read.
+pub(crate) fn first_stop(dialect: Dialect, kind: Kind, input: &[u8]) -> Option<Stop>
+    requires { length input.now ≤ input_limit }
     // The joined text spells a field of the kind, and no other.
-    ensures { IfNone result ((v : Field) × IsOnly dialect kind (joined input.now) v) }
+    ensures accepted { IfNone result ((v : Field) × IsOnly dialect kind (joined input.now) v) }
+    ensures stopped { IfSome result
+        (λ stop. StopsAt dialect kind input.now stop.rest.now stop.place) }
 {
-    match only_line(input) {
-        Some(line) if accepts(dialect, kind, line) => None,
-        Some(_) => Some(input),
-        None => {
-            let from = unaccepted_line(dialect, kind, input)?;
-            if pays_to_join(input, from) && accepts_joined(alloc, dialect, kind, input) {
-                return None;
-            }
-            Some(from)
-        }
-    }
-}
-
-/// Whether the lines before this one are so many that to join all lines costs less than to parse
-/// these: a quarter of the input.
-pub(crate) fn pays_to_join(input: &[u8], from: &[u8]) -> bool {
-    from.len() <= input.len() / 4 * 3
-}
-
-/// Whether the joined text of the input's lines is accepted; `false` claims nothing.
-fn accepts_joined(alloc: Global, dialect: Dialect, kind: Kind, input: &[u8]) -> bool
-    ensures { IsTrue result → (v : Field) × IsOnly dialect kind (joined input.now) v }
-{
-    match join_lines(alloc, input) {
-        Ok(text) => accepts(dialect, kind, text.as_slice()),
-        Err(_) => false,
-    }
-}
-
-/// The length up to which a line goes to the nodes at once: its nodes take little memory.
-const SHORT: usize = 1024;
-
-/// Whether an input of one line is short, or its first eighth is accepted, up to the last comma there.
-/// This comma is in the second half of the eighth, since otherwise the work on nodes could be far more
-/// than reading a line up to the byte at which it is refused. It only saves time: nothing is claimed of
-/// it.
-pub(crate) fn begins_accepted(dialect: Dialect, kind: Kind, input: &[u8]) -> bool {
-    let Some(line) = only_line(input) else {
-        return false;
-    };
-    if line.len() <= SHORT {
-        return true;
-    }
-    let (front, _) = line.split_at(line.len() / 8);
-    match memrchr(b',', front) {
-        Some(comma) if comma >= front.len() / 2 => accepts(dialect, kind, &front[..comma]),
-        _ => false,
-    }
-}
-
-/// As [`first_unaccepted`], for an input of several lines, which are accepted one by one.
-fn unaccepted_line(dialect: Dialect, kind: Kind, input: &[u8]) -> Option<&[u8]>
-    ensures { IfNone result ((v : Field) × IsOnly dialect kind (joined input.now) v) }
-{
-    if matches!(kind, Kind::Item) {
-        return Some(input);
-    }
     let mut rest = input;
+    let mut place = 0;
+    if matches!(kind, Kind::Item) {
+        return Some(Stop { rest, place });
+    }
     while let Some((line, more)) = split_line(rest) {
-        if !has_members(dialect, kind, trimmed(line)) {
-            return Some(rest);
+        let text = trimmed(line);
+        if !has_members(dialect, kind, text) {
+            return Some(Stop { rest, place });
         }
+        place += text.len() + 2;
         rest = more;
     }
     None
@@ -130,5 +88,54 @@ fn has_members(dialect: Dialect, kind: Kind, text: &[u8]) -> bool
     match text {
         [first, ..] => !is_ows(*first) && accepts(dialect, kind, text),
         [] => false,
+    }
+}
+
+/// A List or a Dictionary of one member.
+const MEMBER: &[u8] = b"a";
+
+/// The length of this member with the comma and the space after it.
+const MEMBER_LENGTH: u64 = 3;
+
+/// Parses the lines from where a scan stopped, after one member in place of the lines before, since
+/// what may come after a comma does not depend on the members before it. No line after a refused one
+/// is read. `None` claims nothing: the scan stopped at the first line, or an allocation failed.
+pub(crate) fn parse_from_stop(
+    alloc: Global,
+    seed: &RandomState,
+    dialect: Dialect,
+    kind: Kind,
+    input: &[u8],
+    stop: Stop,
+) -> Option<Result<(), Refusal>>
+    requires short { length input.now ≤ input_limit }
+    requires stopped { StopsAt dialect kind input.now stop.rest.now stop.place }
+    ensures { IfSome result (AcceptedOrRefused dialect kind (joined input.now)) }
+{
+    if stop.place == 0 {
+        return None;
+    }
+    let lines = InputLines::after(MEMBER, stop.rest);
+    match parse_from(alloc, seed, dialect, kind, lines) {
+        Ok(field) => {
+            drop(field);
+            return Some(Ok(()));
+        }
+        Err(
+            Refusal::Syntax {
+                place,
+                found,
+                expected,
+                may_end,
+            },
+        ) => {
+            return Some(Err(Refusal::Syntax {
+                place: stop.place as u64 + place - MEMBER_LENGTH,
+                found,
+                expected,
+                may_end,
+            }));
+        }
+        Err(_) => return None,
     }
 }

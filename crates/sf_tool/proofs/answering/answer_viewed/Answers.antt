@@ -4,7 +4,8 @@ use Rattle.sf_value.specs.declared.dialect.Dialect.{Dialect}
 use Rattle.sf_write.proofs.Following.{then}
 use Rattle.sf_view.specs.View.{DescribesField}
 use Rattle.sf_view.specs.Views.{IsViewed}
-use Rattle.sf_tool.specs.Scanning.{ReportsCanonical}
+use Rattle.sf_tool.specs.Run.{canonical_line}
+use Rattle.sf_tool.specs.Scanning.{ReportsOnly}
 use Rattle.sf_tool.proofs.AcceptedLines.{kind_spelled}
 use Rattle.sf_tool.proofs.answering.answer_viewed.Goals as goal
 
@@ -12,7 +13,7 @@ pub returns : goal.returns
 returns g c = by
   where
     by : (d : Dialect) (t : List ℕ) → IsViewed d c.args.kind t c.args.nodes.now
-        → ReportsCanonical d c.args.kind t (g.W.Sink.state c.args.sink.now)
+        → ReportsOnly canonical_line d c.args.kind t (g.W.Sink.state c.args.sink.now)
         (g.W.Sink.state c.put.new.out) c.ended.result
     by d t viewed =
         let v = viewed.value in
