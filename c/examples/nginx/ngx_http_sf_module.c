@@ -288,10 +288,11 @@ static ngx_int_t append_hop(ngx_http_request_t *r, const sf_hop *hop, const ngx_
       return NGX_OK;
     if (passed(r, status, &name, &kept, &refusal) != NGX_OK)
       return NGX_ERROR;
-    if (status == SF_REFUSED)
+    if (status == SF_REFUSED) {
       ngx_str_null(&kept);
-    else if (status != SF_SHORT || (text->data = ngx_pnalloc(r->pool, text->len)) == NULL)
+    } else if (status != SF_SHORT || (text->data = ngx_pnalloc(r->pool, text->len)) == NULL) {
       return NGX_ERROR;
+    }
   }
 }
 
