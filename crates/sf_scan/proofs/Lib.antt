@@ -1,0 +1,7 @@
+pub mod Firsts
+pub mod Numerals
+pub mod Leaves
+pub mod Blobs
+pub mod Showns
+pub mod Params
+pub mod Trees

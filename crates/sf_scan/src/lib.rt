@@ -1,0 +1,20 @@
+//! The one pass over a whole text: each construct of the grammar is read in one place, whatever is
+//! made of it.
+#![tactic(auto)]
+
+pub mod build;
+mod digits;
+mod leaf;
+mod nodes;
+mod params;
+mod place;
+mod runs;
+mod sets;
+mod tree;
+
+pub use build::{Build, Nothing, Param, Unbuilt};
+pub use leaf::{Leaf, LeafEnd, Slice, read_leaf};
+pub use nodes::{Node, Nodes};
+pub use params::{ParamsEnd, ParamsPlace, read_params};
+pub use place::LeafPlace;
+pub use tree::{Tree, build_params};
