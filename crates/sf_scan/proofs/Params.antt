@@ -29,7 +29,7 @@ use Rattle.sf_scan.specs.LeafStates.{LeafState, NoLeaf, InLeaf, leaf_step, leaf_
 use Rattle.sf_scan.specs.Leaves.{IsBare, IsWhole, ReadsLeaf, LongestRun}
 use Rattle.sf_scan.specs.ParamStates.{value_state, IsAtParams}
 use Rattle.sf_scan.specs.Params.{IsEnd, IsParam, AreParams, TakesEach, FindsParam, StopsParam}
-use Rattle.sf_scan.specs.Params.{ReadsParams}
+use Rattle.sf_scan.specs.Params.{ReadsParams, IsTaken}
 use Rattle.sf_scan.specs.declared.build.Param.{Param}
 use Rattle.sf_scan.specs.declared.leaf.Leaf.{Leaf}
 use Rattle.sf_scan.specs.declared.leaf.Leaf.TheVariants as leaf
@@ -388,3 +388,16 @@ module _ {B : Type 0} (takes : B → Param → B → Type 0) where
       let a : length end.left.now ≡ length (59 ∷ more) = ap length w in
       let c : length more ≡ length (r.prefix ++ f.end.left.now) = ap length r.split in
       omega (arith, length-append r.prefix f.end.left.now)
+
+pub behind_run : (text run_of named : List ℕ) → text ≡ run_of ++ named → Every is_sp run_of
+    → Behind is_sp text named
+behind_run text run_of named w h = record { prefix = run_of; split = w; each = h }
+
+pub found_taken : (d : Dialect) (more : List ℕ) (f : Found)
+    → ((ps : Pairs Bare) → FindsParam d ps more f) → IsTaken f.param
+found_taken d more f find =
+    let i = (find []).is in (
+      (find []).value,
+      i.value,
+      subst IsKey (sym i.same) i.is_key,
+    )

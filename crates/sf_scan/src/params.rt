@@ -84,12 +84,12 @@ pub fn read_params<'a, B: Build>(
     // They were read as far as they go, and each whole one was taken.
     ensures { IfOk result (λ end. ReadsParams dialect B.takes text.now end build.old build.new) }
 {
-    if behind(text, b';').is_none() {
+    let Some(_) = behind(text, b';') else {
         return Ok(ParamsEnd {
             place: ParamsPlace::Before,
             left: text,
         });
-    }
+    };
     read_each_param(dialect, text, build)
 }
 

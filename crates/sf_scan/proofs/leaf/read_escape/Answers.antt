@@ -1,7 +1,39 @@
-use Rattle.std.proofs.Common.{refl, sym, ◌∙◌}
+use Rattle.std.proofs.Common.{refl, sym, ◌∙◌, arith}
 use Rattle.sf_scan.proofs.Showns.{escape_taken, escape_stops, escape_high, escape_second, escape_low}
 use Rattle.sf_scan.proofs.leaf.read_escape.Goals as goal
 
 pub returns-in_default : goal.returns-in_default
 returns-in_default c =
     escape_stops _ c.args.chars _ c.requires c.in_default.ensures.none refl refl refl
+
+pub returns-then-not-can_begin : goal.returns-then-not-can_begin
+returns-then-not-can_begin c =
+    escape_high _ _ _ c.args.chars _ c.requires c.in-Some.ensures.some
+    (sym c.can_begin.ensures ∙ c.if-not-can_begin.true) refl refl refl
+
+pub returns-in_default-read_digit : goal.returns-in_default-read_digit
+returns-in_default-read_digit c =
+    escape_second _ _ _ c.args.chars _ c.in-Some.ensures.some
+    (sym c.can_begin.ensures ∙ c.if-not-can_begin.false) c.in_default-read_digit.ensures.none refl
+    refl refl
+
+pub returns-in_default-after : goal.returns-in_default-after
+returns-in_default-after c =
+    escape_low _ _ _ _ _ c.args.chars _ c.in-Some.ensures.some
+    (sym c.can_begin.ensures ∙ c.if-not-can_begin.false) c.in-Some-read_digit.ensures.some
+    (sym c.in_default-after.ensures) refl refl refl
+
+pub returns : goal.returns
+returns c =
+    escape_taken _ _ _ _ _ _ _ c.in-Some.ensures.some
+    (sym c.can_begin.ensures ∙ c.if-not-can_begin.false) c.in-Some-read_digit.ensures.some
+    (sym c.in-Some-after.ensures)
+
+pub overflow_mul-high : goal.overflow_mul-high
+overflow_mul-high c = let s = c.in-Some.ensures.some.3 in omega arith
+
+pub overflow_add-high : goal.overflow_add-high
+overflow_add-high c =
+    let s = c.in-Some.ensures.some.3 in
+    let t = c.in-Some-read_digit.ensures.some.3 in
+    omega arith
