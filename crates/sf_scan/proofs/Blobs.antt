@@ -2,7 +2,7 @@
 use Rattle.std.specs.Option.{option_map}
 use Rattle.std.proofs.Common.{◌≡◌, ◌≢◌, ℕ, ◌+◌, ◌-◌, ◌*◌, ◌/◌, ◌%◌, ◌<◌, ◌≤◌, Bool, true, false, List, [], ◌∷◌}
 use Rattle.std.proofs.Common.{◌++◌, length, Option, Some, None, refl, sym, ap, ◌∙◌, subst}
-use Rattle.std.proofs.Common.{arith, append_assoc, ◌==◌, is_some}
+use Rattle.std.proofs.Common.{arith, append_assoc, ◌==◌, ◌&&◌, nat_lt, zero, suc, is_some}
 use Rattle.sf_value.specs.declared.dialect.Dialect.TheVariants.{Rfc9651}
 use Rattle.sf_value.specs.declared.value.Bare.{Bare}
 use Rattle.sf_value.specs.declared.value.Bare.TheVariants.{Blob}
@@ -13,7 +13,7 @@ use Rattle.sf_value.specs.Grammar.Words.{Every}
 use Rattle.sf_parse.specs.Leaves.{held_size}
 use Rattle.sf_parse.specs.Machine.Bares.{InBlob, bare_step, bare_finish}
 use Rattle.sf_parse.specs.Machine.Blobs.{Held, H0, H1, H2, H3, BlobState, Group, Padded, Ended}
-use Rattle.sf_parse.specs.Machine.Blobs.{last_bytes, blob_step, lacking}
+use Rattle.sf_parse.specs.Machine.Blobs.{last_bytes, blob_step, pad_step}
 use Rattle.sf_parse.specs.Machine.Language.{run}
 use Rattle.sf_parse.specs.Prefixes.{Goes, FirstIs, Halts}
 use Rattle.sf_parse.proofs.Prefixes.{goes_above, goes_more, goes_one}
@@ -142,6 +142,17 @@ pads_more most text more left p h k w r bytes =
 other : (b c : ℕ) → b ≢ c → (b == c) ≡ false
 other b c h = grind arith
 
+pad_none : (bytes : List ℕ) (n b : ℕ) → (b == 58) ≡ false → (b == 61 && nat_lt 0 n) ≡ false
+    → pad_step bytes n b ≡ None
+pad_none bytes n b e f = rw (e, f) refl
+
+pad_off : (b n : ℕ) → (0 < n → b ≢ 61) → (b == 61 && nat_lt 0 n) ≡ false
+pad_off b zero h = grind arith
+pad_off b (suc n) h =
+    let k : b ≢ 61 = h (omega arith) in
+    let e : (b == 61) ≡ false = other b 61 k in
+    rw e refl
+
 pub pads_stop : (most : ℕ) (text : List ℕ) → FirstIs (λ b. b ≢ 58) text
     → FirstIs (λ b. 0 < most → b ≢ 61) text → EndsPadding most text (place.Padding most) text
 pads_stop most text h k bytes = record {
@@ -152,7 +163,7 @@ pads_stop most text h k bytes = record {
 }
   where
     halts : (b : ℕ) → b ≢ 58 → (0 < most → b ≢ 61) → blob_step (Padded bytes most) b ≡ None
-    halts b x y = grind arith
+    halts b x y = pad_none bytes most b (other b 58 x) (pad_off b most y)
 
 pub pads_last : (text : List ℕ) → FirstIs (λ b. b ≢ 58) text
     → EndsPadding 0 text (place.Padding 0) text
@@ -209,26 +220,23 @@ group_stops over text h c k bytes held e = record {
         → ((over ≡ 1 → ⊥) → b ≢ 58) → (2 ≤ over → b ≢ 61)
         → blob_step (Group bytes held) b ≡ None
     halts H0 e b n x y =
-        let q : (b == 58) ≡ false = other b 58 (x (λ z. absurd (omega arith))) in
-        rw (no_value b n, q) (padless b)
-      where
-        padless : (b : ℕ) → blob_step (Padded [] 0) 0 ≡ None
-        padless b = refl
+        let none : 0 ≡ over = e in
+        let q : b ≢ 58 = x (λ z. absurd (omega arith)) in
+        rw (no_value b n)
+        (pad_none (bytes ++ last_bytes H0) 0 b (other b 58 q) (pad_off b 0 (λ z. absurd (omega arith))))
     halts (H1 v) e b n x y = rw (no_value b n) refl
     halts (H2 v w) e b n x y =
-        rw (
-          no_value b n,
-          other b 58 (x (λ z. absurd (omega arith))),
-          other b 61 (y (omega arith)),
-        )
-        refl
+        let two : 2 ≡ over = e in
+        let q : b ≢ 58 = x (λ z. absurd (omega arith)) in
+        let p : b ≢ 61 = y (omega arith) in
+        rw (no_value b n)
+        (pad_none (bytes ++ last_bytes (H2 v w)) 2 b (other b 58 q) (pad_off b 2 (λ z. p)))
     halts (H3 u v w) e b n x y =
-        rw (
-          no_value b n,
-          other b 58 (x (λ z. absurd (omega arith))),
-          other b 61 (y (omega arith)),
-        )
-        refl
+        let three : 3 ≡ over = e in
+        let q : b ≢ 58 = x (λ z. absurd (omega arith)) in
+        let p : b ≢ 61 = y (omega arith) in
+        rw (no_value b n)
+        (pad_none (bytes ++ last_bytes (H3 u v w)) 1 b (other b 58 q) (pad_off b 1 (λ z. p)))
 
 always : (P : ℕ → Type 0) → ((b : ℕ) → P b) → (xs : List ℕ) → FirstIs P xs
 always P f [] = tt

@@ -1,7 +1,8 @@
 -- Bare items read as far as they go: how they begin, and Tokens, Booleans and Strings.
 use Rattle.std.specs.Option.{option_map, option_or}
-use Rattle.std.proofs.Common.{◌≡◌, ◌≢◌, ℕ, ◌+◌, ◌-◌, Bool, true, false, List, [], ◌∷◌, ◌++◌, length, take}
+use Rattle.std.proofs.Common.{◌≡◌, ◌≢◌, ℕ, ◌+◌, ◌-◌, ◌*◌, Bool, true, false, List, [], ◌∷◌, ◌++◌, length, take}
 use Rattle.std.proofs.Common.{◌==◌, Option, Some, None, refl, sym, ap, ◌∙◌, subst, arith, append_assoc, ◌≤◌, ◌<◌, length-append}
+use Rattle.std.proofs.Math.Seq.{take-append_seam}
 use Rattle.sf_value.specs.declared.dialect.Dialect.{Dialect}
 use Rattle.sf_value.specs.declared.dialect.Dialect.TheVariants.{Rfc8941, Rfc9651}
 use Rattle.sf_value.specs.declared.value.Bare.{Bare}
@@ -106,21 +107,21 @@ leaf_begins d text b more s end e h r =
     })
 
 digit_starts : (d : Dialect) (b : ℕ) → is_digit b ≡ true
-    → bare_start d b ≡ Some (InNumber (Whole false 1 (b - 48)))
+    → bare_start d b ≡ Some (InNumber (Whole false (0 + 1) (10 * 0 + (b - 48))))
 digit_starts d b h =
     let sign : (b == 45) ≡ false = grind arith in
     rw (sign, h) refl
 
 digit_next : (b : ℕ) → is_digit b ≡ true
-    → bare_step (InNumber (Whole false 0 0)) b ≡ Some (InNumber (Whole false 1 (b - 48)))
+    → bare_step (InNumber (Whole false 0 0)) b ≡ Some (InNumber (Whole false (0 + 1) (10 * 0 + (b - 48))))
 digit_next b h = rw h refl
 
 pub leaf_digit : (d : Dialect) (text : List ℕ) (b : ℕ) (more : List ℕ) (end : LeafEnd)
     → text ≡ b ∷ more → is_digit b ≡ true → ReadsOn (InNumber (Whole false 0 0)) text end
     → ReadsLeaf d text end
 leaf_digit d text b more end e h r =
-    leaf_begins d text b more (InNumber (Whole false 1 (b - 48))) end e (digit_starts d b h)
-    (reads_after (InNumber (Whole false 0 0)) (InNumber (Whole false 1 (b - 48))) b more end
+    leaf_begins d text b more (InNumber (Whole false (0 + 1) (10 * 0 + (b - 48)))) end e (digit_starts d b h)
+    (reads_after (InNumber (Whole false 0 0)) (InNumber (Whole false (0 + 1) (10 * 0 + (b - 48)))) b more end
     (digit_next b h) (subst (λ y. ReadsOn (InNumber (Whole false 0 0)) y end) e r))
 
 no_number : (b : ℕ) → is_token_start b ≡ true → number_start b ≡ None
@@ -276,7 +277,9 @@ token_bytes b text more run_of left token e w f =
     ∙ front (length run_of + 1) (omega arith)
   where
     front : (n : ℕ) → n ≡ length (b ∷ run_of) → take n ((b ∷ run_of) ++ left) ≡ b ∷ run_of
-    front n k = grind arith
+    front n k =
+        subst (λ m. take m ((b ∷ run_of) ++ left) ≡ b ∷ run_of) (sym k)
+        (take-append_seam (b ∷ run_of) left)
 
 -- Booleans
 closed_boolean : (x : Bool) → IsClosed (InBoolean (WithValue x))

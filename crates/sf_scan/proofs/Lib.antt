@@ -5,4 +5,6 @@ pub mod Blobs
 pub mod Showns
 pub mod Places
 pub mod Params
+pub mod ParamPlaces
 pub mod Trees
+pub mod Exact

@@ -64,34 +64,43 @@ digits_more text value count rest b more s e h = record {
 -- what the machine takes by digits
 whole_run : (neg : Bool) (c a : ℕ) (w : List ℕ) → Every is_digit w → c + length w ≤ 15
     → run number_step (Whole neg c a) w ≡ Some (Whole neg (c + length w) (value_from a w))
-whole_run neg c a [] h k = ap (λ y. Some (Whole neg y a)) (omega arith)
+whole_run neg c a [] h k =
+    let e : c ≡ c + 0 = omega arith in
+    ap (λ y. Some (Whole neg y a)) e
 whole_run neg c a (b ∷ w) h k =
     let l : nat_lt c 15 ≡ true = grind arith in
     let n : (c + 1) + length w ≤ 15 = omega arith in
+    let m : (c + 1) + length w ≡ c + length (b ∷ w) = omega arith in
     rw (h.0, l)
     (whole_run neg (c + 1) (10 * a + (b - 48)) w h.1 n
-    ∙ ap (λ y. Some (Whole neg y (value_from (10 * a + (b - 48)) w))) (omega arith))
+    ∙ ap (λ y. Some (Whole neg y (value_from (10 * a + (b - 48)) w))) m)
 
 fraction_run : (neg : Bool) (whole c a : ℕ) (w : List ℕ) → Every is_digit w → c + length w ≤ 3
     → run number_step (Fraction neg whole c a) w
     ≡ Some (Fraction neg whole (c + length w) (value_from a w))
-fraction_run neg whole c a [] h k = ap (λ y. Some (Fraction neg whole y a)) (omega arith)
+fraction_run neg whole c a [] h k =
+    let e : c ≡ c + 0 = omega arith in
+    ap (λ y. Some (Fraction neg whole y a)) e
 fraction_run neg whole c a (b ∷ w) h k =
     let l : nat_lt c 3 ≡ true = grind arith in
     let n : (c + 1) + length w ≤ 3 = omega arith in
+    let m : (c + 1) + length w ≡ c + length (b ∷ w) = omega arith in
     rw (h.0, l)
     (fraction_run neg whole (c + 1) (10 * a + (b - 48)) w h.1 n
-    ∙ ap (λ y. Some (Fraction neg whole y (value_from (10 * a + (b - 48)) w))) (omega arith))
+    ∙ ap (λ y. Some (Fraction neg whole y (value_from (10 * a + (b - 48)) w))) m)
 
 date_run : (neg : Bool) (c a : ℕ) (w : List ℕ) → Every is_digit w → c + length w ≤ 15
     → run date_step (Digits neg c a) w ≡ Some (Digits neg (c + length w) (value_from a w))
-date_run neg c a [] h k = ap (λ y. Some (Digits neg y a)) (omega arith)
+date_run neg c a [] h k =
+    let e : c ≡ c + 0 = omega arith in
+    ap (λ y. Some (Digits neg y a)) e
 date_run neg c a (b ∷ w) h k =
     let l : nat_lt c 15 ≡ true = grind arith in
     let n : (c + 1) + length w ≤ 15 = omega arith in
+    let m : (c + 1) + length w ≡ c + length (b ∷ w) = omega arith in
     rw (h.0, l)
     (date_run neg (c + 1) (10 * a + (b - 48)) w h.1 n
-    ∙ ap (λ y. Some (Digits neg y (value_from (10 * a + (b - 48)) w))) (omega arith))
+    ∙ ap (λ y. Some (Digits neg y (value_from (10 * a + (b - 48)) w))) m)
 
 pub whole_goes : (neg : Bool) (text : List ℕ) (n : Numeral) → TakesDigits 15 text n → n.count ≤ 15
     → Goes bare_step (InNumber (Whole neg 0 0)) text n.left.now
@@ -305,7 +314,7 @@ unsigned_date text end h n z t r = record {
         stuck (b ∷ ys) e f g =
             let k : bare_step (InDate (Digits false 0 0)) b ≡ None =
             subst (FirstIs (Halts bare_step (InDate (Digits false 0 0)))) e halts in
-            let m : bare_step (InDate (Digits false 0 0)) b ≡ Some (InDate (Digits false 1 (b - 48))) =
+            let m : bare_step (InDate (Digits false 0 0)) b ≡ Some (InDate (Digits false (0 + 1) (10 * 0 + (b - 48)))) =
             rw f.0 refl in
             cc
     by (b ∷ xs) w l = record {

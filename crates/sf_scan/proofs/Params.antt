@@ -118,7 +118,7 @@ no_key d ps text named end b h k e f = record {
   state = Opened ps;
   goes = rw e (opened_goes d ps text named b);
   at = rw f (ps, refl);
-  open = refl;
+  unended = refl;
   stops = rw e (first_both _ _ _ (λ b x y. rw (x, y) refl) named h k);
 }
 
@@ -174,14 +174,14 @@ module _ (d : Dialect) (ps : Pairs Bare) (text named key after inside : List ℕ
     state = value_state ps key r.state;
     goes = rw left value_goes;
     at = rw at (ps, key, r.state, r.at, refl);
-    open = value_open ps key r.state open;
+    unended = value_open ps key r.state still;
     stops =
         rw left
-        (first_map _ _ (λ c h. value_halts d ps key r.state c open h) e.left.now r.stops);
+        (first_map _ _ (λ c h. value_halts d ps key r.state c still h) e.left.now r.stops);
   }
     where
-      open : leaf_finish r.state ≡ None
-      open = none_bare e.leaf (leaf_finish r.state) none r.value
+      still : leaf_finish r.state ≡ None
+      still = none_bare e.leaf (leaf_finish r.state) none r.value
 
   pub value_found : (l : Leaf) (f : Found) → e.leaf ≡ Some l → f.param.key.now ≡ key
       → f.param.value ≡ l → f.param.from.now ≡ named → f.param.inside.now ≡ inside
@@ -376,7 +376,7 @@ module _ {B : Type 0} (takes : B → Param → B → Type 0) where
             s.goes;
         stops = s.stops;
         at = s.at;
-        whole = λ e. absurd (let k : is_some (params_finish s.state) ≡ false = ap is_some s.open in cc);
+        whole = λ e. absurd (let k : is_some (params_finish s.state) ≡ false = ap is_some s.unended in cc);
       }
 
   -- less is left

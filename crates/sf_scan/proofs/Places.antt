@@ -162,3 +162,6 @@ date_ends n s (neg, value, e) = rw e (mapped (nat_le 1 n))
 
 pub closed_ends : (s : BareState) → IsClosed s → true ≡ is_some (bare_finish s)
 closed_ends s c = sym (ap is_some c.ended)
+
+pub token_ends : (s : BareState) → IsAtBare place.Token s → true ≡ is_some (bare_finish s)
+token_ends s (bytes, e) = sym (ap (λ y. is_some (bare_finish y)) e)

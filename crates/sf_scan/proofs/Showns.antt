@@ -23,7 +23,7 @@ use Rattle.sf_parse.proofs.HighDigits.{utf8_good}
 use Rattle.sf_parse.proofs.Prefixes.{goes_above, goes_more, goes_one, goes_byte, left_within}
 use Rattle.sf_scan.specs.LeafStates.{InLeaf, IsAtBare, IsClosed}
 use Rattle.sf_scan.specs.Leaves.{IsWhole, ReadsOn, StopsShown, LongestRun, BehindUnencoded, is_start}
-use Rattle.sf_scan.specs.Leaves.{BeginsDigit}
+use Rattle.sf_scan.specs.Leaves.{BeginsDigit, TakesEscape}
 use Rattle.sf_scan.specs.declared.leaf.LeafEnd.{LeafEnd}
 use Rattle.sf_scan.specs.declared.place.LeafPlace.TheVariants as place
 use Rattle.sf_scan.proofs.Firsts.{first_map, first_both}
@@ -82,20 +82,18 @@ display_begins text rest r =
     behind_plain text text rest Start []
     (record { taken = []; split = refl; leads = refl }) tt r
 
-pub display_goes_on : (text rest escape left from : List ℕ) (chars next : Utf8) (c : ℕ)
-    → InDisplay text chars rest → rest ≡ 37 ∷ escape → GoodUtf8 next
-    → ((bytes : List ℕ) → Goes shown_step (Percent bytes chars) escape left
-    (Unencoded (bytes ++ c ∷ []) next))
+pub display_goes_on : (text rest escape left from : List ℕ) (chars next : Utf8)
+    → InDisplay text chars rest → rest ≡ 37 ∷ escape → TakesEscape chars escape next left
     → BehindUnencoded next left from → InDisplay text next from
-display_goes_on text rest escape left from chars next c i w good g r =
-    behind_plain text left from next (i.bytes ++ c ∷ [])
+display_goes_on text rest escape left from chars next i w t r =
+    behind_plain text left from next (i.bytes ++ t.byte ∷ [])
     (goes_more shown_step (Unencoded [] Start) (Percent i.bytes chars)
-    (Unencoded (i.bytes ++ c ∷ []) next) text escape left
+    (Unencoded (i.bytes ++ t.byte ∷ []) next) text escape left
     (goes_byte shown_step (Unencoded [] Start) (Unencoded i.bytes chars) (Percent i.bytes chars) text
     37 escape
     (subst (λ y. Goes shown_step (Unencoded [] Start) text y (Unencoded i.bytes chars)) w i.goes)
     refl)
-    (g i.bytes)) good r
+    (t.goes i.bytes)) t.good r
 
 -- from the first quote
 from_quote : (more inside left : List ℕ) (s : ShownState) → more ≡ 34 ∷ inside
@@ -194,7 +192,7 @@ shown_escape more inside rest escape chars end w i p g =
           i.goes) refl) s.goes);
       stops = in_shown s.state end.left.now s.stops;
       at = s.at;
-      value = rw s.none (ap (option_map Shown) s.open);
+      value = rw s.none (ap (option_map Shown) s.unended);
     }
 
 -- the end
@@ -237,20 +235,19 @@ last_step : (bytes : List ℕ) (x y : Utf8) (h b l : ℕ) → unhex b ≡ Some l
     → shown_step (Hex bytes x h) b ≡ Some (Unencoded (bytes ++ (h * 16 + l) ∷ []) y)
 last_step bytes x y h b l e k = rw (e, k) refl
 
-pub escape_taken : (text more left : List ℕ) (x y : Utf8) (h l : ℕ) → BeginsDigit text h more → can_begin x h ≡ true → BeginsDigit more l left
-    → utf8_step x (h * 16 + l) ≡ Some y
-    → (c : ℕ) × GoodUtf8 y × ((bytes : List ℕ) → Goes shown_step (Percent bytes x) text left
-    (Unencoded (bytes ++ c ∷ []) y))
-escape_taken text more left x y h l (b, w, e, s) k (c, v, f, t) u = (
-  h * 16 + l,
-  utf8_good x y (h * 16 + l) u,
-  λ bytes.
+pub escape_taken : (text more left : List ℕ) (x y : Utf8) (h l : ℕ) → BeginsDigit text h more
+    → can_begin x h ≡ true → BeginsDigit more l left → utf8_step x (h * 16 + l) ≡ Some y
+    → TakesEscape x text y left
+escape_taken text more left x y h l (b, w, e, s) k (c, v, f, t) u = record {
+  byte = h * 16 + l;
+  good = utf8_good x y (h * 16 + l) u;
+  goes = λ bytes.
       goes_byte shown_step (Percent bytes x) (Hex bytes x h)
       (Unencoded (bytes ++ (h * 16 + l) ∷ []) y) text c left
       (subst (λ z. Goes shown_step (Percent bytes x) text z (Hex bytes x h)) v
       (rw w (goes_one shown_step (Percent bytes x) (Hex bytes x h) b more (digit_step bytes x b h e k))))
-      (last_step bytes x y h c l f u),
-)
+      (last_step bytes x y h c l f u);
+}
 
 pub escape_stops : (text : List ℕ) (chars : Utf8State) (end : LeafEnd) → GoodUtf8 (utf8_of chars)
     → FirstIs (λ b. unhex b ≡ None) text → end.left.now ≡ text
@@ -262,7 +259,7 @@ escape_stops text chars end good h e f v bytes = record {
   stops = rw e (first_map _ _ (λ b x. rw x refl) text h);
   at = rw f (bytes, good, refl);
   none = v;
-  open = refl;
+  unended = refl;
 }
 
 pub escape_high : (text more : List ℕ) (h : ℕ) (chars : Utf8State) (end : LeafEnd)
@@ -275,7 +272,7 @@ escape_high text more h chars end good (b, w, e, s) k q f v bytes = record {
   stops = rw (q, w) (halts b e);
   at = rw f (bytes, good, refl);
   none = v;
-  open = refl;
+  unended = refl;
 }
   where
     halts : (b : ℕ) → unhex b ≡ Some h → shown_step (Percent bytes (utf8_of chars)) b ≡ None
@@ -297,7 +294,7 @@ escape_second text more h chars end d k n q f v bytes = record {
   stops = rw q (first_map _ _ (λ b x. rw x refl) more n);
   at = rw f (bytes, d.3, refl);
   none = v;
-  open = refl;
+  unended = refl;
 }
 
 pub escape_low : (text more left : List ℕ) (h l : ℕ) (chars : Utf8State) (end : LeafEnd)
@@ -311,7 +308,7 @@ escape_low text more left h l chars end d k (c, w, e, t) u q f v bytes = record 
   stops = rw (q, w) (halts c e);
   at = rw f (bytes, d.3, refl);
   none = v;
-  open = refl;
+  unended = refl;
 }
   where
     halts : (c : ℕ) → unhex c ≡ Some l → shown_step (Hex bytes (utf8_of chars) h) c ≡ None
@@ -335,17 +332,15 @@ shown_value text more inside rest left bytes chars e w i q k f =
     coded_spelled 37 text more left bytes (InShown Quote) (InShown (Done i.bytes)) (Shown i.bytes) e
     refl (shown_goes more inside rest left chars w i q k) refl f
 
-pub display_shorter : (rest escape left from : List ℕ) (x y : Utf8) (c : ℕ) → rest ≡ 37 ∷ escape
-    → ((bytes : List ℕ) → Goes shown_step (Percent bytes x) escape left
-    (Unencoded (bytes ++ c ∷ []) y))
-    → BehindUnencoded y left from → length from < length rest
-display_shorter rest escape left from x Start c w g r =
+pub display_shorter : (rest escape left from : List ℕ) (x y : Utf8) → rest ≡ 37 ∷ escape
+    → TakesEscape x escape y left → BehindUnencoded y left from → length from < length rest
+display_shorter rest escape left from x Start w t r =
     let a : length rest ≡ length (37 ∷ escape) = ap length w in
-    let b : length left ≤ length escape = left_within shown_step _ _ escape left (g []) in
+    let b : length left ≤ length escape = left_within shown_step _ _ escape left (t.goes []) in
     let d : length left ≡ length (r.prefix ++ from) = ap length r.split in
     omega (arith, length-append r.prefix from)
-display_shorter rest escape left from x (Within n low high) c w g r =
+display_shorter rest escape left from x (Within n low high) w t r =
     let a : length rest ≡ length (37 ∷ escape) = ap length w in
-    let b : length left ≤ length escape = left_within shown_step _ _ escape left (g []) in
+    let b : length left ≤ length escape = left_within shown_step _ _ escape left (t.goes []) in
     let d : length from ≡ length left = ap length r in
     omega arith

@@ -1,12 +1,10 @@
 -- Bare items of a text, and what reading one tells.
 use Rattle.std.specs.Prelude.{◌≡◌, ℕ, ◌^◌, ◌<◌, nat_abs, nat_lt, ◌&&◌, Bool, true, false, List}
-use Rattle.std.specs.Prelude.{[], ◌∷◌, ◌++◌, length, Option, Some, None, Result, Ok, Err}
+use Rattle.std.specs.Prelude.{[], ◌∷◌, ◌++◌, length, Option, Some, None}
 use Rattle.sf_value.specs.Digits.{unhex}
 use Rattle.sf_value.specs.Grammar.DisplayStrings.{is_unencoded}
 use Rattle.sf_value.specs.Grammar.Strings.{is_unescaped}
 use Rattle.sf_value.specs.Grammar.Utf8.{Utf8, Start, Within}
-use Rattle.sf_value.specs.Utf8States.{utf8_of}
-use Rattle.sf_value.specs.declared.utf8.Utf8State.{Utf8State}
 use Rattle.sf_value.specs.declared.dialect.Dialect.{Dialect}
 use Rattle.sf_value.specs.declared.dialect.Dialect.TheVariants.{Rfc9651}
 use Rattle.sf_value.specs.declared.value.Bare.{Bare}
@@ -105,15 +103,14 @@ pub record StopsShown (s : ShownState) (text : List ℕ) (end : LeafEnd) : Type 
   pub stops : FirstIs (Halts shown_step state) end.left.now
   pub at : IsAtBare end.place (InShown state)
   pub none : end.leaf ≡ None
-  pub open : shown_finish state ≡ None
+  pub unended : shown_finish state ≡ None
 
--- the escape of a byte led to the next state in a character, or can't go on
-abbrev pub EndsEscape : Utf8 → List ℕ → Result (Utf8State × Slice) LeafEnd → Type 0
-EndsEscape x text (Ok r) =
-    (c : ℕ) × GoodUtf8 (utf8_of r.0)
-    × ((bytes : List ℕ) → Goes shown_step (Percent bytes x) text r.1.now
-    (Unencoded (bytes ++ c ∷ []) (utf8_of r.0)))
-EndsEscape x text (Err end) = (bytes : List ℕ) → StopsShown (Percent bytes x) text end
+-- the escape of a byte led to the next state in a character
+pub record TakesEscape (x : Utf8) (text : List ℕ) (y : Utf8) (left : List ℕ) : Type 0 where
+  pub byte : ℕ
+  pub good : GoodUtf8 y
+  pub goes : (bytes : List ℕ) → Goes shown_step (Percent bytes x) text left
+      (Unencoded (bytes ++ byte ∷ []) y)
 
 -- a run of bytes that pass the test is before the rest, and no more of them
 pub record LongestRun (p : ℕ → Bool) (text rest : List ℕ) : Type 0 where

@@ -5,3 +5,4 @@ pub mod Leaves
 pub mod ParamStates
 pub mod Params
 pub mod Trees
+pub mod Exact

@@ -67,7 +67,7 @@ pub record StopsParam (d : Dialect) (ps : Pairs Bare) (text : List ℕ) (end : P
   pub state : ParamsState
   pub goes : Goes (params_step d) (Opened ps) text end.left.now state
   pub at : IsAtParams end.place state
-  pub open : params_finish state ≡ None
+  pub unended : params_finish state ≡ None
   pub stops : FirstIs (Halts (params_step d) state) end.left.now
 
 -- a whole parameter, or where parameters can't go on

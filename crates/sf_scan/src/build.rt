@@ -1,5 +1,5 @@
 //! What is made of the parts of a text.
-ghost use Rattle.std.specs.Prelude.{IfOk};
+ghost use Rattle.std.specs.Prelude.{IfOk, OnErr};
 ghost use Rattle.sf_scan.specs.declared.build.Param.{Param};
 ghost use Rattle.sf_scan.specs.Params.{IsTaken};
 
@@ -32,10 +32,14 @@ pub trait Build {
     // How a parameter that was taken changed what was made so far.
     ghost takes: { Self → Param → Self → Type 0 };
 
+    // Where it may fail to take one.
+    ghost fails: { Self → Type 0 };
+
     /// Takes a parameter.
     fn take_param(&mut self, param: Param<'_>) -> Result<(), Unbuilt>
         requires { IsTaken param }
-        ensures { IfOk result (λ _. takes self.old param self.new) };
+        ensures takes { IfOk result (λ _. takes self.old param self.new) }
+        ensures fails { OnErr result (fails self.old) };
 }
 
 /// Makes nothing: a text is only accepted or refused.
@@ -44,6 +48,8 @@ pub struct Nothing;
 
 impl Build for Nothing {
     ghost takes = { λ _ _ _. Unit {0} };
+
+    ghost fails = { λ _. ⊥ };
 
     #[inline(always)]
     fn take_param(&mut self, _param: Param<'_>) -> Result<(), Unbuilt> {

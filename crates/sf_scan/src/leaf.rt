@@ -1,6 +1,6 @@
 //! Bare items (RFC 9651 section 4.2.3.1).
 ghost use Rattle.std.specs.Prelude.{◌≡◌, ◌≢◌, ◌<◌, ◌≤◌, ◌^◌, ◌∷◌, ◌++◌, ℕ, List, [], true, false};
-ghost use Rattle.std.specs.Prelude.{None, IfSome, IfNone};
+ghost use Rattle.std.specs.Prelude.{None, IfSome, IfNone, IfOk, IfErr};
 ghost use Rattle.sf_value.specs.Ascii.{quote, colon, percent, minus, digit_zero};
 ghost use Rattle.sf_value.specs.Digits.{unhex as unhex_of};
 ghost use Rattle.sf_value.specs.Grammar.ByteSequences.{is_base64};
@@ -14,11 +14,12 @@ ghost use Rattle.sf_parse.specs.Machine.Bares.{InNumber, InText, InToken as in_t
 ghost use Rattle.sf_parse.specs.Machine.Bares.{InDate, InBlob, InShown};
 ghost use Rattle.sf_parse.specs.Machine.Blobs.{Group, H0};
 ghost use Rattle.sf_parse.specs.Machine.Numbers.{Whole, Fraction, Sign};
-ghost use Rattle.sf_parse.specs.Machine.Showns.{Quote, GoodUtf8};
+ghost use Rattle.sf_parse.specs.Machine.Showns.{Quote, Percent, GoodUtf8};
 ghost use Rattle.sf_parse.specs.Machine.Texts.{Inside};
 ghost use Rattle.sf_parse.specs.Prefixes.{FirstIs};
 ghost use Rattle.sf_scan.specs.Leaves.{ReadsOn, ReadsLeaf, InString, EndsGroup, EndsPadding};
-ghost use Rattle.sf_scan.specs.Leaves.{EndsEscape, BehindUnencoded, BeginsDigit, is_start};
+ghost use Rattle.sf_scan.specs.Leaves.{TakesEscape, StopsShown, BehindUnencoded, BeginsDigit};
+ghost use Rattle.sf_scan.specs.Leaves.{is_start};
 
 use crate::digits::{read_digits, thousandths, with_sign};
 use crate::place::{LeafPlace, can_begin};
@@ -305,7 +306,7 @@ fn read_string<'a>(text: &'a [u8], more: &'a [u8]) -> LeafEnd<'a>
 fn read_open<'a>(text: &'a [u8], more: &'a [u8], rest: &'a [u8]) -> LeafEnd<'a>
     requires split { text.now ≡ quote ∷ more.now }
     requires inside { InString more.now rest.now }
-    requires open { FirstIs (λ b. b ≢ quote) rest.now }
+    requires unclosed { FirstIs (λ b. b ≢ quote) rest.now }
     ensures { ReadsOn (InText (Inside [])) more.now result }
 {
     let Some(_) = behind(rest, b'\\') else {
@@ -414,7 +415,7 @@ fn read_end(over: u8, text: &[u8]) -> (LeafPlace, &[u8])
 fn read_equals(over: u8, text: &[u8]) -> (LeafPlace, &[u8])
     requires few { over < 4 }
     requires stops { FirstIs (λ b. is_base64 b ≡ false) text.now }
-    requires open { FirstIs (λ b. b ≢ colon) text.now }
+    requires unclosed { FirstIs (λ b. b ≢ colon) text.now }
     ensures { EndsGroup over text.now result.0 result.1.now }
 {
     if over < 2 {
@@ -442,7 +443,7 @@ fn read_padding(most: u8, text: &[u8]) -> (LeafPlace, &[u8])
 #[inline(always)]
 fn read_equal(most: u8, text: &[u8]) -> (LeafPlace, &[u8])
     requires few { most ≤ 1 }
-    requires open { FirstIs (λ b. b ≢ colon) text.now }
+    requires unclosed { FirstIs (λ b. b ≢ colon) text.now }
     ensures { EndsPadding most text.now result.0 result.1.now }
 {
     if most == 0 {
@@ -537,7 +538,9 @@ fn behind_unencoded(chars: Utf8State, text: &[u8]) -> &[u8]
 #[inline(always)]
 fn read_escape(chars: Utf8State, text: &[u8]) -> Result<(Utf8State, &[u8]), LeafEnd<'_>>
     requires { GoodUtf8 (utf8_of chars) }
-    ensures { EndsEscape (utf8_of chars) text.now result }
+    ensures taken { IfOk result (λ r. TakesEscape (utf8_of chars) text.now (utf8_of r.0) r.1.now) }
+    ensures stopped { IfErr result (λ end. (bytes : List ℕ)
+        → StopsShown (Percent bytes (utf8_of chars)) text.now end) }
 {
     let Some((high, more)) = read_digit(text) else {
         return Err(LeafEnd {

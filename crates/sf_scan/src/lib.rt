@@ -2,10 +2,10 @@
 //! made of it.
 #![tactic(auto)]
 
-pub mod build;
+mod build;
+mod checking;
 mod digits;
 mod leaf;
-mod nodes;
 mod params;
 mod place;
 mod runs;
@@ -13,8 +13,8 @@ mod sets;
 mod tree;
 
 pub use build::{Build, Nothing, Param, Unbuilt};
+pub use checking::{Stop, check_params};
 pub use leaf::{Leaf, LeafEnd, Slice, read_leaf};
-pub use nodes::{Node, Nodes};
 pub use params::{ParamsEnd, ParamsPlace, read_params};
 pub use place::LeafPlace;
 pub use tree::{Tree, build_params};

@@ -1,5 +1,5 @@
 //! Parameters (RFC 9651 section 4.2.3.2).
-ghost use Rattle.std.specs.Prelude.{◌≡◌, ◌++◌, false, is_some, IfOk, IfSome, IfNone};
+ghost use Rattle.std.specs.Prelude.{◌≡◌, ◌++◌, false, is_some, IfOk, IfSome, IfNone, OnErr};
 ghost use Rattle.sf_value.specs.Grammar.Classes.{is_in_key, is_key_start};
 ghost use Rattle.sf_value.specs.Grammar.Tokens.{IsKey};
 ghost use Rattle.sf_parse.specs.Expected.{MarksStep};
@@ -51,9 +51,10 @@ impl ParamsPlace {
         ensures { (s : ParamsState) → IsAtParams self s → result ≡ is_some (params_finish s) }
     {
         match self {
-            ParamsPlace::Before | ParamsPlace::Key => true,
-            ParamsPlace::Opened => false,
-            ParamsPlace::Value(place) => place.may_end(),
+            ParamsPlace::Before => return true,
+            ParamsPlace::Opened => return false,
+            ParamsPlace::Key => return true,
+            ParamsPlace::Value(place) => return place.may_end(),
         }
     }
 }
@@ -82,7 +83,10 @@ pub fn read_params<'a, B: Build>(
     build: &mut B,
 ) -> Result<ParamsEnd<'a>, Unbuilt>
     // They were read as far as they go, and each whole one was taken.
-    ensures { IfOk result (λ end. ReadsParams dialect B.takes text.now end build.old build.new) }
+    ensures reads { IfOk result (λ end. ReadsParams dialect B.takes text.now end build.old
+        build.new) }
+    // Otherwise one was not taken.
+    ensures fails { OnErr result ((b : B) × B.fails b) }
 {
     let Some(_) = behind(text, b';') else {
         return Ok(ParamsEnd {
@@ -101,7 +105,10 @@ fn read_each_param<'a, B: Build>(
     build: &mut B,
 ) -> Result<ParamsEnd<'a>, Unbuilt>
     // They were read as far as they go, and each whole one was taken.
-    ensures { IfOk result (λ end. ReadsParams dialect B.takes text.now end build.old build.new) }
+    ensures reads { IfOk result (λ end. ReadsParams dialect B.takes text.now end build.old
+        build.new) }
+    // Otherwise one was not taken.
+    ensures fails { OnErr result ((b : B) × B.fails b) }
 {
     let mut end = ParamsEnd {
         place: ParamsPlace::Before,

@@ -9,8 +9,8 @@ ghost use Rattle.sf_parse.specs.Machine.Showns.{shown_step, can_begin as can_beg
 ghost use Rattle.sf_scan.specs.LeafStates.{LeafState, IsAt, leaf_step, leaf_finish, shown_at};
 
 use crate::sets::{
-    BARE_8941, BARE_9651, BASE64, BITS, COLON, DIGITS, EQUALS, ESCAPED, MINUS, PERCENT,
-    POINT, QUOTE, TOKEN, VISIBLE, set_if,
+    BARE_8941, BARE_9651, BASE64, BITS, COLON, DIGITS, EQUALS, ESCAPED, MINUS, PERCENT, POINT,
+    QUOTE, TOKEN, VISIBLE, set_if,
 };
 use sf_value::{Dialect, Utf8State, unhex};
 
@@ -94,14 +94,22 @@ impl LeafPlace {
         ensures { (s : LeafState) → IsAt self s → result ≡ is_some (leaf_finish s) }
     {
         match self {
-            LeafPlace::Whole(count) | LeafPlace::Fraction(count) | LeafPlace::Date(count) => {
-                count >= 1
-            }
-            LeafPlace::Token | LeafPlace::Closed => true,
-            LeafPlace::Start | LeafPlace::Text | LeafPlace::Escape | LeafPlace::Question => false,
-            LeafPlace::At | LeafPlace::Group(_) | LeafPlace::Padding(_) => false,
-            LeafPlace::Percent | LeafPlace::Shown(_) | LeafPlace::ShownEscape(_) => false,
-            LeafPlace::ShownDigit(_, _) => false,
+            LeafPlace::Start => return false,
+            LeafPlace::Whole(count) => return count >= 1,
+            LeafPlace::Fraction(count) => return count >= 1,
+            LeafPlace::Token => return true,
+            LeafPlace::Text => return false,
+            LeafPlace::Escape => return false,
+            LeafPlace::Question => return false,
+            LeafPlace::At => return false,
+            LeafPlace::Date(count) => return count >= 1,
+            LeafPlace::Group(_) => return false,
+            LeafPlace::Padding(_) => return false,
+            LeafPlace::Percent => return false,
+            LeafPlace::Shown(_) => return false,
+            LeafPlace::ShownEscape(_) => return false,
+            LeafPlace::ShownDigit(_, _) => return false,
+            LeafPlace::Closed => return true,
         }
     }
 }

@@ -1,5 +1,5 @@
 //! The tree of parameters.
-ghost use Rattle.std.specs.Prelude.{◌≡◌, [], IfOk, IfSome};
+ghost use Rattle.std.specs.Prelude.{◌≡◌, [], ⊤, IfOk, IfSome};
 ghost use Rattle.sf_value.specs.declared.dialect.Dialect.TheVariants.{Rfc9651};
 ghost use Rattle.sf_value.specs.declared.value.Bare.{Bare as BareItem};
 ghost use Rattle.sf_value.specs.Grammar.BareItems.{SpellsBare};
@@ -61,6 +61,9 @@ impl Tree {
 
 impl Build for Tree {
     ghost takes = { PutsBare };
+
+    // An allocation may fail.
+    ghost fails = { λ _. ⊤ };
 
     #[inline(always)]
     fn take_param(&mut self, param: Param<'_>) -> Result<(), Unbuilt> {

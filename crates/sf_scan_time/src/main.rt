@@ -1,11 +1,14 @@
 //! Single calls on a text, to be counted: the first byte of the input says which, the rest is the text.
 #![tactic(auto)]
 
+mod nodes;
+
+use crate::nodes::{Node, Nodes};
 use anyhow::{Result, anyhow};
 use sf_parse::parse_text;
-use sf_scan::{LeafEnd, Node, Nodes, Nothing, ParamsEnd, Unbuilt, build_params, read_leaf, read_params};
+use sf_scan::{Nothing, build_params, check_params, read_leaf, read_params};
 use sf_tool::read_all;
-use sf_value::{Dialect, Entries, Bare, Kind, Reading};
+use sf_value::{Bare, Dialect, Entries, Kind, Reading};
 use sf_view::{View, accepts};
 use std::alloc::Global;
 use std::hash::RandomState;
@@ -48,7 +51,12 @@ fn nodes(text: &[u8], buffer: &mut [Node]) -> u64 {
     if leaf.leaf.is_none() {
         return 0;
     }
-    let mut build = Nodes { nodes: buffer, count: 0, whole: text.len(), role: 13 };
+    let mut build = Nodes {
+        nodes: buffer,
+        count: 0,
+        whole: text.len(),
+        role: 13,
+    };
     match read_params(Dialect::Rfc9651, leaf.left, &mut build) {
         Ok(end) => u64::from(end.place.may_end() && end.left.is_empty()),
         Err(_) => 0,
@@ -62,7 +70,8 @@ fn tree(alloc: Global, seed: &RandomState, text: &[u8]) -> u64 {
         return 0;
     }
     match build_params(alloc, seed, Dialect::Rfc9651, leaf.left) {
-        Ok((params, end)) => u64::from(end.place.may_end() && end.left.is_empty()) + params.len() as u64,
+        Ok((params, end)) => u64::from(end.place.may_end() && end.left.is_empty())
+            + params.len() as u64,
         Err(_) => 0,
     }
 }
@@ -70,11 +79,7 @@ fn tree(alloc: Global, seed: &RandomState, text: &[u8]) -> u64 {
 #[inline(never)]
 fn refused(text: &[u8]) -> u128 {
     let leaf = read_leaf(Dialect::Rfc9651, text);
-    let mut build = Nothing;
-    match read_params(Dialect::Rfc9651, leaf.left, &mut build) {
-        Ok(end) => end.place.expected(Dialect::Rfc9651),
-        Err(_) => 0,
-    }
+    check_params(Dialect::Rfc9651, leaf.left).expected
 }
 
 fn main(rt: HostRuntime) -> Result<()> {

@@ -35,7 +35,9 @@ before-requires c =
 pub returns : goal.returns
 returns c =
     let i = c.loop-escape.invariant in
-    text_ends _ _ _ i.inside.0 _ i.inside.1 c.in-Some-behind.ensures.some refl refl
-    (Text i.inside.0, refl,
-    escaped_value _ _ _ _ i.inside.0 _ c.requires.split i.inside.1 c.in-Some-behind.ensures.some
-    c.before.ensures)
+    text_ends _ _ _ i.inside.0 _ i.inside.1 c.in-Some-behind.ensures.some refl refl (
+      Text i.inside.0,
+      refl,
+      escaped_value _ _ _ _ i.inside.0 _ c.requires.split i.inside.1 c.in-Some-behind.ensures.some
+          c.before.ensures,
+    )

@@ -15,20 +15,19 @@ loop-escape-init c = display_begins _ _ c.behind_unencoded-rest.ensures
 pub returns-in-Err : goal.returns-in-Err
 returns-in-Err c =
     shown_escape _ _ _ _ (utf8_of c.loop-escape.chars) _ c.in-Some.ensures.some
-    c.loop-escape.invariant c.in-Some-behind.ensures.some c.in-Err.ensures
+    c.loop-escape.invariant c.in-Some-behind.ensures.some c.in-Err.ensures.stopped
 
 pub loop-escape-preserved : goal.loop-escape-preserved
 loop-escape-preserved c =
-    display_goes_on _ _ _ _ _ _ _ c.in-Ok.ensures.0 c.loop-escape.invariant
-    c.in-Some-behind.ensures.some c.in-Ok.ensures.1 c.in-Ok.ensures.2
-    c.behind_unencoded-rest-2.ensures
+    display_goes_on _ _ _ _ _ _ _ c.loop-escape.invariant c.in-Some-behind.ensures.some
+    c.in-Ok.ensures.taken c.behind_unencoded-rest-2.ensures
 
 pub read_escape-requires : goal.read_escape-requires
 read_escape-requires c = c.loop-escape.invariant.good
 
 pub loop-escape-smaller : goal.loop-escape-smaller
 loop-escape-smaller c =
-    display_shorter _ _ _ _ _ _ c.in-Ok.ensures.0 c.in-Some-behind.ensures.some c.in-Ok.ensures.2
+    display_shorter _ _ _ _ _ _ c.in-Some-behind.ensures.some c.in-Ok.ensures.taken
     c.behind_unencoded-rest-2.ensures
 
 pub returns-then-not-is_between : goal.returns-then-not-is_between
@@ -53,7 +52,9 @@ returns c =
     let i = c.loop-escape.invariant in
     let between = sym c.is_between.ensures ∙ c.if-not-is_between.false in
     shown_ends _ _ _ _ (utf8_of c.loop-escape.chars) _ c.in-Some.ensures.some i
-    c.in-Some-behind-2.ensures.some between refl refl
-    (Shown i.bytes, refl,
-    shown_value _ _ _ _ _ _ (utf8_of c.loop-escape.chars) c.requires c.in-Some.ensures.some i
-    c.in-Some-behind-2.ensures.some between c.before.ensures)
+    c.in-Some-behind-2.ensures.some between refl refl (
+      Shown i.bytes,
+      refl,
+      shown_value _ _ _ _ _ _ (utf8_of c.loop-escape.chars) c.requires c.in-Some.ensures.some i
+          c.in-Some-behind-2.ensures.some between c.before.ensures,
+    )

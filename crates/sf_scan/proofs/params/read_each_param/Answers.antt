@@ -12,17 +12,20 @@ take_param-requires g c = found_taken c.args.dialect _ _ c.in-Ok.ensures
 pub loop-more-preserved : goal.loop-more-preserved
 loop-more-preserved g c =
     passed_more g.B.Build.takes c.args.dialect _ _ _ _ _ _ _ c.loop-more.invariant
-    c.in-Some.ensures.some c.in-Ok.ensures c.in_ok-take_param.ensures
+    c.in-Some.ensures.some c.in-Ok.ensures c.in_ok-take_param.ensures.takes
 
 pub loop-more-smaller : goal.loop-more-smaller
 loop-more-smaller g c =
     found_shorter g.B.Build.takes c.args.dialect _ _ _ c.in-Some.ensures.some c.in-Ok.ensures
 
-pub returns-in-Err : goal.returns-in-Err
-returns-in-Err g c =
+pub returns-in-Err-clause-reads : goal.returns-in-Err-clause-reads
+returns-in-Err-clause-reads g c =
     passed_stop g.B.Build.takes c.args.dialect _ _ _ _ _ _ c.loop-more.invariant
     c.in-Some.ensures.some c.in-Err.ensures
 
-pub returns : goal.returns
-returns g c =
+pub returns-clause-reads : goal.returns-clause-reads
+returns-clause-reads g c =
     passed_all g.B.Build.takes c.args.dialect _ _ _ _ c.loop-more.invariant c.loop-more-test.false
+
+pub returns-in_err-take_param-clause-fails : goal.returns-in_err-take_param-clause-fails
+returns-in_err-take_param-clause-fails g c = (_, c.in_err-take_param.ensures.fails)

@@ -2,7 +2,7 @@ use Rattle.std.proofs.Common.{refl}
 use Rattle.sf_scan.proofs.Params.{passed_none, passed_all}
 use Rattle.sf_scan.proofs.params.read_params.Goals as goal
 
-pub returns-in_default : goal.returns-in_default
-returns-in_default g c =
+pub returns-in_default-clause-reads : goal.returns-in_default-clause-reads
+returns-in_default-clause-reads g c =
     passed_all g.B.Build.takes c.args.dialect _ _ _ _
     (passed_none g.B.Build.takes c.args.dialect _ _ _ refl refl) c.in_default.ensures.none

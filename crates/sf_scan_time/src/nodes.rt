@@ -1,7 +1,6 @@
 //! Nodes of parameters.
 
-use crate::build::{Build, Param, Unbuilt};
-use crate::leaf::{Leaf, Slice};
+use sf_scan::{Build, Leaf, Param, Slice, Unbuilt};
 
 /// A part of a value, with the offsets of its bytes in the text.
 #[repr(C)]
@@ -97,7 +96,14 @@ fn content(leaf: Leaf<'_>) -> Payload {
         Leaf::Integer(value) => return number(22, value),
         Leaf::Decimal(value) => return number(23, value),
         Leaf::Text(slice) => return bytes(24, u8::from(!slice.coded), slice),
-        Leaf::Token(token) => return bytes(25, 0, Slice { bytes: token, coded: false }),
+        Leaf::Token(token) => return bytes(
+            25,
+            0,
+            Slice {
+                bytes: token,
+                coded: false,
+            },
+        ),
         Leaf::Blob(text) => return coded(26, text),
         Leaf::Boolean(holds) => return number(27, i64::from(holds)),
         Leaf::Date(value) => return number(28, value),
@@ -107,6 +113,8 @@ fn content(leaf: Leaf<'_>) -> Payload {
 
 impl Build for Nodes<'_> {
     ghost takes = { λ _ _ _. Unit {0} };
+
+    ghost fails = { λ _. Unit {0} };
 
     #[inline(always)]
     fn take_param(&mut self, param: Param<'_>) -> Result<(), Unbuilt> {
