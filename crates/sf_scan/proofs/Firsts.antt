@@ -48,12 +48,21 @@ so_far_within p text rest s =
     omega (arith, length-append s.taken rest)
 
 -- the bytes before the rest
-pub front_is : (p : ℕ → Bool) (text rest front : List ℕ) → SoFar p text rest
-    → front ≡ take (length text - length rest) text → Every p front
-front_is p text rest front s f =
-    subst (Every p) (sym (f ∙ cut text s.taken rest s.split)) s.each
+pub before_within : (text front left : List ℕ) → text ≡ front ++ left → length left ≤ length text
+before_within text front left e =
+    let k : length text ≡ length (front ++ left) = ap length e in
+    omega (arith, length-append front left)
 
-pub front_splits : (p : ℕ → Bool) (text rest front : List ℕ) → SoFar p text rest
-    → front ≡ take (length text - length rest) text → text ≡ front ++ rest
-front_splits p text rest front s f =
-    s.split ∙ ap (λ y. y ++ rest) (sym (f ∙ cut text s.taken rest s.split))
+pub before_splits : (text front left result : List ℕ) → text ≡ front ++ left
+    → result ≡ take (length text - length left) text → text ≡ result ++ left
+before_splits text front left result e f =
+    e ∙ ap (λ y. y ++ left) (sym (f ∙ cut text front left e))
+
+pub front_every : (p : ℕ → Bool) (text rest front : List ℕ) → SoFar p text rest
+    → text ≡ front ++ rest → Every p front
+front_every p text rest front s e =
+    subst (Every p) (sym (cut text s.taken rest s.split) ∙ cut text front rest e) s.each
+
+pub so_far_splits : (p : ℕ → Bool) (text rest : List ℕ) → SoFar p text rest
+    → (front : List ℕ) × (text ≡ front ++ rest)
+so_far_splits p text rest s = (s.taken, s.split)

@@ -428,16 +428,6 @@ token_value b run_of token h k e = (
   subst IsToken (sym e) (h, k),
 )
 
-pub before_within : (text front left : List ℕ) → text ≡ front ++ left → length left ≤ length text
-before_within text front left e =
-    let k : length text ≡ length (front ++ left) = ap length e in
-    omega (arith, length-append front left)
-
-pub before_splits : (text front left result : List ℕ) → text ≡ front ++ left
-    → result ≡ take (length text - length left) text → text ≡ result ++ left
-before_splits text front left result e f =
-    e ∙ ap (λ y. y ++ left) (sym (f ∙ cut text front left e))
-
 pub string_shorter : (rest escape next run_of left : List ℕ) → rest ≡ 92 ∷ escape
     → BeginsEscaped escape next → next ≡ run_of ++ left → length left < length rest
 string_shorter rest escape next run_of left w (b, e, h) k =

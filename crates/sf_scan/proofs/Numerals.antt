@@ -9,9 +9,9 @@ use Rattle.sf_value.specs.Grammar.Numbers.{value_from, signed}
 use Rattle.sf_value.specs.declared.value.Bare.TheVariants as bare
 use Rattle.sf_value.specs.Grammar.Words.{Every}
 use Rattle.sf_value.proofs.Runs.{every_append}
-use Rattle.sf_parse.specs.Machine.Bares.{BareState, InNumber, InDate, bare_step, bare_finish}
+use Rattle.sf_parse.specs.Machine.Bares.{InNumber, InDate, bare_step, bare_finish}
 use Rattle.sf_parse.specs.Machine.Language.{run}
-use Rattle.sf_parse.specs.Machine.Numbers.{NumberState, Whole, Fraction, Digits, DateState}
+use Rattle.sf_parse.specs.Machine.Numbers.{Whole, Fraction, Digits, Sign}
 use Rattle.sf_parse.specs.Machine.Numbers.{number_step, date_step}
 use Rattle.sf_parse.specs.Prefixes.{Goes, FirstIs, Halts}
 use Rattle.sf_parse.proofs.Numerals.{below}
@@ -60,6 +60,30 @@ digits_more text value count rest b more s e h = record {
   number = let k = s.number in omega (arith, length-append s.taken (b ∷ []));
   amount = ap (λ y. 10 * y + (b - 48)) s.amount ∙ sym (value-snoc 0 s.taken b);
 }
+
+pub digits_taken : (text : List ℕ) (n : Numeral) (most : ℕ)
+    → SoManyDigits text n.value n.count n.left.now → TakesDigits most text n
+digits_taken text n most s = record {
+  taken = s.taken;
+  split = s.split;
+  each = s.each;
+  count = s.number;
+  value = s.amount;
+}
+
+pub not_digit : (b count most : ℕ) → is_digit b ≡ false → (is_digit b && nat_lt count most) ≡ false
+not_digit b count most h = rw h refl
+
+pub none_more : (count most : ℕ) (xs : List ℕ) → most ≤ count
+    → FirstIs (λ b. (is_digit b && nat_lt count most) ≡ false) xs
+none_more count most [] h = tt
+none_more count most (b ∷ xs) h =
+    let k : nat_lt count most ≡ false = grind arith in
+    rw k (off (is_digit b))
+  where
+    off : (c : Bool) → (c && false) ≡ false
+    off true = refl
+    off false = refl
 
 -- what the machine takes by digits
 whole_run : (neg : Bool) (c a : ℕ) (w : List ℕ) → Every is_digit w → c + length w ≤ 15

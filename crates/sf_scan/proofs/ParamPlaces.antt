@@ -1,7 +1,7 @@
 -- The bytes that may come at each place in parameters, and whether they may end there.
 use Rattle.std.specs.Option.{option_map, option_and_then}
 use Rattle.std.proofs.Common.{◌≡◌, ℕ, ◌^◌, Bool, true, false, cond, List, Option, Some, None, is_some}
-use Rattle.std.proofs.Common.{bit_or, refl, sym, ap, ◌∙◌, subst}
+use Rattle.std.proofs.Common.{bit_or, refl, sym, ap, ◌∙◌, subst, arith}
 use Rattle.sf_value.specs.declared.dialect.Dialect.{Dialect}
 use Rattle.sf_value.specs.declared.value.Bare.{Bare}
 use Rattle.sf_value.specs.Grammar.Pairs.{Pairs, put}

@@ -23,7 +23,7 @@ ghost use Rattle.sf_scan.specs.Leaves.{is_start};
 
 use crate::digits::{read_digits, thousandths, with_sign};
 use crate::place::{LeafPlace, can_begin};
-use crate::runs::{behind, run_of, split};
+use crate::runs::{before, behind, run_of, split};
 use sf_value::classes::{Base64, InToken, UnencodedByte, Unescaped};
 use sf_value::{Dialect, Utf8State, can_start_token, unhex};
 
@@ -267,16 +267,6 @@ fn read_unsigned(text: &[u8]) -> LeafEnd<'_>
         place: LeafPlace::Date(number.count),
         left: number.left,
     }
-}
-
-/// The bytes of a text before what is left of it.
-#[inline(always)]
-fn before<'a>(text: &'a [u8], left: &'a [u8]) -> &'a [u8]
-    requires { (front : List ℕ) × (text.now ≡ front ++ left.now) }
-    ensures { text.now ≡ result.now ++ left.now }
-{
-    let (front, _) = text.split_at(text.len() - left.len());
-    front
 }
 
 /// A String. `more` is the text after its opening quote.

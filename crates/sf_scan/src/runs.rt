@@ -1,5 +1,5 @@
 //! What a text begins with: single bytes, and the longest runs of bytes of a class.
-ghost use Rattle.std.specs.Prelude.{◌≡◌, ◌≢◌, ◌++◌, ◌∷◌, [], false, IfSome, IfNone};
+ghost use Rattle.std.specs.Prelude.{◌≡◌, ◌≢◌, ◌++◌, ◌∷◌, ℕ, List, [], false, IfSome, IfNone};
 ghost use Rattle.sf_value.specs.Grammar.Words.{Every};
 ghost use Rattle.sf_parse.specs.Prefixes.{FirstIs};
 
@@ -83,6 +83,16 @@ pub fn behind(text: &[u8], byte: u8) -> Option<&[u8]>
     }
 }
 
+/// The bytes of a text before what is left of it.
+#[inline(always)]
+pub fn before<'a>(text: &'a [u8], left: &'a [u8]) -> &'a [u8]
+    requires { (front : List ℕ) × (text.now ≡ front ++ left.now) }
+    ensures { text.now ≡ result.now ++ left.now }
+{
+    let (front, _) = text.split_at(text.len() - left.len());
+    front
+}
+
 /// The longest run of bytes of the class that the text begins with, and the rest.
 #[inline(always)]
 pub fn run_of<C: RunClass>(text: &[u8]) -> (&[u8], &[u8])
@@ -115,9 +125,9 @@ fn run_by_bytes<C: RunClass>(text: &[u8]) -> (&[u8], &[u8])
     let mut rest = text;
     while let Some((first, more)) = split(rest) {
         if !C::has(first) {
-            return text.split_at(text.len() - rest.len());
+            return (before(text, rest), rest);
         }
         rest = more;
     }
-    text.split_at(text.len() - rest.len())
+    (before(text, rest), rest)
 }

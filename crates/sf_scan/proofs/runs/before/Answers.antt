@@ -1,5 +1,5 @@
-use Rattle.sf_scan.proofs.Leaves.{before_splits, before_within}
-use Rattle.sf_scan.proofs.leaf.before.Goals as goal
+use Rattle.sf_scan.proofs.Firsts.{before_splits, before_within}
+use Rattle.sf_scan.proofs.runs.before.Goals as goal
 
 pub overflow_sub-text : goal.overflow_sub-text
 overflow_sub-text c = before_within _ _ _ c.requires.1
