@@ -159,7 +159,7 @@ fn main(rt: HostRuntime) -> Result<()> {
     let mut bad = 0u32;
     let mut accepted = 0u32;
     let mut tried = 0u32;
-    for round in 0..200000u32 {
+    for round in 0..30000u32 {
         let mut text = Vec::new(alloc);
         text.extend_from_slice(b"?1")?;
         let count = next(&mut state) % 9;
