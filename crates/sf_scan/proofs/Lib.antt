@@ -4,7 +4,7 @@ pub mod Leaves
 pub mod Blobs
 pub mod Showns
 pub mod Places
-pub mod Params
+pub mod ParamSteps
 pub mod ParamPlaces
 pub mod Trees
 pub mod Exact

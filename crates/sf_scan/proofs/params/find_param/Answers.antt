@@ -1,5 +1,5 @@
 use Rattle.std.proofs.Common.{refl}
-use Rattle.sf_scan.proofs.Params.{no_key, flag_found, value_stops, value_found, behind_run}
+use Rattle.sf_scan.proofs.ParamSteps.{no_key, flag_found, value_stops, value_found, behind_run}
 use Rattle.sf_scan.proofs.params.find_param.Goals as goal
 
 pub returns-in_default : goal.returns-in_default

@@ -1,6 +1,6 @@
 use Rattle.std.proofs.Common.{refl}
-use Rattle.sf_scan.proofs.Params.{passed_none, passed_more, passed_all, passed_stop, found_shorter}
-use Rattle.sf_scan.proofs.Params.{found_taken}
+use Rattle.sf_scan.proofs.ParamSteps.{passed_none, passed_more, passed_all, passed_stop, found_shorter}
+use Rattle.sf_scan.proofs.ParamSteps.{found_taken}
 use Rattle.sf_scan.proofs.params.read_each_param.Goals as goal
 
 pub loop-more-init : goal.loop-more-init

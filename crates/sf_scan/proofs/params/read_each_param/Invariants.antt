@@ -1,5 +1,5 @@
 use Rattle.std.proofs.Common.{length}
-use Rattle.sf_scan.proofs.Params.{Passed}
+use Rattle.sf_scan.proofs.ParamSteps.{Passed}
 use Rattle.sf_scan.proofs.params.read_each_param.Given as goal
 
 abbrev pub invariant-loop-more : goal.invariant-loop-more

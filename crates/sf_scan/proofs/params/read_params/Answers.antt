@@ -1,5 +1,5 @@
 use Rattle.std.proofs.Common.{refl}
-use Rattle.sf_scan.proofs.Params.{passed_none, passed_all}
+use Rattle.sf_scan.proofs.ParamSteps.{passed_none, passed_all}
 use Rattle.sf_scan.proofs.params.read_params.Goals as goal
 
 pub returns-in_default-clause-reads : goal.returns-in_default-clause-reads
