@@ -38,7 +38,7 @@ pub trait Build {
     /// Takes a parameter.
     fn take_param(&mut self, param: Param<'_>) -> Result<(), Unbuilt>
         requires { IsTaken param }
-        ensures takes { IfOk result (λ _. takes self.old param self.new) }
+        ensures takes { IfOk result (λ _. takes self.old param.entry self.new) }
         ensures fails { OnErr result (fails self.old) };
 }
 
