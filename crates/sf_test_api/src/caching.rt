@@ -4,9 +4,11 @@ mod rows;
 use crate::building::seed;
 use crate::caching::rows::{From, ROWS, Row, TARGETS};
 use crate::targeted::{headers_of, names_of};
+use http_header::{DATE, EXPIRES, HeaderMap};
 use sf_field::ask;
 use sf_use::{
-    CacheRules, Decision, Policy, RulesChoice, TargetedRules, expires_lifetime, select_rules,
+    CacheRules, Decision, Policy, RulesChoice, TargetedRules, expires_lifetime, fallback_rules,
+    select_rules,
 };
 use sf_value::Blob;
 use std::hash::RandomState;
@@ -28,7 +30,7 @@ fn decision_of(rules: CacheRules, row: &Row) -> Decision {
     rules.decide(row.cache, row.age)
 }
 
-/// The field that is obeyed, and what is decided by a targeted field.
+/// The field that is obeyed, and what is decided by it.
 #[test]
 fn decisions(rt: HostRuntime) {
     let seed = seed(&rt);
@@ -39,9 +41,33 @@ fn decisions(rt: HostRuntime) {
                 let decision = decision_of(rules, row);
                 assert_eq!(rt; (decision.reuse, decision.by), (row.reuse, row.by));
             }
-            RulesChoice::Fallback => assert_eq!(rt; From::Fallback, row.from),
+            RulesChoice::Fallback => {
+                assert_eq!(rt; From::Fallback, row.from);
+                let decision = fallback_decision(&headers_of(&rt, row.head), row);
+                assert_eq!(rt; (decision.reuse, decision.by), (row.reuse, row.by));
+            }
         }
     }
+}
+
+/// What is decided by `Cache-Control`, and by `Expires` if that sets no lifetime. No row has an
+/// `Expires` without a `Date`, for which the time of receipt would count.
+fn fallback_decision(headers: &HeaderMap, row: &Row) -> Decision {
+    let rules = fallback_rules(headers);
+    let rules = if row.understood {
+        rules.understood()
+    } else {
+        rules
+    };
+    let Some(expires) = headers.get(&EXPIRES) else {
+        return rules.decide(row.cache, row.age);
+    };
+    let date = headers.get(&DATE);
+    let lifetime = match date {
+        Some(date) => expires_lifetime(expires.as_bytes(), Some(date.as_bytes()), 0),
+        None => expires_lifetime(expires.as_bytes(), None, 0),
+    };
+    rules.decide_with(row.cache, Some(lifetime), row.age)
 }
 
 /// What a targeted field of one line says, read from its text and from its Dictionary.

@@ -13,6 +13,8 @@ mod asking;
 #[cfg(test)]
 mod building;
 #[cfg(test)]
+mod cache_control;
+#[cfg(test)]
 mod cache_status;
 #[cfg(test)]
 mod caching;

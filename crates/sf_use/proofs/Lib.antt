@@ -9,3 +9,8 @@ pub mod ResponsePriorities
 pub mod Decisions
 pub mod RulesChoosing
 pub mod RulesScanning
+pub mod CacheControlRuns
+pub mod CacheControlValues
+pub mod CacheControlElements
+pub mod CacheControlRules
+pub mod CacheControlTexts

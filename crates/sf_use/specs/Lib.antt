@@ -14,3 +14,5 @@ pub mod Caching
 pub mod CachingLaws
 pub mod TargetedRules
 pub mod Expires
+pub mod CacheControl
+pub mod CacheControlSteps

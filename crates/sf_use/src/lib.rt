@@ -13,6 +13,7 @@
 //! terms of the RFC.
 #![tactic(auto)]
 
+pub mod cache_control;
 pub mod cache_status;
 pub mod caching;
 pub mod expires;
@@ -23,6 +24,7 @@ mod response_priority;
 pub mod targeted;
 pub mod targeted_rules;
 
+pub use cache_control::fallback_rules;
 pub use cache_status::{
     AppendFault, Appended, CachePath, CacheStatus, Forward, Hop, HopCursor, HopParams, HopStatus,
     HopView, Name, NameView, Outcome, Passed, append_hop, append_to_lines,
