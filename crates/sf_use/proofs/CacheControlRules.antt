@@ -98,7 +98,7 @@ present_with_more name ds d =
     ∙ ap (λ b. is_present name ds || b) (or_false (is_named name d))
 
 -- rules and policies are equal if their parts are
-abbrev policy_by : Option ℕ → Option ℕ → Bool → Bool → Bool → Bool → Policy
+abbrev pub policy_by : Option ℕ → Option ℕ → Bool → Bool → Bool → Bool → Policy
 policy_by m s a b c d = record {
   max_age = m;
   s_maxage = s;
@@ -108,7 +108,7 @@ policy_by m s a b c d = record {
   is_private = d;
 }
 
-abbrev rules_by : Policy → Bool → Bool → Bool → Bool → Bool → CacheRules
+abbrev pub rules_by : Policy → Bool → Bool → Bool → Bool → Bool → CacheRules
 rules_by p a b c d e = record {
   policy = p;
   invalid_max_age = a;
@@ -118,11 +118,11 @@ rules_by p a b c d e = record {
   is_public = e;
 }
 
-same_policy : (m n s t : Option ℕ) (a b c d e f g h : Bool) → m ≡ n → s ≡ t → a ≡ e → b ≡ f
+pub same_policy : (m n s t : Option ℕ) (a b c d e f g h : Bool) → m ≡ n → s ≡ t → a ≡ e → b ≡ f
     → c ≡ g → d ≡ h → policy_by m s a b c d ≡ policy_by n t e f g h
 same_policy m n s t a b c d e f g h i j k l o p = cc
 
-same_rules : (p q : Policy) (a b c d e f g h i j : Bool) → p ≡ q → a ≡ f → b ≡ g → c ≡ h
+pub same_rules : (p q : Policy) (a b c d e f g h i j : Bool) → p ≡ q → a ≡ f → b ≡ g → c ≡ h
     → d ≡ i → e ≡ j → rules_by p a b c d e ≡ rules_by q f g h i j
 same_rules p q a b c d e f g h i j s t u v w x = cc
 

@@ -14,3 +14,5 @@ pub mod CacheControlValues
 pub mod CacheControlElements
 pub mod CacheControlRules
 pub mod CacheControlTexts
+pub mod CacheControlStrictness
+pub mod CacheControlLines

@@ -16,3 +16,4 @@ pub mod TargetedRules
 pub mod Expires
 pub mod CacheControl
 pub mod CacheControlSteps
+pub mod CacheControlLaws

@@ -1,5 +1,6 @@
 //! The laws of the consumers, each as the contract of a function that does nothing.
-ghost use Rattle.sf_use.specs.CacheStatus.Laws.{ReadsBack};
+ghost use Rattle.sf_use.specs.CacheStatus.Laws.{AppendedIsLast, ReadsBack};
+ghost use Rattle.sf_use.specs.CacheControlLaws.{ForbiddingIsAsStrict, LinesAreOneList, OneMeaning};
 ghost use Rattle.sf_use.specs.CachingLaws.{ExpiresIsIgnored, FreshIsYounger, InvalidIsNotAbsent};
 ghost use Rattle.sf_use.specs.CachingLaws.{InvalidIsNotFresh, MustBeUnderstood};
 ghost use Rattle.sf_use.specs.CachingLaws.{MustRevalidateIsNotServedStale, NoCacheIsValidated};
@@ -22,6 +23,13 @@ ghost use Rattle.sf_use.specs.TargetedRules.{ChosenAsSelected, ChosenAsSelectedI
 /// token.
 pub fn reads_back()
     ensures { ReadsBack }
+{}
+
+/// The hop that is appended to the members of a List is read back as the last of their hops, as by
+/// [`reads_back`], and those before it are read as without it. If one of the members names no
+/// cache, the List is refused as without it.
+pub fn appended_is_last()
+    ensures { AppendedIsLast }
 {}
 
 /// Targets and headers have exactly one choice, which [`crate::select`] returns: the first target,
@@ -101,4 +109,18 @@ pub fn rules_of_the_selected()
     ensures selected { ChosenAsSelected }
     ensures selected_in { (d : Dialect) → ChosenAsSelectedIn d }
     ensures named { OnlyNamedDecide }
+{}
+
+/// A text of `Cache-Control` has one meaning, and lines that are each a list of directives are one
+/// list when they are joined (RFC 9110 section 5.3), so [`crate::fallback_rules`] reads the whole
+/// field.
+pub fn cache_control_has_one_meaning()
+    ensures meaning { OneMeaning }
+    ensures lines { LinesAreOneList }
+{}
+
+/// One more directive that forbids something, wherever it is in `Cache-Control`, never makes a
+/// decision less strict (RFC 9111 section 4.2.1).
+pub fn forbidding_is_as_strict()
+    ensures { ForbiddingIsAsStrict }
 {}

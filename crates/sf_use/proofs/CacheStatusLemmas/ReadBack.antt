@@ -1,7 +1,11 @@
 -- The member that a hop is written as means that hop.
-use Rattle.std.proofs.Common.{◌≡◌, ℕ, ℤ, pos, Bool, List, [], ◌∷◌}
-use Rattle.std.proofs.Common.{Option, None, Some, Ok, refl, ap, ◌∙◌, arith, rules}
-use Rattle.std.specs.Prelude.{codes}
+use Rattle.std.proofs.Common.{◌≡◌, ℕ, ℤ, pos, ◌+◌, ◌≤◌, Bool, false, List, [], ◌∷◌, ◌++◌, length}
+use Rattle.std.proofs.Common.{Option, None, Some, Ok, refl, ap, ◌∙◌, arith, rules, length-append}
+use Rattle.std.specs.Prelude.{codes, cond, is_none, nat_lt, not, ◌==◌}
+use Rattle.std.specs.List.{cons_option, filter_map, position, position_or_len}
+use Rattle.std.proofs.lemmas.List.Elements.{filter_map-append}
+use Rattle.std.proofs.lemmas.List.Folds.{prefix_len-append}
+use Rattle.std.proofs.lemmas.List.Sums.{prefix_len-le-length}
 use Rattle.std.proofs.lemmas.Bool.Decides.{nat_tests}
 use Rattle.std.specs.List.{IsDistinct}
 use Rattle.std.specs.Option.{option_and_then, option_flatten, option_map, ForSome}
@@ -23,12 +27,13 @@ use Rattle.sf_use.specs.CacheStatus.Parameters.{as_name}
 use Rattle.sf_use.specs.CacheStatus.Reasons.{forward_of, token_of}
 use Rattle.sf_use.specs.Ranges.{IsHopStatus}
 use Rattle.sf_use.specs.CacheStatus.Hops.{hop_named, hops_of, member_hop, outcome_of, status_of}
-use Rattle.sf_use.specs.CacheStatus.Hops.{passed_by_token}
+use Rattle.sf_use.specs.CacheStatus.Hops.{passed_by_token, unless}
 use Rattle.sf_use.specs.CacheStatus.Members.{bare_of, entry, hit_value, parameters_of, passed_by}
 use Rattle.sf_use.specs.CacheStatus.Members.{collapsed_value, status_value, stored_value}
 use Rattle.sf_use.specs.CacheStatus.Members.{table_of, why_value}
 use Rattle.sf_use.specs.CacheStatus.Laws.{HasStatusInRange, canonical_hop, canonical_outcome}
-use Rattle.sf_use.specs.CacheStatus.Laws.{canonical_passed, canonical_reason, ReadsBack}
+use Rattle.sf_use.specs.CacheStatus.Laws.{canonical_passed, canonical_reason, with_last}
+use Rattle.sf_use.specs.CacheStatus.Laws.{AppendedIsLast, ReadsBack}
 use Rattle.sf_use.proofs.CacheStatusLemmas.Written.{value-present}
 
 distinct-table : (h : Hop) → HasDistinctKeys (table_of h)
@@ -126,8 +131,49 @@ hop-back h ok =
 one-hop : (m : Member) (h : Hop) → member_hop m ≡ Some h → hops_of (m ∷ []) ≡ Ok (h ∷ [])
 one-hop m h e = rw e
 
+entry-back : (h : Hop) → HasStatusInRange h → member_hop (entry h) ≡ Some (canonical_hop h)
+entry-back h ok =
+    ap (option_map (hop_named (parameters_of h))) (bare-back h.name)
+    ∙ ap (λ x. Some x) (hop-back h ok)
+
 pub reads_back : ReadsBack
-reads_back h ok =
-    one-hop (entry h) (canonical_hop h)
-    (ap (option_map (hop_named (parameters_of h))) (bare-back h.name)
-    ∙ ap (λ x. Some x) (hop-back h ok))
+reads_back h ok = one-hop (entry h) (canonical_hop h) (entry-back h ok)
+
+-- one more element that does not pass leaves the first one that does
+place-kept : (n l : ℕ) → n ≤ l
+    → cond (nat_lt (cond (n == l) (l + 1) n) (l + 1)) (Some (cond (n == l) (l + 1) n)) None
+    ≡ cond (nat_lt n l) (Some n) None
+place-kept n l h = grind (arith, nat_tests)
+
+position-kept : {X : Type 0} (p : X → Bool) (xs : List X) (x : X) → p x ≡ false
+    → position p (xs ++ x ∷ []) ≡ position p xs
+position-kept p xs x e =
+    let one : position_or_len p (x ∷ []) ≡ 1 = rw e refl in
+    let place : position_or_len p (xs ++ x ∷ [])
+    ≡ cond (position_or_len p xs == length xs) (length xs + 1) (position_or_len p xs) =
+    prefix_len-append (λ y. not (p y)) xs (x ∷ [])
+    ∙ ap (λ n. cond (position_or_len p xs == length xs) (length xs + n) (position_or_len p xs))
+    one in
+    ap (λ n. cond (nat_lt n (length (xs ++ x ∷ []))) (Some n) None) place
+    ∙ ap (λ l. cond (nat_lt (cond (position_or_len p xs == length xs) (length xs + 1)
+    (position_or_len p xs)) l) (Some (cond (position_or_len p xs == length xs) (length xs + 1)
+    (position_or_len p xs))) None) (length-append xs (x ∷ []))
+    ∙ place-kept (position_or_len p xs) (length xs)
+    (prefix_len-le-length (λ y. not (p y)) xs)
+
+unless-last : (o : Option ℕ) (hs : List Hop) (h : Hop)
+    → unless o (hs ++ h ∷ []) ≡ with_last (unless o hs) h
+unless-last None hs h = refl
+unless-last (Some index) hs h = refl
+
+pub appended_is_last : AppendedIsLast
+appended_is_last ms h ok =
+    let back = entry-back h ok in
+    let names : is_none (member_hop (entry h)) ≡ false = ap is_none back in
+    ap (λ o. unless o (filter_map member_hop (ms ++ entry h ∷ [])))
+    (position-kept (λ m. is_none (member_hop m)) ms (entry h) names)
+    ∙ ap (unless (position (λ m. is_none (member_hop m)) ms))
+    (filter_map-append member_hop ms (entry h ∷ [])
+    ∙ ap (λ o. filter_map member_hop ms ++ cons_option o []) back)
+    ∙ unless-last (position (λ m. is_none (member_hop m)) ms) (filter_map member_hop ms)
+    (canonical_hop h)

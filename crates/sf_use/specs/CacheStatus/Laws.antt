@@ -1,6 +1,7 @@
 -- What is written is read back. The law is the contract of a function in `src/laws.rt`.
-use Rattle.std.specs.Prelude.{◌≡◌, [], ◌∷◌, Ok}
+use Rattle.std.specs.Prelude.{◌≡◌, ℕ, List as Seq, [], ◌∷◌, ◌++◌, Result, Ok, Err}
 use Rattle.std.specs.Option.{option_and_then, ForSome}
+use Rattle.sf_value.specs.declared.value.Member.{Member}
 use Rattle.sf_value.specs.Grammar.Fields.{list_of}
 use Rattle.sf_use.specs.declared.cache_status.hop.Forward.{Forward}
 use Rattle.sf_use.specs.declared.cache_status.hop.Forward.TheVariants.{Other}
@@ -41,3 +42,16 @@ HasStatusInRange h =
 abbrev pub ReadsBack : Type 0
 ReadsBack =
     (h : Hop) → HasStatusInRange h → hops (list_of (entry h ∷ [])) ≡ Ok (canonical_hop h ∷ [])
+
+-- hops with one more at the end, "the cache closest to the user" (2); if a member names no
+-- cache, they are refused as they were
+abbrev pub with_last : Result (Seq Hop) ℕ → Hop → Result (Seq Hop) ℕ
+with_last (Ok hs) h = Ok (hs ++ h ∷ [])
+with_last (Err index) h = Err index
+
+-- a member that is appended for a hop is read back as that hop, after those that were there
+abbrev pub AppendedIsLast : Type 0
+AppendedIsLast =
+    (ms : Seq Member) (h : Hop)
+    → HasStatusInRange h
+    → hops (list_of (ms ++ entry h ∷ [])) ≡ with_last (hops (list_of ms)) (canonical_hop h)
