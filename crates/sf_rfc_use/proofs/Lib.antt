@@ -3,3 +3,5 @@ pub mod CacheStatusAgrees
 pub mod OutcomesAgree
 pub mod TargetedAgrees
 pub mod PriorityAgrees
+pub mod DirectivesAgree
+pub mod CachingAgrees

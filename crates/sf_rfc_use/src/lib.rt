@@ -3,5 +3,6 @@
 #![tactic(auto)]
 
 pub mod cache_status;
+pub mod caching;
 pub mod priority;
 pub mod targeted;
