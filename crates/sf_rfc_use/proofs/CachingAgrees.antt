@@ -1,7 +1,7 @@
 -- A cache decides as RFC 9111 states.
 use Rattle.std.proofs.Common.{◌≡◌, ◌≢◌, ◌⊎◌, inl, inr, ⊎_elim, ℕ, ◌+◌, ◌-◌, ◌<◌, Bool, true, false}
 use Rattle.std.proofs.Common.{List, Option, Some, None, refl, sym, ap, subst, ◌∙◌, arith, codes}
-use Rattle.std.specs.Prelude.{◌use Rattle.std.specs.Prelude.{◌&&◌, ◌||◌, not, if◌then◌else◌, is_some, nat_lt}&◌, ◌||◌, ◌↔◌, not, if◌then◌else◌, is_some, nat_lt}
+use Rattle.std.specs.Prelude.{◌&&◌, ◌||◌, ◌↔◌, not, if◌then◌else◌, is_some, nat_lt}
 use Rattle.std.proofs.lemmas.Bool.{lt-ltb}
 use Rattle.sf_use.specs.declared.caching.CacheKind.{CacheKind}
 use Rattle.sf_use.specs.declared.caching.CacheKind.TheVariants as kind
