@@ -153,7 +153,7 @@ stale_is : (r : CacheRules) (k : CacheKind) (by : Cause) → (stale r k by).reus
     → Stale r k
 stale_is r k by h =
     let m = stale_means r.policy.must_revalidate (is_shared k && r.proxy_revalidate)
-        (is_shared k && has_s_maxage r) by h in
+    (is_shared k && has_s_maxage r) by h in
     record { must = m.0; proxy = m.1; s_maxage = m.2 }
 
 by_lifetime_stale : (r : CacheRules) (k : CacheKind) (age : ℕ) (l : Lifetime)
@@ -225,7 +225,7 @@ module _ (s : Situation) (ds : List CacheDirective) where
   may_store : use_of s ds ≢ reuse.NotStored → MayStore s (as_directives ds)
   may_store h =
       let m = not_refused used.policy.no_store (used.policy.is_private && is_shared cache)
-          used.must_understand (stored used cache s.expires s.age) (λ e. h (use_is ∙ e)) in
+      used.must_understand (stored used cache s.expires s.age) (λ e. h (use_is ∙ e)) in
       record {
         understood = λ p.
             not_false s.understands
@@ -233,10 +233,10 @@ module _ (s : Situation) (ds : List CacheDirective) where
             (present_by (codes "must-understand") ds p));
         no_store = λ p.
             let both = and_parts_true s.understands rules.must_understand
-                (not_false (s.understands && rules.must_understand)
-                (and_means rules.policy.no_store
-                (not (s.understands && rules.must_understand)) m.0
-                (present_by (codes "no-store") ds p))) in
+            (not_false (s.understands && rules.must_understand)
+            (and_means rules.policy.no_store
+            (not (s.understands && rules.must_understand)) m.0
+            (present_by (codes "no-store") ds p))) in
             (present_is (codes "must-understand") ds both.1, both.0);
         is_private = λ shared p.
             not_both (is_shared cache) (shared_is s.shared ∙ shared)
@@ -256,10 +256,10 @@ module _ (s : Situation) (ds : List CacheDirective) where
           → (rules.policy.is_private && is_shared cache) ≡ true
       by (inl n) =
           let parts = and_parts_true rules.policy.no_store
-              (not (s.understands && rules.must_understand)) n in
+          (not (s.understands && rules.must_understand)) n in
           let (must, understands) = may.no_store (present_is (codes "no-store") ds parts.0) in
           let both : (s.understands && rules.must_understand) ≡ true =
-              rw understands (present_by (codes "must-understand") ds must) in
+          rw understands (present_by (codes "must-understand") ds must) in
           absurd (not_both (s.understands && rules.must_understand) both
           (not_true (s.understands && rules.must_understand) parts.1))
       by (inr (inl p)) = p
@@ -269,55 +269,60 @@ module _ (s : Situation) (ds : List CacheDirective) where
           (may.understood (present_is (codes "must-understand") ds parts.0))
           (not_true s.understands parts.1))
 
+abbrev refusal_of : Situation → List CacheDirective → Option Cause
+refusal_of s ds =
+    refusal_by (used s ds).policy.no_store
+    ((used s ds).policy.is_private && is_shared (kind_of s.shared)) (used s ds).must_understand
+
+abbrev stored_of : Situation → List CacheDirective → Decision
+stored_of s ds = stored (used s ds) (kind_of s.shared) s.expires s.age
+
 pub stored_as_allowed : StoredAsAllowed
-stored_as_allowed s ds =
-    (may_store s ds,
-    λ may h.
-        let parts = and_parts_true (is_present (codes "private") ds) (is_shared (kind_of s.shared))
-            (not_stored s ds may h) in
-        let shared : s.shared ≡ true = sym (shared_is s.shared) ∙ parts.1 in
-        (shared,
+stored_as_allowed s ds = (
+  may_store s ds,
+  λ may h.
+      let parts = and_parts_true (is_present (codes "private") ds) (is_shared (kind_of s.shared))
+      (not_stored s ds may h) in
+      let shared : s.shared ≡ true = sym (shared_is s.shared) ∙ parts.1 in (
+        shared,
         ⊎_elim (λ u. absurd (may.is_private shared u)) (λ q. q)
-        (qualified_or_not (codes "private") (as_directives ds)
-        (present_is (codes "private") ds parts.0))))
+            (qualified_or_not (codes "private") (as_directives ds)
+            (present_is (codes "private") ds parts.0)),
+      ),
+)
 
 pub validated_as_required : ValidatedAsRequired
 validated_as_required s ds h =
     let n = unqualified_present (codes "no-cache") ds h in
-    let r = effective s.understands (cache_rules ds) in
-    let validated : (stored r (kind_of s.shared) s.expires s.age).reuse ≡ reuse.MustRevalidate =
-        rw n refl in
+    let validated : (stored_of s ds).reuse ≡ reuse.MustRevalidate = rw n refl in
     ⊎_elim (λ e. inl (use_is s ds ∙ e)) (λ e. inr (use_is s ds ∙ e ∙ validated))
-    (stored_or_not _ (stored r (kind_of s.shared) s.expires s.age))
+    (stored_or_not (refusal_of s ds) (stored_of s ds))
 
 pub stale_as_permitted : StaleAsPermitted
 stale_as_permitted s ds h prohibited =
-    by (stored_or_not _ (stored r (kind_of s.shared) s.expires s.age))
+    by (stored_or_not (refusal_of s ds) (stored_of s ds))
   where
-    abbrev r : CacheRules
-    r = effective s.understands (cache_rules ds)
-    abbrev Prohibited : Type 0
-    Prohibited = ProhibitsStale s (as_directives ds)
-    means : (r.policy.no_cache ≡ false) × Stale r (kind_of s.shared) → Prohibited → ⊥
+    means : ((used s ds).policy.no_cache ≡ false) × Stale (used s ds) (kind_of s.shared) → ProhibitsStale s (as_directives ds) → ⊥
     means (n, m) (inl p) =
-        not_both r.policy.must_revalidate (present_by (codes "must-revalidate") ds p) m.must
+        not_both (used s ds).policy.must_revalidate (present_by (codes "must-revalidate") ds p) m.must
     means (n, m) (inr (inl (shared, p))) =
-        not_both r.proxy_revalidate (present_by (codes "proxy-revalidate") ds p)
-        (and_means (is_shared (kind_of s.shared)) r.proxy_revalidate m.proxy
+        not_both (used s ds).proxy_revalidate (present_by (codes "proxy-revalidate") ds p)
+        (and_means (is_shared (kind_of s.shared)) (used s ds).proxy_revalidate m.proxy
         (shared_is s.shared ∙ shared))
     means (n, m) (inr (inr (inl (shared, p)))) =
-        not_both (has_s_maxage r)
+        not_both (has_s_maxage (used s ds))
         (has_it (codes "s-maxage") ds ∙ present_by (codes "s-maxage") ds p)
-        (and_means (is_shared (kind_of s.shared)) (has_s_maxage r) m.s_maxage
+        (and_means (is_shared (kind_of s.shared)) (has_s_maxage (used s ds)) m.s_maxage
         (shared_is s.shared ∙ shared))
     means (n, m) (inr (inr (inr v))) =
-        not_both r.policy.no_cache (unqualified_present (codes "no-cache") ds v) n
-    by : ((unless_refused _ (stored r (kind_of s.shared) s.expires s.age)).reuse ≡ reuse.NotStored)
-        ⊎ ((unless_refused _ (stored r (kind_of s.shared) s.expires s.age)).reuse
-        ≡ (stored r (kind_of s.shared) s.expires s.age).reuse) → ⊥
+        not_both (used s ds).policy.no_cache (unqualified_present (codes "no-cache") ds v) n
+
+    by : ((unless_refused (refusal_of s ds) (stored_of s ds)).reuse ≡ reuse.NotStored)
+        ⊎ ((unless_refused (refusal_of s ds) (stored_of s ds)).reuse
+        ≡ (stored_of s ds).reuse) → ⊥
     by (inl e) = let clash : reuse.Stale ≡ reuse.NotStored = sym h ∙ use_is s ds ∙ e in cc
     by (inr e) =
-        means (stored_stale r (kind_of s.shared) s.expires s.age
+        means (stored_stale (used s ds) (kind_of s.shared) s.expires s.age
         (sym e ∙ sym (use_is s ds) ∙ h)) prohibited
 
 -- which rule sets a lifetime
@@ -337,7 +342,7 @@ absent : (name : List ℕ) (ds : List CacheDirective) → disagree (values name 
     → agreed (values name ds) ≡ None → IsPresent name (as_directives ds) → ⊥
 absent name ds d a p =
     let none : (disagree (values name ds) || is_some (agreed (values name ds))) ≡ false =
-        rw (d, a) refl in
+    rw (d, a) refl in
     not_both (is_present name ds) (present_by name ds p) (sym (has_it name ds) ∙ none)
 
 private_means : (ds : List CacheDirective) (other : Option ℕ) (m : ℕ) (by : Cause)
@@ -366,8 +371,8 @@ lifetime_means s ds false m by e h =
 lifetime_means s ds true m by e h =
     ⊎_elim (λ v. inl (e, has_value (codes "s-maxage") ds m v))
     (λ (d, a, next).
-        not_shared s ds m (λ f. absent (codes "s-maxage") ds d a f.1)
-        (private_means ds s.expires m by next))
+    not_shared s ds m (λ f. absent (codes "s-maxage") ds d a f.1)
+    (private_means ds s.expires m by next))
     (first_cases (disagree (values (codes "s-maxage") ds)) cause.InvalidSMaxage
     (agreed (values (codes "s-maxage") ds)) cause.SMaxage
     (private_lifetime (cache_rules ds) s.expires) m by h)
@@ -380,14 +385,13 @@ same_lifetime u false r other = refl
 
 pub fresh_as_calculated : FreshAsCalculated
 fresh_as_calculated s ds left h =
-    let r = effective s.understands (cache_rules ds) in
     let young = decisions.fresh_is_younger (rules_of s ds) (kind_of s.shared) s.expires s.age left h in
     let same : lifetime (cache_rules ds) (kind_of s.shared) s.expires
-        ≡ life.Seconds young.0 young.1 =
-        sym (same_lifetime s.understands s.shared (cache_rules ds) s.expires)
-        ∙ ap (λ q. lifetime q (kind_of s.shared) s.expires)
-        (sym (is_effective s.understands (cache_rules ds)))
-        ∙ young.2 in
+    ≡ life.Seconds young.0 young.1 =
+    sym (same_lifetime s.understands s.shared (cache_rules ds) s.expires)
+    ∙ ap (λ q. lifetime q (kind_of s.shared) s.expires)
+    (sym (is_effective s.understands (cache_rules ds)))
+    ∙ young.2 in
     (young.0, lifetime_means s ds s.shared young.0 young.1 refl same, young.3, young.4)
 
 -- the rule that the lifetime is set by
@@ -466,23 +470,23 @@ aged_fresh r k m by age left young sum =
 
 pub fresh_is_used : FreshIsUsed
 fresh_is_used s ds m left h young sum =
-    by (stored_or_not _ (stored r (kind_of s.shared) s.expires s.age))
+    by (stored_or_not (refusal_of s ds) (stored_of s ds))
     (is_present (codes "no-cache") ds) refl
   where
-    abbrev r : CacheRules
-    r = effective s.understands (cache_rules ds)
     rule : ByRule (lifetime (cache_rules ds) (kind_of s.shared) s.expires) m
     rule = lifetime_is s ds s.shared m refl h
-    fresh : r.policy.no_cache ≡ false
-        → (stored r (kind_of s.shared) s.expires s.age).reuse ≡ reuse.Fresh left
+
+    fresh : (used s ds).policy.no_cache ≡ false
+        → (stored_of s ds).reuse ≡ reuse.Fresh left
     fresh n =
         rw n
-        (ap (λ l. (by_lifetime r (kind_of s.shared) s.age l).reuse)
+        (ap (λ l. (by_lifetime (used s ds) (kind_of s.shared) s.age l).reuse)
         (same_lifetime s.understands s.shared (cache_rules ds) s.expires ∙ rule.set)
-        ∙ aged_fresh r (kind_of s.shared) m rule.cause s.age left young sum)
-    by : ((unless_refused _ (stored r (kind_of s.shared) s.expires s.age)).reuse ≡ reuse.NotStored)
-        ⊎ ((unless_refused _ (stored r (kind_of s.shared) s.expires s.age)).reuse
-        ≡ (stored r (kind_of s.shared) s.expires s.age).reuse)
+        ∙ aged_fresh (used s ds) (kind_of s.shared) m rule.cause s.age left young sum)
+
+    by : ((unless_refused (refusal_of s ds) (stored_of s ds)).reuse ≡ reuse.NotStored)
+        ⊎ ((unless_refused (refusal_of s ds) (stored_of s ds)).reuse
+        ≡ (stored_of s ds).reuse)
         → (x : Bool) → is_present (codes "no-cache") ds ≡ x
         → (use_of s ds ≡ reuse.Fresh left)
         ⊎ ((use_of s ds ≡ reuse.NotStored) ⊎ IsPresent (codes "no-cache") (as_directives ds))
@@ -515,9 +519,13 @@ storing s ds true e = (there, back)
         (λ q. inr (inr (inl (present_is (codes "max-age") ds
         (sym (has_it (codes "max-age") ds) ∙ q)))))
         (or_cases _ _ p))
-        (λ p. inr (inr (inr (e, present_is (codes "s-maxage") ds
-        (sym (has_it (codes "s-maxage") ds) ∙ p)))))
+        (λ p. inr (inr (inr (
+          e,
+          present_is (codes "s-maxage") ds
+              (sym (has_it (codes "s-maxage") ds) ∙ p),
+        ))))
         (or_cases _ _ h)
+
     back : AllowsStoring s (as_directives ds)
         → permits_storing (cache_rules ds) kind.Shared ≡ true
     back (inl p) =
@@ -540,6 +548,7 @@ storing s ds false e = (there, back)
         (or_cases _ _ p))
         (λ p. inr (inl (e, present_is (codes "private") ds p)))
         (or_cases _ _ h)
+
     back : AllowsStoring s (as_directives ds)
         → permits_storing (cache_rules ds) kind.Private ≡ true
     back (inl p) =
