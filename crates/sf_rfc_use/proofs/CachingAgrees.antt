@@ -464,7 +464,7 @@ aged_fresh : (r : CacheRules) (k : CacheKind) (m : ℕ) (by : Cause) (age left :
     → saturated age < saturated m → saturated age + left ≡ saturated m
     → (aged r k m by age).reuse ≡ reuse.Fresh left
 aged_fresh r k m by age left young sum =
-    let test : nat_lt (saturated age) (saturated m) ≡ true = lt-ltb young in
+    let test : nat_lt (saturated age) (saturated m) ≡ true = lt-ltb (saturated age) (saturated m) young in
     let rest : saturated m - saturated age ≡ left = omega arith in
     rw test (ap reuse.Fresh rest)
 
