@@ -5,7 +5,7 @@ use Rattle.std.proofs.Common.{eqb-true}
 use Rattle.std.specs.Prelude.{◌==◌, if◌then◌else◌, option_and_then}
 use Rattle.std.proofs.lemmas.List.{append-nil}
 use Rattle.std.proofs.lemmas.Bool.Decides.{nat_tests}
-use Rattle.sf_value.specs.Ascii.{quote, comma, equals}
+use Rattle.sf_value.specs.Ascii.{tab, space, quote, comma, equals}
 use Rattle.sf_value.specs.Grammar.Classes.{is_ows, is_tchar}
 use Rattle.sf_value.specs.Grammar.Words.{Every, IsWord}
 use Rattle.sf_use.specs.declared.caching.CacheRules.{CacheRules}
@@ -18,8 +18,9 @@ use Rattle.sf_use.specs.CacheControlSteps.{element_at, named_at, quoted_at, rule
 use Rattle.sf_use.specs.CacheControlSteps.{token_at, value_at, with_argument, with_bytes}
 use Rattle.sf_use.specs.CacheControlSteps.{with_directive}
 use Rattle.sf_use.proofs.CacheControlRuns.{Stops, after_run_append, after_run_stops, run_of_append}
-use Rattle.sf_use.proofs.CacheControlRuns.{run_parts, run_passes}
-use Rattle.sf_use.proofs.CacheControlValues.{Quoted, quoted_found, quoted_reads, seconds_of_bytes}
+use Rattle.sf_use.proofs.CacheControlRuns.{run_parts, run_passes, some_pair}
+use Rattle.sf_use.proofs.CacheControlValues.{Quoted, is_other, quoted_found, quoted_reads}
+use Rattle.sf_use.proofs.CacheControlValues.{seconds_of_bytes}
 
 -- what may be after an element: the end, or a comma
 abbrev pub Ends : List ℕ → Type 0
@@ -39,12 +40,25 @@ delta_is : (o : Option (List ℕ)) → delta_seconds_of (delta_of o) ≡ option_
 delta_is None = refl
 delta_is (Some v) = seconds_of_bytes v
 
--- bytes of tokens
+-- bytes of tokens, and white space
 tchar_is : (b : ℕ) → is_tchar b ≡ true → ((b == quote) ≡ false) × (is_ows b ≡ false)
-tchar_is b h = grind (arith, nat_tests)
+tchar_is b h = (
+  is_other is_tchar quote b refl h,
+  rw (is_other is_tchar space b refl h, is_other is_tchar tab b refl h) refl,
+)
 
 ows_is : (b : ℕ) → is_ows b ≡ true → (is_tchar b ≡ false) × ((b == equals) ≡ false)
-ows_is b h = grind (arith, nat_tests)
+ows_is b h = by (b == space) refl
+  where
+    is_blank : (c : ℕ) → b ≡ c → is_tchar c ≡ false → (c == equals) ≡ false
+        → (is_tchar b ≡ false) × ((b == equals) ≡ false)
+    is_blank c e t s = (ap is_tchar e ∙ t, ap (λ x. x == equals) e ∙ s)
+
+    by : (x : Bool) → (b == space) ≡ x → (is_tchar b ≡ false) × ((b == equals) ≡ false)
+    by true e = is_blank space (eqb-true b space e) refl refl
+    by false e =
+        let tabbed : (b == tab) ≡ true = rw e at h in
+        is_blank tab (eqb-true b tab tabbed) refl refl
 
 every_of_word : (p : ℕ → Bool) (t : List ℕ) → IsWord p p t → Every p t
 every_of_word p [] h = absurd h
@@ -182,14 +196,13 @@ token_found : (name after t : List ℕ) (d : Delta) (rest : List ℕ) → name +
     → Every is_tchar name → token_at name after ≡ Some (d, rest) → Value t d rest
 token_found [] after t d rest e h f = absurd cc
 token_found (b ∷ name) after t d rest e h f =
-    let left : after ≡ rest = cc in
-    let same : d ≡ with_bytes Empty (b ∷ name) = cc in
+    let pair = some_pair (with_bytes Empty (b ∷ name)) d after rest f in
     record {
       text = b ∷ name;
       value = b ∷ name;
-      split = sym e ∙ ap (λ s. b ∷ name ++ s) left;
+      split = sym e ∙ ap (λ s. (b ∷ name) ++ s) pair.1;
       way = inl (refl, word_of_every is_tchar b name h);
-      delta = same;
+      delta = sym pair.0;
     }
 
 value_found : (t : List ℕ) (d : Delta) (rest : List ℕ) → value_at t ≡ Some (d, rest)
@@ -219,9 +232,8 @@ value_found (b ∷ t) d rest h = by (b == quote) refl
 argument_found : (t : List ℕ) (d : Delta) (rest : List ℕ) → argument_at t ≡ Some (d, rest)
     → Argument t d rest
 argument_found [] d rest h =
-    let left : [] ≡ rest = cc in
-    let same : d ≡ Empty = cc in
-    record { text = []; argument = None; split = left; spelled = refl; delta = same }
+    let pair = some_pair Empty d [] rest h in
+    record { text = []; argument = None; split = pair.1; spelled = refl; delta = sym pair.0 }
 argument_found (b ∷ t) d rest h = by (b == equals) refl
   where
     by : (x : Bool) → (b == equals) ≡ x → Argument (b ∷ t) d rest
@@ -238,23 +250,21 @@ argument_found (b ∷ t) d rest h = by (b == equals) refl
         }
     by false p =
         let found : Some (Empty, b ∷ t) ≡ Some (d, rest) = rw p at h in
-        let left : b ∷ t ≡ rest = cc in
-        let same : d ≡ Empty = cc in
-        record { text = []; argument = None; split = left; spelled = refl; delta = same }
+        let pair = some_pair Empty d (b ∷ t) rest found in
+        record { text = []; argument = None; split = pair.1; spelled = refl; delta = sym pair.0 }
 
 -- an element whose white space, name and rest are these
 named_found : (r : CacheRules) (before name after t : List ℕ) (q : CacheRules) (rest : List ℕ)
     → before ++ (name ++ after) ≡ t → Every is_ows before → Every is_tchar name
     → named_at r name after ≡ Some (q, rest) → Element r t q rest
 named_found r before [] after t q rest e o n h =
-    let left : after ≡ rest = cc in
-    let same : q ≡ r = cc in
+    let pair = some_pair r q after rest h in
     record {
       first = before;
       element = None;
-      split = sym e ∙ ap (λ s. before ++ s) left;
+      split = sym e ∙ ap (λ s. before ++ s) pair.1;
       spelled = o;
-      rules = same;
+      rules = sym pair.0;
     }
 named_found r before (b ∷ name) after t q rest e o n h = by (argument_at after) refl
   where
@@ -266,18 +276,18 @@ named_found r before (b ∷ name) after t q rest e o n h = by (argument_at after
         let found : Some (rules_with r (b ∷ name) (delta_seconds_of d), after_run is_ows left)
         ≡ Some (q, rest) = rw p at h in
         let m = argument_found after d left p in
-        let ends : after_run is_ows left ≡ rest = cc in
-        let same : q ≡ rules_with r (b ∷ name) (delta_seconds_of d) = cc in
+        let pair = some_pair (rules_with r (b ∷ name) (delta_seconds_of d)) q
+        (after_run is_ows left) rest found in
         let parts : left ≡ run_of is_ows left ++ rest =
-        sym (run_parts is_ows left) ∙ ap (λ s. run_of is_ows left ++ s) ends in
+        sym (run_parts is_ows left) ∙ ap (λ s. run_of is_ows left ++ s) pair.1 in
         record {
-          first = before ++ ((b ∷ name ++ m.text) ++ run_of is_ows left);
+          first = before ++ (((b ∷ name) ++ m.text) ++ run_of is_ows left);
           element = Some (record { name = b ∷ name; argument = m.argument });
           split = sym e
-              ∙ ap (λ s. before ++ (b ∷ name ++ s)) (m.split ∙ ap (λ s. m.text ++ s) parts)
+              ∙ ap (λ s. before ++ ((b ∷ name) ++ s)) (m.split ∙ ap (λ s. m.text ++ s) parts)
               ∙ ap (λ s. before ++ s)
               (sym (append_assoc (b ∷ name) m.text (run_of is_ows left ++ rest)))
-              ∙ sym (regroup before (b ∷ name ++ m.text) (run_of is_ows left) rest);
+              ∙ sym (regroup before ((b ∷ name) ++ m.text) (run_of is_ows left) rest);
           spelled = (
             before,
             b ∷ name ++ m.text,

@@ -1,11 +1,14 @@
 -- The lines of Cache-Control, which are one list of directives when they are joined.
 use Rattle.std.proofs.Common.{◌≡◌, ℕ, List, [], ◌∷◌, ◌++◌, Option, Some, None, refl, sym, ap}
-use Rattle.std.proofs.Common.{subst, ◌∙◌, append_assoc}
+use Rattle.std.proofs.Common.{subst, ◌∙◌, append_assoc, inl, inr}
+use Rattle.std.specs.Prelude.{codes, unwrap_or, MatchOption}
 use Rattle.std.proofs.lemmas.List.{append-nil}
 use Rattle.sf_value.specs.Ascii.{comma, space}
 use Rattle.sf_value.specs.Grammar.Lines.{join}
 use Rattle.sf_use.specs.declared.caching.CacheRules.{CacheRules}
+use Rattle.sf_field.specs.Headers.{Headers, lines_under}
 use Rattle.sf_use.specs.CacheControl.{AreNoCacheControl, CacheDirective, HaveCacheRules}
+use Rattle.sf_use.specs.CacheControl.{IsFallback, refused_rules}
 use Rattle.sf_use.specs.CacheControl.{SpellsCacheControl, SpellsCacheControlLines, SpellsElement}
 use Rattle.sf_use.specs.CacheControl.{SpellsElements, cache_rules, directives}
 use Rattle.sf_use.specs.CacheControlLaws.{LinesAreOneList, OneMeaning}
@@ -104,3 +107,11 @@ lines_are_one_list (line ∷ next ∷ lines) ds (es, fs, (parts, spelled, e), mo
       same ∙ ap (λ s. s ++ fs) e ∙ ap (λ s. directives parts ++ s) f
           ∙ sym (both_directives parts others),
     )
+
+-- the rules of a response, of lines that were read
+pub as_fallback : (headers : Headers) (o : Option CacheRules)
+    → MatchOption o (AreNoCacheControl (lines_under headers (codes "cache-control")))
+    (HaveCacheRules (lines_under headers (codes "cache-control")))
+    → IsFallback headers (unwrap_or o refused_rules)
+as_fallback headers None none = inr (none, refl)
+as_fallback headers (Some r) have = inl have

@@ -1,17 +1,18 @@
 -- The rules of a list of directives that is read one after another.
 use Rattle.std.proofs.Common.{◌≡◌, ℕ, Bool, true, false, List, [], ◌∷◌, ◌++◌, Option, Some, None}
 use Rattle.std.proofs.Common.{refl, sym, ap, ◌∙◌, codes}
-use Rattle.std.specs.Prelude.{◌==◌, ◌&&◌, ◌||◌, if◌then◌else◌, map, filter, is_none}
+use Rattle.std.specs.Prelude.{◌==◌, ◌&&◌, ◌||◌, if◌then◌else◌, map, filter, is_none, MatchOption}
 use Rattle.std.specs.List.{list_all, list_any}
 use Rattle.std.proofs.lemmas.List.{append_assoc, append-nil, map-append}
 use Rattle.std.proofs.lemmas.List.Elements.{filter-append}
 use Rattle.std.proofs.lemmas.List.Folds.{list_all-append, list_any-append}
 use Rattle.sf_use.specs.declared.caching.CacheRules.{CacheRules}
 use Rattle.sf_use.specs.declared.targeted.Policy.{Policy}
-use Rattle.sf_use.specs.CacheControl.{CacheDirective, agreed, cache_rules, disagree, is_named}
-use Rattle.sf_use.specs.CacheControl.{is_present, is_value, seconds_of, values}
+use Rattle.sf_use.specs.CacheControl.{CacheDirective, HasCacheRules, IsNoCacheControl, agreed}
+use Rattle.sf_use.specs.CacheControl.{cache_rules, directives, disagree, is_named, is_present}
+use Rattle.sf_use.specs.CacheControl.{is_value, seconds_of, values}
 use Rattle.sf_use.specs.CacheControlSteps.{invalid_with, one_more, seconds_with, with_directive}
-use Rattle.sf_use.specs.CacheControlSteps.{with_directives}
+use Rattle.sf_use.specs.CacheControlSteps.{ReadsFrom, rules_with, with_directives}
 
 -- one more value
 agreed_more : (vs : List (Option ℕ)) (w : Option ℕ)
@@ -129,6 +130,7 @@ same_rules p q a b c d e f g h i j s t u v w x = cc
 -- the rules of one more directive
 rules_more : (ds : List CacheDirective) (d : CacheDirective)
     → cache_rules (ds ++ d ∷ []) ≡ with_directive (cache_rules ds) d
+unfolding rules_with
 rules_more ds d =
     same_rules _ _ _ _ _ _ _ _ _ _ _ _
     (same_policy _ _ _ _ _ _ _ _ _ _ _ _
@@ -154,3 +156,10 @@ rules_after ds (e ∷ es) =
 
 pub rules_of_all : (es : List CacheDirective) → with_directives (cache_rules []) es ≡ cache_rules es
 rules_of_all es = rules_after [] es
+
+-- what is read from the first directive on, as the contracts say it
+pub as_read : (t : List ℕ) (o : Option CacheRules) → ReadsFrom (cache_rules []) t o
+    → MatchOption o (IsNoCacheControl t) (HasCacheRules t)
+as_read t None none ds (es, spelled, same) = none es spelled
+as_read t (Some r) (es, spelled, same) =
+    (directives es, (es, spelled, refl), same ∙ rules_of_all (directives es))

@@ -1,6 +1,6 @@
 -- Runs of bytes that pass a test, before a byte that does not.
 use Rattle.std.proofs.Common.{◌≡◌, ℕ, ◌+◌, Bool, true, false, List, [], ◌∷◌, ◌++◌, length, take}
-use Rattle.std.proofs.Common.{drop, refl, sym, subst, arith}
+use Rattle.std.proofs.Common.{drop, refl, ap, arith, Option, Some}
 use Rattle.std.specs.List.{prefix_len}
 use Rattle.std.proofs.Math.Numerals.{one-add}
 use Rattle.std.proofs.Math.Seq.{drop-append_seam, take-append_seam}
@@ -49,3 +49,10 @@ after_run_stops p (b ∷ t) = by (p b) refl (after_run_stops p t)
     by : (r : Bool) → p b ≡ r → Stops p (after_run p t) → Stops p (after_run p (b ∷ t))
     by true e rest = rw (e, one-add (prefix_len p t)) rest
     by false e rest = rw e e
+
+-- equal pairs
+pub some_pair : {A B : Type 0} (a c : A) (b d : B)
+    → ◌≡◌ {A = Option (A × B)} (Some (a, b)) (Some (c, d)) → (a ≡ c) × (b ≡ d)
+some_pair {A = A} {B = B} a c b d e =
+    let p : ◌≡◌ {A = A × B} (a, b) (c, d) = cc in
+    (ap (λ (x : A × B). x.0) p, ap (λ (x : A × B). x.1) p)

@@ -10,6 +10,7 @@ use Rattle.sf_use.specs.CacheControl.{directives}
 use Rattle.sf_use.specs.CacheControlSteps.{ReadsFrom, element_at, with_directives}
 use Rattle.sf_use.proofs.CacheControlElements.{Element, Ends, element_found, element_reads}
 use Rattle.sf_use.proofs.CacheControlElements.{with_element}
+use Rattle.sf_use.proofs.CacheControlRuns.{some_pair}
 
 -- the last element is read to the end
 last_reads : (r : CacheRules) (t : List ℕ) (e : Option CacheDirective) → SpellsElement t e
@@ -51,8 +52,8 @@ pub reads_other : (r : CacheRules) (t : List ℕ) (q : CacheRules) (b : ℕ) (re
     → element_at r t ≡ Some (q, b ∷ rest) → b ≢ comma → ReadsFrom r t None
 reads_other r t q b rest n other es h = let f = first_of_elements r t es h in
     let e : Some (q, b ∷ rest) ≡ Some (f.rules, f.rest) = sym n ∙ f.read in
-    let same : f.rest ≡ b ∷ rest = cc in
-    absurd (other (subst Ends same f.ends))
+    let pair = some_pair q f.rules (b ∷ rest) f.rest e in
+    absurd (other (subst Ends (sym pair.1) f.ends))
 
 pub reads_end : (r : CacheRules) (t : List ℕ) (q : CacheRules) → element_at r t ≡ Some (q, [])
     → ReadsFrom r t (Some q)
@@ -82,6 +83,8 @@ not_after r q t rest h none (e ∷ f ∷ es) (first, left, split, one, more) =
     let read : element_at r t ≡ Some (with_element r e, comma ∷ left) =
     ap (element_at r) split ∙ element_reads r first e (comma ∷ left) one refl in
     let found : Some (with_element r e, comma ∷ left) ≡ Some (q, comma ∷ rest) = sym read ∙ h in
+    let pair = some_pair (with_element r e) q (comma ∷ left) (comma ∷ rest) found in
+    let ends : comma ∷ left ≡ comma ∷ rest = pair.1 in
     let same : left ≡ rest = cc in
     none (f ∷ es) (subst (λ s. SpellsElements s (f ∷ es)) same more)
 
@@ -116,8 +119,8 @@ one_reading r t (e ∷ es) [] h k = absurd k
 one_reading r t (e ∷ []) (f ∷ []) h k =
     let both : Some (with_element r e, []) ≡ Some (with_element r f, []) =
     sym (last_reads r t e h) ∙ last_reads r t f k in
-    let same : with_element r e ≡ with_element r f = cc in
-    sym (with_first r e []) ∙ same ∙ with_first r f []
+    let pair = some_pair (with_element r e) (with_element r f) [] [] both in
+    sym (with_first r e []) ∙ pair.0 ∙ with_first r f []
 one_reading r t (e ∷ []) (f ∷ g ∷ fs) h (first, rest, split, one, more) =
     let both : Some (with_element r e, []) ≡ Some (with_element r f, comma ∷ rest) =
     sym (last_reads r t e h) ∙ ap (element_at r) split
@@ -134,7 +137,9 @@ one_reading r t (e ∷ g ∷ es) (f ∷ h ∷ fs) (first, rest, split, one, more
     sym (element_reads r first e (comma ∷ rest) one refl)
     ∙ ap (element_at r) (sym split ∙ cut)
     ∙ element_reads r start f (comma ∷ left) other refl in
-    let same : with_element r e ≡ with_element r f = cc in
+    let pair = some_pair (with_element r e) (with_element r f) (comma ∷ rest) (comma ∷ left) both in
+    let same : with_element r e ≡ with_element r f = pair.0 in
+    let both_rest : comma ∷ rest ≡ comma ∷ left = pair.1 in
     let ends : rest ≡ left = cc in
     sym (with_first r e (g ∷ es))
     ∙ one_reading (with_element r e) rest (g ∷ es) (h ∷ fs) more

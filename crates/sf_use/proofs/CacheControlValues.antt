@@ -15,16 +15,17 @@ use Rattle.sf_use.specs.Caching.{saturated}
 use Rattle.sf_use.specs.CacheControl.{SpellsChars, delta_seconds, is_qdtext, is_quotable}
 use Rattle.sf_use.specs.CacheControlSteps.{delta_seconds_of, quoted_at, with_byte, with_bytes}
 use Rattle.sf_use.specs.CacheControlSteps.{with_digit}
+use Rattle.sf_use.proofs.CacheControlRuns.{some_pair}
 
 -- what is no number of seconds stays so
 other_stays : (v : List ℕ) → delta_seconds_of (with_bytes Other v) ≡ None
 other_stays [] = refl
-other_stays (b ∷ v) = by (is_digit b) refl
+other_stays (b ∷ v) = by (is_digit b) refl (other_stays v)
   where
-    by : (r : Bool) → is_digit b ≡ r
-        → delta_seconds_of (with_bytes (if is_digit b then Other else Other) v) ≡ None
-    by true e = rw e (other_stays v)
-    by false e = rw e (other_stays v)
+    by : (r : Bool) → is_digit b ≡ r → delta_seconds_of (with_bytes Other v) ≡ None
+        → delta_seconds_of (with_bytes (with_byte Other b) v) ≡ None
+    by true e more = rw e more
+    by false e more = rw e more
 
 saturates : (a d : ℕ) → saturated (10 * saturated a + d) ≡ saturated (10 * a + d)
 saturates a d = omega arith
@@ -61,9 +62,20 @@ seconds_of_bytes (b ∷ v) = by (is_digit b) refl (seconds_after (10 * 0 + (b - 
     by true e more = rw (e, zero_times (b - digit_zero)) more
     by false e more = rw e (other_stays v)
 
+-- a byte that passes a test is another than one that does not
+pub is_other : (p : ℕ → Bool) (c b : ℕ) → p c ≡ false → p b ≡ true → (b == c) ≡ false
+is_other p c b n h = by (b == c) refl
+  where
+    by : (x : Bool) → (b == c) ≡ x → (b == c) ≡ false
+    by false e = e
+    by true e =
+        let same : b ≡ c = eqb-true b c e in
+        let clash : true ≡ false = sym h ∙ ap p same ∙ n in
+        absurd cc
+
 -- a byte of a quoted-string that needs no backslash is neither a quote nor a backslash
 qdtext_is : (b : ℕ) → is_qdtext b ≡ true → ((b == quote) ≡ false) × ((b == backslash) ≡ false)
-qdtext_is b h = grind (arith, nat_tests)
+qdtext_is b h = (is_other is_qdtext quote b refl h, is_other is_qdtext backslash b refl h)
 
 pub quoted_reads : (d : Delta) (t v rest : List ℕ) → SpellsChars t v
     → quoted_at false d (t ++ quote ∷ rest) ≡ Some (with_bytes d v, rest)
@@ -79,7 +91,7 @@ quoted_reads d t (b ∷ v) rest (u, way, chars) =
         let n = qdtext_is b q in
         let n0 : (b == quote) ≡ false = n.0 in
         let n1 : (b == backslash) ≡ false = n.1 in
-        rw e (rw (n0, n1, q) more)
+        rw e (rw (q, n0, n1) more)
     by (inr (e, q)) more = rw e (rw q more)
 
 -- the text of the quoted-string that was read, perhaps after a backslash
@@ -131,14 +143,13 @@ quoted_found false d (b ∷ t) e rest h =
     by true p y q z s after more =
         let found : Some (d, t) ≡ Some (e, rest) = rw p at h in
         let is : b ≡ quote = eqb-true b quote p in
-        let left : t ≡ rest = cc in
-        let same : e ≡ d = cc in
+        let pair = some_pair d e t rest found in
         record {
           inner = [];
           value = [];
-          split = ap (λ c. c ∷ t) is ∙ ap (λ s. quote ∷ s) left;
+          split = ap (λ c. c ∷ t) is ∙ ap (λ s. quote ∷ s) pair.1;
           chars = refl;
-          seconds = same;
+          seconds = sym pair.0;
         }
     by false p true q z s after more =
         let found : quoted_at true d t ≡ Some (e, rest) = rw (p, q) at h in
@@ -152,7 +163,7 @@ quoted_found false d (b ∷ t) e rest h =
           seconds = m.seconds;
         }
     by false p false q true s after more =
-        let found : quoted_at false (with_byte d b) t ≡ Some (e, rest) = rw (p, q, s) at h in
+        let found : quoted_at false (with_byte d b) t ≡ Some (e, rest) = rw (s, p, q) at h in
         let m = more found in
         record {
           inner = b ∷ m.inner;
@@ -162,5 +173,5 @@ quoted_found false d (b ∷ t) e rest h =
           seconds = m.seconds;
         }
     by false p false q false s after more =
-        let found : None ≡ Some (e, rest) = rw (p, q, s) at h in
+        let found : None ≡ Some (e, rest) = rw (s, p, q) at h in
         absurd cc

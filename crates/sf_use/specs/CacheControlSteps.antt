@@ -84,7 +84,7 @@ abbrev pub is_name : List ℕ → List ℕ → Bool
 is_name name text = str_eq_ignore_ascii_case text name
 
 -- the rules after one more directive
-abbrev pub rules_with : CacheRules → List ℕ → Option ℕ → CacheRules
+unfoldable pub rules_with : CacheRules → List ℕ → Option ℕ → CacheRules
 rules_with r name s = record {
   policy = record {
     max_age =

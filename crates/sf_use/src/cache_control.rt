@@ -91,8 +91,7 @@ pub fn fallback_rules(headers: &HeaderMap) -> CacheRules
     // The rules of the directives of all lines, or those of no-store if a line spells no list.
     ensures { IsFallback headers.now result }
 {
-    let lines = headers.get_all(&CACHE_CONTROL).iter();
-    CacheRules::of_cache_control_lines(lines).unwrap_or(REFUSED)
+    CacheRules::of_cache_control_lines(headers.get_all(&CACHE_CONTROL).iter()).unwrap_or(REFUSED)
 }
 
 /// What the bytes of a value are as seconds (RFC 9111 section 1.2.2).
