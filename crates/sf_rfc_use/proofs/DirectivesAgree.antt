@@ -115,13 +115,13 @@ are_seconds (b ∷ t) n (some, digits, same) =
     rw (are_digits_by (b ∷ t) digits)
     (ap Some (ap considered (number_is 0 (b ∷ t)) ∙ sym same))
 
-argument_sets : (o : Option (List ℕ)) (n : ℕ) → option_and_then o delta_seconds ≡ Some n
+argument_sets : (o : Option (List ℕ)) (n : ℕ) → option_and_then delta_seconds o ≡ Some n
     → (t : List ℕ) × (o ≡ Some t) × IsDeltaSeconds t n
 argument_sets None n h = absurd cc
 argument_sets (Some t) n h = (t, refl, seconds_are t n h)
 
 sets_argument : (o : Option (List ℕ)) (n : ℕ) (t : List ℕ) → o ≡ Some t → IsDeltaSeconds t n
-    → option_and_then o delta_seconds ≡ Some n
+    → option_and_then delta_seconds o ≡ Some n
 sets_argument o n t e h = rw e (are_seconds t n h)
 
 -- values that are all this one

@@ -36,7 +36,7 @@ abbrev delta_of : Option (List ℕ) → Delta
 delta_of None = Empty
 delta_of (Some v) = with_bytes Empty v
 
-delta_is : (o : Option (List ℕ)) → delta_seconds_of (delta_of o) ≡ option_and_then o delta_seconds
+delta_is : (o : Option (List ℕ)) → delta_seconds_of (delta_of o) ≡ option_and_then delta_seconds o
 delta_is None = refl
 delta_is (Some v) = seconds_of_bytes v
 
@@ -297,7 +297,7 @@ named_found r before (b ∷ name) after t q rest e o n h = by (argument_at after
             run_passes is_ows left,
             (m.text, refl, word_of_every is_tchar b name n, m.spelled),
           );
-          rules = same
+          rules = sym pair.0
               ∙ ap (rules_with r (b ∷ name)) (ap delta_seconds_of m.delta ∙ delta_is m.argument);
         }
 

@@ -38,7 +38,7 @@ last_line r = ([], refl, refl)
 
 pub more_lines : (r q : CacheRules) (line : List ℕ) (lines : List (List ℕ)) (o : Option CacheRules)
     → ReadsFrom r line (Some q) → ReadsLines q lines o → ReadsLines r (line ∷ lines) o
-more_lines r q line lines None read none ds (es, fs, first, more, same) = none fs more
+more_lines r q line lines None read none = λ ds (es, fs, first, more, same). none fs more
 more_lines r q line lines (Some p) (parts, spelled, same) (fs, more, is) = (
   directives parts ++ fs,
   (directives parts, fs, (parts, spelled, refl), more, refl),

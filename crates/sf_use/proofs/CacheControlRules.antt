@@ -26,8 +26,8 @@ agreed_more (Some n ∷ vs) w =
     by : (x : Bool) → list_all (is_value n) vs ≡ x → (y : Bool) → is_value n w ≡ y
         → agreed (Some n ∷ (vs ++ w ∷ []))
         ≡ one_more (agreed (Some n ∷ vs)) (disagree (Some n ∷ vs)) w
-    by true e true f = rw (list_all-append (is_value n) vs (w ∷ []), e, f) (rw f refl)
-    by true e false f = rw (list_all-append (is_value n) vs (w ∷ []), e, f) (rw f refl)
+    by true e true f = rw (list_all-append (is_value n) vs (w ∷ []), e, f) refl
+    by true e false f = rw (list_all-append (is_value n) vs (w ∷ []), e, f) refl
     by false e y f = rw (list_all-append (is_value n) vs (w ∷ []), e) refl
 
 disagree_more : (vs : List (Option ℕ)) (w : Option ℕ)
@@ -160,6 +160,6 @@ rules_of_all es = rules_after [] es
 -- what is read from the first directive on, as the contracts say it
 pub as_read : (t : List ℕ) (o : Option CacheRules) → ReadsFrom (cache_rules []) t o
     → MatchOption o (IsNoCacheControl t) (HasCacheRules t)
-as_read t None none ds (es, spelled, same) = none es spelled
+as_read t None none = λ ds (es, spelled, same). none es spelled
 as_read t (Some r) (es, spelled, same) =
     (directives es, (es, spelled, refl), same ∙ rules_of_all (directives es))

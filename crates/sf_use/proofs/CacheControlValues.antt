@@ -128,7 +128,7 @@ quoted_found true d (b ∷ t) e rest h =
           seconds = m.seconds;
         }
     by false q more =
-        let found : None ≡ Some (e, rest) = rw q at h in
+        let found : ◌≡◌ {A = Option (Delta × List ℕ)} None (Some (e, rest)) = rw q at h in
         absurd cc
 quoted_found false d (b ∷ t) e rest h =
     by (b == quote) refl (b == backslash) refl (is_qdtext b) refl
@@ -173,5 +173,5 @@ quoted_found false d (b ∷ t) e rest h =
           seconds = m.seconds;
         }
     by false p false q false s after more =
-        let found : None ≡ Some (e, rest) = rw (s, p, q) at h in
+        let found : ◌≡◌ {A = Option (Delta × List ℕ)} None (Some (e, rest)) = rw (s, p, q) at h in
         absurd cc

@@ -104,7 +104,7 @@ delta_seconds (b ∷ t) =
     if list_all is_digit (b ∷ t) then Some (saturated (value_from 0 (b ∷ t))) else None
 
 abbrev pub seconds_of : CacheDirective → Option ℕ
-seconds_of d = option_and_then d.argument delta_seconds
+seconds_of d = option_and_then delta_seconds d.argument
 
 -- the seconds of each directive of this name, in order; None for one without a number of seconds
 abbrev pub values : List ℕ → List CacheDirective → List (Option ℕ)

@@ -1,6 +1,6 @@
 //! `Cache-Control` (RFC 9111 section 5.2), which is no structured field, read by its own grammar: the
 //! field that decides if no targeted field does ([`crate::RulesChoice::Fallback`]).
-ghost use Rattle.std.specs.Prelude.{◌≡◌, ◌≤◌, ℕ, List, [], ◌∷◌, length, false, Option, Some, None};
+ghost use Rattle.std.specs.Prelude.{◌≡◌, ◌≤◌, ◌||◌, ℕ, List, [], ◌∷◌, length, false, Option, Some, None};
 ghost use Rattle.std.specs.Prelude.{MatchOption};
 ghost use Rattle.std.specs.List.{prefix_len};
 ghost use Rattle.sf_value.specs.Grammar.Classes.{is_ows as is_ows_byte, is_tchar as is_tchar_byte};
@@ -255,10 +255,10 @@ fn rules_with(rules: CacheRules, name: &[u8], seconds: Option<u64>) -> CacheRule
                 rules.invalid_s_maxage,
                 seconds,
             ),
-            must_revalidate: policy.must_revalidate || is(name, b"must-revalidate"),
-            no_store: policy.no_store || is(name, b"no-store"),
-            no_cache: policy.no_cache || is(name, b"no-cache"),
-            is_private: policy.is_private || is(name, b"private"),
+            must_revalidate: set_with(policy.must_revalidate, name, b"must-revalidate"),
+            no_store: set_with(policy.no_store, name, b"no-store"),
+            no_cache: set_with(policy.no_cache, name, b"no-cache"),
+            is_private: set_with(policy.is_private, name, b"private"),
         },
         invalid_max_age: invalid_with(is_max_age, policy.max_age, rules.invalid_max_age, seconds),
         invalid_s_maxage: invalid_with(
@@ -267,10 +267,17 @@ fn rules_with(rules: CacheRules, name: &[u8], seconds: Option<u64>) -> CacheRule
             rules.invalid_s_maxage,
             seconds,
         ),
-        proxy_revalidate: rules.proxy_revalidate || is(name, b"proxy-revalidate"),
-        must_understand: rules.must_understand || is(name, b"must-understand"),
-        is_public: rules.is_public || is(name, b"public"),
+        proxy_revalidate: set_with(rules.proxy_revalidate, name, b"proxy-revalidate"),
+        must_understand: set_with(rules.must_understand, name, b"must-understand"),
+        is_public: set_with(rules.is_public, name, b"public"),
     }
+}
+
+/// Whether a directive without a number is set after one more, which may have its name.
+fn set_with(was_set: bool, name: &[u8], directive: &[u8]) -> bool
+    ensures { result ≡ (was_set || is_name directive.now name.now) }
+{
+    was_set || is(name, directive)
 }
 
 /// Whether a directive has this name, without case.

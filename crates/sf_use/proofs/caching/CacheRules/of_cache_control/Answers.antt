@@ -4,7 +4,7 @@ use Rattle.sf_use.specs.declared.caching.CacheRules.{CacheRules}
 use Rattle.sf_use.specs.CacheControl.{HasCacheRules, IsNoCacheControl, cache_rules}
 use Rattle.sf_use.specs.CacheControlSteps.{ReadsFrom}
 use Rattle.sf_use.proofs.CacheControlRules.{as_read}
-use Rattle.sf_use.proofs.cache_control.CacheRules.of_cache_control.Goals as goal
+use Rattle.sf_use.proofs.caching.CacheRules.of_cache_control.Goals as goal
 
 pub returns : goal.returns
 returns c = as_read c.args.text.now c.rules_from.result c.rules_from.ensures

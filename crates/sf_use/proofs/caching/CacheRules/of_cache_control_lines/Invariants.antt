@@ -2,7 +2,7 @@ use Rattle.std.proofs.Common.{Option, [], length}
 use Rattle.sf_use.specs.declared.caching.CacheRules.{CacheRules}
 use Rattle.sf_use.specs.CacheControl.{cache_rules}
 use Rattle.sf_use.proofs.CacheControlLines.{ReadsLines}
-use Rattle.sf_use.proofs.cache_control.CacheRules.of_cache_control_lines.Given as goal
+use Rattle.sf_use.proofs.caching.CacheRules.of_cache_control_lines.Given as goal
 
 abbrev pub invariant-loop-line : goal.invariant-loop-line
 invariant-loop-line g l =
