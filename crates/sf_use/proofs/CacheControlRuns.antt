@@ -56,3 +56,6 @@ pub some_pair : {A B : Type 0} (a c : A) (b d : B)
 some_pair {A = A} {B = B} a c b d e =
     let p : ◌≡◌ {A = A × B} (a, b) (c, d) = cc in
     (ap (λ (x : A × B). x.0) p, ap (λ (x : A × B). x.1) p)
+
+pub not_nil : (b : ℕ) (t : List ℕ) → ◌≡◌ {A = List ℕ} [] (b ∷ t) → ⊥
+not_nil b t e = cc

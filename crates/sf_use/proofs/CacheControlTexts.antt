@@ -10,7 +10,7 @@ use Rattle.sf_use.specs.CacheControl.{directives}
 use Rattle.sf_use.specs.CacheControlSteps.{ReadsFrom, element_at, with_directives}
 use Rattle.sf_use.proofs.CacheControlElements.{Element, Ends, element_found, element_reads}
 use Rattle.sf_use.proofs.CacheControlElements.{with_element}
-use Rattle.sf_use.proofs.CacheControlRuns.{some_pair}
+use Rattle.sf_use.proofs.CacheControlRuns.{not_nil, some_pair}
 
 -- the last element is read to the end
 last_reads : (r : CacheRules) (t : List ℕ) (e : Option CacheDirective) → SpellsElement t e
@@ -76,9 +76,9 @@ not_after : (r q : CacheRules) (t rest : List ℕ) → element_at r t ≡ Some (
     → ReadsFrom q rest None → (es : List (Option CacheDirective)) → SpellsElements t es → ⊥
 not_after r q t rest h none [] spelled = spelled
 not_after r q t rest h none (e ∷ []) spelled =
-    let found : Some (with_element r e, []) ≡ Some (q, comma ∷ rest) =
-    sym (last_reads r t e spelled) ∙ h in
-    absurd cc
+    let pair = some_pair (with_element r e) q [] (comma ∷ rest)
+    (sym (last_reads r t e spelled) ∙ h) in
+    not_nil comma rest pair.1
 not_after r q t rest h none (e ∷ f ∷ es) (first, left, split, one, more) =
     let read : element_at r t ≡ Some (with_element r e, comma ∷ left) =
     ap (element_at r) split ∙ element_reads r first e (comma ∷ left) one refl in
@@ -122,15 +122,15 @@ one_reading r t (e ∷ []) (f ∷ []) h k =
     let pair = some_pair (with_element r e) (with_element r f) [] [] both in
     sym (with_first r e []) ∙ pair.0 ∙ with_first r f []
 one_reading r t (e ∷ []) (f ∷ g ∷ fs) h (first, rest, split, one, more) =
-    let both : Some (with_element r e, []) ≡ Some (with_element r f, comma ∷ rest) =
-    sym (last_reads r t e h) ∙ ap (element_at r) split
-    ∙ element_reads r first f (comma ∷ rest) one refl in
-    absurd cc
+    let pair = some_pair (with_element r e) (with_element r f) [] (comma ∷ rest)
+    (sym (last_reads r t e h) ∙ ap (element_at r) split
+    ∙ element_reads r first f (comma ∷ rest) one refl) in
+    absurd (not_nil comma rest pair.1)
 one_reading r t (e ∷ g ∷ es) (f ∷ []) (first, rest, split, one, more) k =
-    let both : Some (with_element r f, []) ≡ Some (with_element r e, comma ∷ rest) =
-    sym (last_reads r t f k) ∙ ap (element_at r) split
-    ∙ element_reads r first e (comma ∷ rest) one refl in
-    absurd cc
+    let pair = some_pair (with_element r f) (with_element r e) [] (comma ∷ rest)
+    (sym (last_reads r t f k) ∙ ap (element_at r) split
+    ∙ element_reads r first e (comma ∷ rest) one refl) in
+    absurd (not_nil comma rest pair.1)
 one_reading r t (e ∷ g ∷ es) (f ∷ h ∷ fs) (first, rest, split, one, more)
     (start, left, cut, other, others) =
     let both : Some (with_element r e, comma ∷ rest) ≡ Some (with_element r f, comma ∷ left) =
@@ -146,3 +146,27 @@ one_reading r t (e ∷ g ∷ es) (f ∷ h ∷ fs) (first, rest, split, one, more
     (subst (λ s. SpellsElements s (h ∷ fs)) (sym ends) others)
     ∙ ap (λ q. with_directives q (directives (h ∷ fs))) same
     ∙ with_first r f (h ∷ fs)
+
+-- the same, of what is after an element
+pub reads_to_end : (r q : CacheRules) (t after : List ℕ) → element_at r t ≡ Some (q, after)
+    → length after ≡ 0 → ReadsFrom r t (Some q)
+reads_to_end r q t [] h e = reads_end r t q h
+reads_to_end r q t (b ∷ after) h e = absurd (omega arith)
+
+next_is : (r q : CacheRules) (t after rest : List ℕ) (b : ℕ) → element_at r t ≡ Some (q, after)
+    → after ≡ b ∷ rest → element_at r t ≡ Some (q, b ∷ rest)
+next_is r q t after rest b h e = h ∙ ap (λ s. Some (q, s)) e
+
+pub reads_on : (r q : CacheRules) (t after rest : List ℕ) (b : ℕ) (o : Option CacheRules)
+    → element_at r t ≡ Some (q, after) → after ≡ b ∷ rest → b ≡ comma → ReadsFrom q rest o
+    → ReadsFrom r t o
+reads_on r q t after rest b o h e c more =
+    reads_more r q t rest o (next_is r q t after rest b h e ∙ ap (λ x. Some (q, x ∷ rest)) c) more
+
+pub reads_off : (r q : CacheRules) (t after rest : List ℕ) (b : ℕ)
+    → element_at r t ≡ Some (q, after) → after ≡ b ∷ rest → b ≢ comma → ReadsFrom r t None
+reads_off r q t after rest b h e n = reads_other r t q b rest (next_is r q t after rest b h e) n
+
+pub reads_less : (r q : CacheRules) (t after rest : List ℕ) (b : ℕ)
+    → element_at r t ≡ Some (q, after) → after ≡ b ∷ rest → length rest < length t
+reads_less r q t after rest b h e = left_is_shorter r q t rest b (next_is r q t after rest b h e)
