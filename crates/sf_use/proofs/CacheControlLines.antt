@@ -115,3 +115,25 @@ pub as_fallback : (headers : Headers) (o : Option CacheRules)
     → IsFallback headers (unwrap_or o refused_rules)
 as_fallback headers None none = inr (none, refl)
 as_fallback headers (Some r) have = inl have
+
+-- the same, of the lines that are left
+pub no_lines_left : (r : CacheRules) (lines : List (List ℕ)) → lines ≡ []
+    → ReadsLines r lines (Some r)
+no_lines_left r lines e = subst (λ ls. ReadsLines r ls (Some r)) (sym e) (last_line r)
+
+pub bad_line : (r : CacheRules) (line : List ℕ) (lines all : List (List ℕ)) → all ≡ line ∷ lines
+    → ReadsFrom r line None → ReadsLines r all None
+bad_line r line lines all e none =
+    subst (λ ls. ReadsLines r ls None) (sym e) (no_line r line lines none)
+
+pub good_line : (r q : CacheRules) (line : List ℕ) (lines all : List (List ℕ))
+    (o : Option CacheRules) → all ≡ line ∷ lines → ReadsFrom r line (Some q)
+    → ReadsLines q lines o → ReadsLines r all o
+good_line r q line lines all o e read more =
+    subst (λ ls. ReadsLines r ls o) (sym e) (more_lines r q line lines o read more)
+
+pub lines_as_read : (lines : List (List ℕ)) (o : Option CacheRules)
+    → ReadsLines (cache_rules []) lines o
+    → MatchOption o (AreNoCacheControl lines) (HaveCacheRules lines)
+lines_as_read lines None none = none
+lines_as_read lines (Some r) have = read_lines r lines have
