@@ -12,7 +12,7 @@ use Rattle.sf_use.specs.CacheControl.{IsFallback, refused_rules}
 use Rattle.sf_use.specs.CacheControl.{SpellsCacheControl, SpellsCacheControlLines, SpellsElement}
 use Rattle.sf_use.specs.CacheControl.{SpellsElements, cache_rules, directives}
 use Rattle.sf_use.specs.CacheControlLaws.{LinesAreOneList, OneMeaning}
-use Rattle.sf_use.specs.CacheControlSteps.{ReadsFrom, with_directives}
+use Rattle.sf_use.specs.CacheControlSteps.{ReadsFrom, with_directive, with_directives}
 use Rattle.sf_use.proofs.CacheControlRules.{rules_of_all}
 use Rattle.sf_use.proofs.CacheControlTexts.{one_reading}
 
@@ -24,10 +24,10 @@ ReadsLines r lines (Some q) =
     × SpellsCacheControlLines lines ds
     × (q ≡ with_directives r ds)
 
-with_both : (r : CacheRules) (ds es : List CacheDirective)
+with_both : (ds es : List CacheDirective) (r : CacheRules)
     → with_directives r (ds ++ es) ≡ with_directives (with_directives r ds) es
-with_both r [] es = refl
-with_both r (d ∷ ds) es = with_both _ ds es
+with_both [] es r = refl
+with_both (d ∷ ds) es r = with_both ds es (with_directive r d)
 
 pub no_line : (r : CacheRules) (line : List ℕ) (lines : List (List ℕ)) → ReadsFrom r line None
     → ReadsLines r (line ∷ lines) None
@@ -42,7 +42,7 @@ more_lines r q line lines None read none = λ ds (es, fs, first, more, same). no
 more_lines r q line lines (Some p) (parts, spelled, same) (fs, more, is) = (
   directives parts ++ fs,
   (directives parts, fs, (parts, spelled, refl), more, refl),
-  is ∙ ap (λ x. with_directives x fs) same ∙ sym (with_both r (directives parts) fs),
+  is ∙ ap (λ x. with_directives x fs) same ∙ sym (with_both (directives parts) fs r),
 )
 
 -- what is read, as the contracts say it

@@ -266,4 +266,8 @@ pub forbidding_is_as_strict : ForbiddingIsAsStrict
 forbidding_is_as_strict before after d h k other age =
     subst (λ q. IsAsStrict (reuse_of q k other age) (reuse_of (cache_rules (before ++ after)) k other age))
     (sym (rules_more before after d h))
-    (more_is_as_strict (cache_rules (before ++ after)) _ _ _ _ _ _ _ k other age)
+    (more_is_as_strict (cache_rules (before ++ after))
+    (is_named (codes "must-revalidate") d) (is_named (codes "no-store") d)
+    (is_named (codes "no-cache") d) (is_named (codes "private") d)
+    (is_named (codes "proxy-revalidate") d) (is_named (codes "must-understand") d)
+    (is_named (codes "public") d) k other age)
