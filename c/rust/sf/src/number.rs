@@ -47,8 +47,8 @@ impl Integer {
         in_range(number).map(Integer)
     }
 
-    /// The Integer of a number of the program, checked when it is compiled if it stands in a
-    /// constant.
+    /// The Integer of a number that is part of the program: checked when it is compiled, if the
+    /// result is a constant.
     ///
     /// # Panics
     ///

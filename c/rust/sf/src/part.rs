@@ -1,6 +1,6 @@
 //! Texts of parts of a field: a member, an Inner List, a bare item, parameters. The library parses
-//! fields alone, so a part is parsed as the field that has nothing else, and what the field may
-//! have beside it is refused where it begins.
+//! fields alone, so a part is parsed as a field with this part and nothing else, and what the field
+//! may have beside it is refused where it begins.
 
 use crate::buffer::append;
 use crate::{BareItem, Error, InnerList, Item, Kind, List, ListEntry, Parameters, Parser, Refusal};

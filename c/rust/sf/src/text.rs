@@ -121,7 +121,8 @@ macro_rules! checked_text {
                 Ok($ref::known(text))
             }
 
-            /// Checks a text of the program, when it is compiled if it stands in a constant.
+            /// Checks a text that is part of the program: when it is compiled, if the result is a
+            /// constant.
             ///
             /// # Panics
             ///
