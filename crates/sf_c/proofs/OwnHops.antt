@@ -1,5 +1,6 @@
 -- A hop without both hit and fwd, at the end of a List.
-use Rattle.std.proofs.Common.{◌≡◌, ℕ, false, List as Seq, Some, Result, Ok, Err, MatchResult, refl, ap}
+use Rattle.std.proofs.Common.{◌≡◌, ℕ, false, List as Seq, Some, Result, Ok, Err, MatchResult}
+use Rattle.std.proofs.Common.{refl, ap}
 use Rattle.sf_value.specs.declared.dialect.Dialect.{Dialect}
 use Rattle.sf_value.specs.declared.dialect.Dialect.TheVariants.{Rfc9651}
 use Rattle.sf_value.specs.declared.value.Field.TheVariants as field

@@ -130,7 +130,8 @@ put_hop old new used n h p =
 -- one more hop
 pub hop_read : (k : Dialect) (text : Seq ℕ) (c e : HopCursor) (v : HopView) (nodes : Seq HopNode)
     (old new : Seq ℕ) (count used : ℕ) (n : HopNode) (last next : Option ℕ)
-    → PathSoFar k text c nodes old count used last → ReadsNextHop c e (Some v) → count < length nodes
+    → PathSoFar k text c nodes old count used last → ReadsNextHop c e (Some v)
+    → count < length nodes
     → ((h : Hop) → ShowsHop v h → IsHopPut old new used n h) → end_of n.detail ≤ length new
     → (n.outcome ≡ 1 → next ≡ Some count) → (n.outcome ≢ 1 → next ≡ last)
     → PathSoFar k text e (set nodes count n) new (count + 1) (end_of n.detail) next
@@ -194,7 +195,8 @@ each_meant (m ∷ ms) (h ∷ hs) e =
 each_meant ms hs e = absurd cc
 
 -- the path of a text that was read to its end
-pub path_read : (k : Dialect) (text : Seq ℕ) (c e : HopCursor) (o : Option HopView) (nodes : Seq HopNode)
+pub path_read : (k : Dialect) (text : Seq ℕ) (c e : HopCursor) (o : Option HopView)
+    (nodes : Seq HopNode)
     (bytes : Seq ℕ) (s : PathSizes) → PathSoFar k text c nodes bytes s.hops s.bytes s.served
     → ReadsNextHop c e o → o ≡ None → IsPathOf k text nodes bytes s
 path_read k text c e o nodes bytes z s r none =
@@ -283,7 +285,8 @@ path_by nameless s = record {
   is_served = flag_number (is_some s.served);
 }
 
-pub read_few : (k : Dialect) (t : Seq ℕ) (nodes : Seq HopNode) (bytes : Seq ℕ) (s : PathSizes) (p : Path)
+pub read_few : (k : Dialect) (t : Seq ℕ) (nodes : Seq HopNode) (bytes : Seq ℕ) (s : PathSizes)
+    (p : Path)
     (nameless : ℕ) → HopsAreFew → HopBytesAreFew → IsPathOf k t nodes bytes s
     → p ≡ path_by nameless s → IsShort t p
 read_few k t nodes bytes s p nameless few small r e =

@@ -48,7 +48,8 @@ index_of fields i h = sym (length-take-le i fields (omega arith))
 
 -- one more field
 pub ignored_more : (k : Dialect) (texts : Seq ℕ) (fields : Seq Span) (i : ℕ) (d : Span)
-    → i < length fields → AreIgnored k texts (take i fields) → IsSpanWithin texts (get_or fields i d)
+    → i < length fields → AreIgnored k texts (take i fields)
+    → IsSpanWithin texts (get_or fields i d)
     → IsIgnored k (span_bytes texts (get_or fields i d)) → AreIgnored k texts (take (i + 1) fields)
 ignored_more k texts fields i d h a w g =
     rw (take_more fields i d h) (ignored_push k texts (take i fields) (get_or fields i d) a w g)
@@ -62,7 +63,8 @@ same_output i j p q e f = rw (e, f) refl
 
 -- the policy of the field that was chosen for its directives
 pub policy_selected : (texts : Seq ℕ) (fields : Seq Span) (i j : ℕ) (r n : RulesFlags)
-    (p : PolicyFlags) → Selects HasRules (output i r) (output j n) texts fields Rfc9651 status.Answered
+    (p : PolicyFlags)
+    → Selects HasRules (output i r) (output j n) texts fields Rfc9651 status.Answered
     → Selects HasPolicy (output i p) (output j n.policy) texts fields Rfc9651 status.Answered
 policy_selected texts fields i j r n p (before, q, reached, at, within, (d, only, some, says)) =
     (before, q, reached, at, within, (d, only, some, says.0))

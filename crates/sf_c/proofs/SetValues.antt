@@ -28,7 +28,8 @@ writes_priority old new p Short e w = (e, w)
 writes_priority old new p s e w = absurd w
 
 pub changes_valid : (old new : TextOutput) (t : List ℕ) (p : PriorityFlags) (s : Status)
-    → has_unset_value p ≡ false → ChangesBy old new t p (Some s) → ChangesPriority old new t p (Some s)
+    → has_unset_value p ≡ false → ChangesBy old new t p (Some s)
+    → ChangesPriority old new t p (Some s)
 changes_valid old new t p Invalid e w = absurd w
 changes_valid old new t p s e w = (e, w)
 

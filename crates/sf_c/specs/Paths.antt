@@ -42,9 +42,10 @@ KeepsLengths old new =
 abbrev pub IsTooSmall : PathOutput → Path → Type 0
 IsTooSmall r p = (length r.hops < p.hops) ⊎ (length r.bytes < p.bytes)
 
--- in the dialect d the text spells a List, and the starts of the buffers describe its hops; or a buffer is too
--- small; or a member names no cache, the first such at this place; or the struct has the refusal;
--- or an allocation failed. The buffers' other contents are unspecified; all else is unchanged
+-- in the dialect d the text spells a List, and the starts of the buffers describe its hops; or a
+-- buffer is too small; or a member names no cache, the first such at this place; or the struct has
+-- the refusal; or an allocation failed. The buffers' other contents are unspecified; all else is
+-- unchanged
 abbrev pub ReportsPath : PathOutput → PathOutput → Seq ℕ → Dialect → Status → Type 0
 ReportsPath old new t d Answered =
     (v : Field) × (hs : Seq Hop)

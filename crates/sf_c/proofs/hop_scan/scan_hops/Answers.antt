@@ -20,11 +20,11 @@ loop-hop-preserved c =
       same_bytes = c.in_ok-node.ensures.same ∙ i.same_bytes;
       so_far =
           subst
-          (λ e. PathSoFar c.args.dialect c.args.text.now c.next.new.self (set c.loop-hop.hops c.loop-hop.count n)
-          c.put_hop.new.bytes (c.loop-hop.count + 1) e c.last_hit-served.result)
+          (λ e. PathSoFar c.args.dialect c.args.text.now c.next.new.self
+          (set c.loop-hop.hops c.loop-hop.count n) c.put_hop.new.bytes (c.loop-hop.count + 1) e c.last_hit-served.result)
           (sym c.end-used.ensures)
-          (hop_read c.args.dialect c.args.text.now c.loop-hop.cursor c.next.new.self c.in-Some.hop c.loop-hop.hops
-          c.loop-hop.bytes c.put_hop.new.bytes c.loop-hop.count c.loop-hop.used n c.loop-hop.served
+          (hop_read c.args.dialect c.args.text.now c.loop-hop.cursor c.next.new.self
+          c.in-Some.hop c.loop-hop.hops c.loop-hop.bytes c.put_hop.new.bytes c.loop-hop.count c.loop-hop.used n c.loop-hop.served
           c.last_hit-served.result i.so_far
           (subst (ReadsNextHop c.loop-hop.cursor c.next.new.self) c.in-Some.is
           c.in_ok-hop.ensures.next)

@@ -29,7 +29,8 @@ returns-in-BadCall c =
     let kept = c.loop-place.invariant in (
       take place fields,
       get_or fields place nowhere,
-      reached c.args.dialect c.args.texts.now fields place nowhere c.loop-place-test.true kept.ignored,
+      reached c.args.dialect c.args.texts.now fields place nowhere c.loop-place-test.true
+          kept.ignored,
       found.0,
       same_output _ _ _ _ kept.index_kept (found.1 ∙ kept.rules_kept),
     )
@@ -42,7 +43,8 @@ returns-in-OutOfMemory c =
     let kept = c.loop-place.invariant in (
       take place fields,
       get_or fields place nowhere,
-      reached c.args.dialect c.args.texts.now fields place nowhere c.loop-place-test.true kept.ignored,
+      reached c.args.dialect c.args.texts.now fields place nowhere c.loop-place-test.true
+          kept.ignored,
       found.0,
       same_output _ _ _ _ kept.index_kept (found.1 ∙ kept.rules_kept),
     )
