@@ -54,8 +54,10 @@ def crates_below(crate, dependencies=None):
 
 def built(crate, *words):
     """A program of the repository. If there is none, or a source is newer, it is proved and built:
-    `rt run` runs it with these words."""
+    `rt run` runs it with these words. It is taken as it is where BUILT_ONLY is set."""
     program = f"{TOP}/crates/{crate}/out/{crate}"
+    if os.environ.get("BUILT_ONLY") and os.path.exists(program):
+        return program
     sources = [f"{TOP}/crates/{it}/src" for it in crates_below(crate)]
     newest = max(
         os.path.getmtime(os.path.join(folder, name))
@@ -87,7 +89,7 @@ def made(folder, target):
 def stop_if_built_only(what):
     """Ends a script that would prove and build something, where the variable BUILT_ONLY is set."""
     if os.environ.get("BUILT_ONLY"):
-        stop(f"{what} is not built, or a source is newer")
+        stop(f"{what} is not built")
 
 
 def compiled(source, to, *flags):
