@@ -9,8 +9,9 @@
  *   by CDN-Cache-Control: fresh for 600 s (max-age)
  *   Cache-Status: ExampleCDN;fwd=uri-miss;ttl=600;stored
  *
- * With the word private it is a private cache; with understood it understands the status code. Ends
- * with status 0, or 3 if memory, the input or the output fails, or a field is too long. */
+ * With the word private it is a private cache; with understood it understands the status code. Left
+ * out: method, status code, Authorization, Vary, the time since the request (RFC 9111 sections 3, 4
+ * and 4.2.3). Status 3 if memory, the input or the output fails, or a field is too long. */
 #define _DEFAULT_SOURCE
 #include <sf.h>
 #include <stdio.h>
