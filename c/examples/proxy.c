@@ -44,7 +44,7 @@ static void read_fields(FILE *from) {
     *colon = '\0';
     sf_text value = sf_trim(colon + 1, strcspn(colon + 1, "\r\n"));
     for (int i = 0; i < FIELDS; ++i)
-      if (fields[i][0] == line[0] && strcasecmp(fields[i] + 1, name) == 0 && value.length > 0 &&
+      if (fields[i][0] == line[0] && strcasecmp(fields[i] + 1, name) == 0 &&
           sf_join(value.at, value.length, texts[i], MOST - 1, &joined[i]) != SF_OK)
         give_up("a field is too long");
   }
@@ -102,8 +102,7 @@ int main(int count, char **words) {
     give_up("out of memory");
 
   /* This cache's hop is the last of Cache-Status, or alone if what came is malformed. */
-  int is_stored = decision.reuse != SF_REUSE_NOT_STORED &&
-                  (decision.reuse != SF_REUSE_UNSPECIFIED || decision.allows_storing);
+  int is_stored = decision.reuse != SF_REUSE_NOT_STORED && decision.allows_storing;
   sf_hop hop = {.name = {0, sizeof name_here - 1}, .name_is_token = 1, .outcome = SF_FORWARDED,
                 .why = SF_URI_MISS, .stored = (uint8_t)is_stored, .has_stored = 1,
                 .ttl = (int64_t)decision.seconds, .has_ttl = decision.reuse == SF_REUSE_FRESH};

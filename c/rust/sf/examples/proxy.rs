@@ -8,11 +8,23 @@ use sf::{
     Reuse, RulesChoice, TokenRef,
 };
 use std::io::{self, BufRead};
+use std::num::IntErrorKind;
 
 /// This cache.
 const NAME: &TokenRef = TokenRef::constant("ExampleCDN");
 /// This cache's own field, and the one of all caches of its kind (RFC 9213 section 2.2).
 const TARGET_LIST: [&str; 2] = ["ExampleCDN-Cache-Control", "CDN-Cache-Control"];
+
+/// The first member counts, and one that is no number is ignored (RFC 9111 section 5.1); one that is
+/// too great counts as the greatest (section 1.2.2).
+fn age(field: &str) -> u64 {
+    let first = field.split(',').next().unwrap_or_default().trim();
+    match first.parse::<u64>() {
+        Ok(age) => age,
+        Err(error) if *error.kind() == IntErrorKind::PosOverflow => u64::MAX,
+        Err(_) => 0,
+    }
+}
 
 fn main() -> Result<(), Box<dyn std::error::Error>> {
     let words: Vec<String> = std::env::args().skip(1).collect(); // private, understood
@@ -37,7 +49,7 @@ fn main() -> Result<(), Box<dyn std::error::Error>> {
     let targets: Vec<_> = targets.into_iter().collect::<Result<_, _>>()?;
     let cache = [Cache::Shared, Cache::Private][usize::from(has_word("private"))];
     let response = Response {
-        age: String::from_utf8(field('<', "Age")?)?.parse().unwrap_or(0),
+        age: age(&String::from_utf8_lossy(&field('<', "Age")?)),
         lifetime: None,
         is_understood: has_word("understood"),
     };

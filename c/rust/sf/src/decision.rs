@@ -216,7 +216,8 @@ fn cause_of(by: u8) -> Option<Cause> {
 
 impl Decision {
     /// Whether the response may be stored, as far as the directives say: it is not
-    /// [`Reuse::NotStored`], and if no directive sets a lifetime, one permits to store it.
+    /// [`Reuse::NotStored`], and a directive sets a lifetime or permits to store it (RFC 9111
+    /// section 3).
     ///
     /// ```
     /// use sf::{Cache, CacheRules, Response};
@@ -225,14 +226,15 @@ impl Decision {
     ///     rules.decide(Cache::Shared, Response::default()).may_store()
     /// };
     /// assert!(may("max-age=60, no-cache") && may("public"));
-    /// assert!(!may("max-age=60, no-store") && !may("a"));
+    /// assert!(!may("max-age=60, no-store") && !may("a") && !may("no-cache"));
     /// ```
     #[must_use]
     pub fn may_store(&self) -> bool {
         match self.reuse {
             Reuse::NotStored => false,
             Reuse::Unspecified => self.allows_storing,
-            Reuse::Fresh { .. } | Reuse::Stale | Reuse::Revalidate => true,
+            Reuse::Revalidate => self.allows_storing || self.by != Some(Cause::NoCache),
+            Reuse::Fresh { .. } | Reuse::Stale => true,
         }
     }
 
