@@ -1,7 +1,6 @@
 //! A caching proxy's decisions on a request that it forwards, and on the response, by their fields
 //! on standard input: a line `> Name: value` is of the request, and `< Name: value` of the
-//! response. The method, the status code, `Authorization`, `Vary` and the time since the request
-//! (RFC 9111 sections 3, 4 and 4.2.3) are left out.
+//! response. Left out: method, status code, `Authorization`, `Vary`, the time since the request.
 
 use sf::{
     Cache, Dialect, Error, Forward, Forwarded, Hop, Parser, Priority, Response, ResponsePriority,
