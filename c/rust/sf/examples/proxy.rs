@@ -14,17 +14,6 @@ const NAME: &TokenRef = TokenRef::constant("ExampleCDN");
 /// This cache's own field, and the one of all caches of its kind (RFC 9213 section 2.2).
 const TARGET_LIST: [&str; 2] = ["ExampleCDN-Cache-Control", "CDN-Cache-Control"];
 
-/// The first member counts, and one that is no number is ignored (RFC 9111 section 5.1); one that is
-/// too great counts as the greatest (section 1.2.2).
-fn age(field: &str) -> u64 {
-    let first = field.split(',').next().unwrap_or_default().trim();
-    match first.parse::<u64>() {
-        Ok(age) => age,
-        Err(error) if *error.kind() == IntErrorKind::PosOverflow => u64::MAX,
-        Err(_) => 0,
-    }
-}
-
 fn main() -> Result<(), Box<dyn std::error::Error>> {
     let words: Vec<String> = std::env::args().skip(1).collect(); // private, understood
     let has_word = |word: &str| words.iter().any(|said| said == word);
@@ -47,10 +36,14 @@ fn main() -> Result<(), Box<dyn std::error::Error>> {
     let targets = TARGET_LIST.map(|name| field('<', name));
     let targets: Vec<_> = targets.into_iter().collect::<Result<_, _>>()?;
     let cache = [Cache::Shared, Cache::Private][usize::from(has_word("private"))];
+    let ages = String::from_utf8(field('<', "Age")?)?;
+    // The first counts (RFC 9111 section 5.1), and one that is too great is not 0 (section 1.2.2).
+    let age: Result<u64, _> = ages.split(',').next().unwrap_or_default().trim().parse();
+    let is_too_great = matches!(&age, Err(error) if *error.kind() == IntErrorKind::PosOverflow);
     let response = Response {
-        age: age(&String::from_utf8_lossy(&field('<', "Age")?)),
-        lifetime: None,
+        age: age.unwrap_or([0, u64::MAX][usize::from(is_too_great)]),
         is_understood: has_word("understood"),
+        ..Response::default()
     };
     let decision = match parser.select_rules(targets)? {
         RulesChoice::Fallback => None,
@@ -75,9 +68,7 @@ fn main() -> Result<(), Box<dyn std::error::Error>> {
     let stored = decision.map_or(false, |decision| decision.may_store());
     let forwarded = Forwarded::new(Forward::UriMiss).with_stored(stored);
     let mut hop = Hop::new(NAME).with_outcome(forwarded);
-    hop.ttl = decision
-        .and_then(|decision| decision.fresh_for())
-        .map(Into::into);
+    hop.ttl = decision.and_then(|it| it.fresh_for()).map(Into::into);
     // A hop that is added to malformed lines would be ignored with them: it is sent alone.
     let path = match parser.append_hop(&hop, [field('<', "Cache-Status")?]) {
         Err(Error::Refused(_)) => hop.serialize()?,
