@@ -31,8 +31,8 @@ pub struct Entry {
     member: Member,
 }
 
-/// Whether a member of a List that begins with no leaf may be read directly. In a chunk a bare item
-/// costs less by the levels, which have its reader at hand.
+/// Whether a member of a List that begins with no leaf may be read directly. In a chunk, reading a
+/// bare item by the levels costs less, since they have its reader at hand.
 #[inline(always)]
 fn may_read_member(text: &[u8], is_whole: bool) -> bool {
     if is_whole {
@@ -41,8 +41,7 @@ fn may_read_member(text: &[u8], is_whole: bool) -> bool {
     behind(text, b'(').is_some()
 }
 
-/// Whether the first member of a text may be one that begins with no leaf. Nothing is claimed of
-/// it.
+/// Whether the first member of a text may be one that begins with no leaf. No proof relies on it.
 #[inline(always)]
 fn may_begin_other(text: &[u8], is_whole: bool) -> bool {
     match split(text) {

@@ -40,7 +40,8 @@ fn number_of(node_type: NodeType, number: i64) -> Part
     }
 }
 
-/// A bare item of bytes: the first `size` bytes of this text, which ends a source of `whole` bytes.
+/// A bare item of bytes: the first `size` bytes of this text, which is the end of a source of
+/// `whole` bytes.
 #[inline]
 pub(crate) fn bytes_of(
     whole: usize,
@@ -67,7 +68,7 @@ pub(crate) fn bytes_of(
     }
 }
 
-/// The digits, at most 15, that the text begins with: their value, their number, and the rest.
+/// The digits, at most 15, that the text begins with: their value, how many they are, and the rest.
 #[inline(always)]
 #[tactic(auto, using(sf_parse::proofs::Numerals::digit_fits, sf_parse::proofs::Numerals::short, sf_parse::proofs::Numerals::next_digit))]
 fn digits(text: &[u8]) -> (u64, usize, &[u8])
@@ -306,7 +307,8 @@ fn scan_other(dialect: Dialect, whole: usize, text: &[u8]) -> Option<(Part, &[u8
     }
 }
 
-/// A bare item at the start of the text, which ends a source of `whole` bytes, and the rest.
+/// A bare item at the start of the text, which is the end of a source of `whole` bytes, and the
+/// rest.
 #[inline(always)]
 fn scan_bare(dialect: Dialect, whole: usize, text: &[u8]) -> Option<(Part, &[u8])>
     requires small { whole < 2 ^ 32 }
@@ -324,12 +326,12 @@ fn scan_bare(dialect: Dialect, whole: usize, text: &[u8]) -> Option<(Part, &[u8]
         b'?' | b':' | b'@' | b'%' => {}
         _ => return scan_token(whole, text),
     }
-    // In parts: the compiler keeps these in registers, and the result as a whole in memory.
+    // Taken apart: the compiler keeps the parts in registers, but the result as a whole in memory.
     let (part, rest) = scan_other(dialect, whole, text)?;
     Some((part, rest))
 }
 
-/// The same as [`scan_bare`], but tests for a number first.
+/// As [`scan_bare`], but tests for a number first.
 #[inline(always)]
 pub(crate) fn scan_value(dialect: Dialect, whole: usize, text: &[u8]) -> Option<(Part, &[u8])>
     requires small { whole < 2 ^ 32 }

@@ -95,7 +95,7 @@ pub(crate) fn read_param<'a>(
     Some((key, bare, rest))
 }
 
-/// The rest after parameters. Only a text that begins with one costs a call.
+/// The rest after parameters. It costs a call only if the text begins with a semicolon.
 #[inline(always)]
 pub(crate) fn behind_params(dialect: Dialect, text: &[u8]) -> Option<&[u8]>
     ensures { IfSome result (λ rest. Reads (SpellsRaw dialect) text.now rest.now) }
