@@ -2,8 +2,8 @@
 //! the levels. That only saves time, and no proof relies on it.
 ghost use Rattle.std.specs.Prelude.{◌≤◌, length};
 
-use crate::whole_bare::behind;
 use memchr::{memchr, memchr2, memchr3};
+use sf_value::classes::behind;
 
 /// At most this many bytes of a text are searched, so that a long text that is refused early isn't
 /// first searched to its end.

@@ -8,9 +8,12 @@ ghost use Rattle.sf_parse.specs.BegunParts.{IsBegunAt, IsBegunParams, LeadsBy};
 ghost use Rattle.sf_parse.specs.WholeParts.{ReadsAs};
 ghost use Rattle.sf_parse.specs.declared.begun.Parts.TheVariants as parts_are;
 
-use crate::whole_bare::behind;
-use crate::whole_parts::WHOLE_PARTS;
+use sf_value::classes::behind;
 use sf_value::{Bare, Entries, Item, Sequence};
+
+/// Whole parts are looked for only in chunks of at least this many bytes. A smaller chunk seldom
+/// has a whole part and what follows it, and would take more time.
+pub const WHOLE_PARTS: usize = 64;
 
 /// The whole parts of a member.
 #[derive(Drop)]

@@ -43,8 +43,9 @@ use crate::series::{
 };
 use crate::sets::{SPACE, set_if};
 use crate::stop::{refuse_left, stop_in_item};
-use crate::whole_bare::{behind, ends, needs_reader, read_bare};
+use crate::whole_bare::{needs_reader, read_bare};
 use crate::whole_parts::{Owner, behind_spaces, read_params};
+use sf_value::classes::{behind, ends};
 use sf_value::{Bare, Dict, Entries, Item, List, Member, OutOfMemory, Sequence};
 
 /// The members of a List that are being read.

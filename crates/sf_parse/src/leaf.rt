@@ -13,9 +13,8 @@ use crate::blob::decode;
 use crate::context::Context;
 use crate::number::{Number, NumberReader};
 use crate::text::unescape;
-use crate::whole_bare::{behind, split};
 use memchr::memchr;
-use sf_value::classes::{Base64, InToken, Unescaped, long_prefix};
+use sf_value::classes::{Base64, InToken, Unescaped, behind, long_prefix, split};
 use sf_value::{Bare, Blob, ShortBytes, Text, Token, can_start_token};
 
 /// A bare item of a text. Dates and Display Strings are none of these, nor are long Byte Sequences

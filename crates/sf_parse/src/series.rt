@@ -23,15 +23,14 @@ ghost use Rattle.sf_parse.specs.declared.whole_parts.Found.{Found};
 ghost use Rattle.sf_parse.specs.declared.series.SeriesPhase.TheVariants as phase_is;
 
 use crate::ahead::has_comma;
-use crate::begun::{Begun, keep_params};
+use crate::begun::{Begun, WHOLE_PARTS, keep_params};
 use crate::context::Context;
 use crate::level::Level;
 use crate::refusal::Refusal;
 use crate::sets::{COMMA, OWS, SPACE, set_if};
 use crate::stop::{Stop, refuse_left};
-use crate::whole_bare::{behind, ends, split};
-use crate::whole_parts::{Found, Owner, WHOLE_PARTS, begins_param, may_begin_params, read_params};
-use sf_value::classes::{Ows, Space, short_prefix};
+use crate::whole_parts::{Found, Owner, begins_param, may_begin_params, read_params};
+use sf_value::classes::{Ows, Space, behind, ends, short_prefix, split};
 use sf_value::{Bare, Dialect, Entries, OutOfMemory, is_ows};
 use std::marker::Model;
 use std::mem;

@@ -18,10 +18,11 @@ use crate::member::MemberReader;
 use crate::series::SeriesMember;
 use crate::sets::KEY_START;
 use crate::stop::{Stop, stop_in_entry, stop_in_member};
-use crate::whole_bare::{behind, may_begin_bare, split};
+use crate::whole_bare::may_begin_bare;
 use crate::whole_parts::{
     Found, Owner, find_named, may_begin_part, may_begin_value, read_entry, read_member,
 };
+use sf_value::classes::{behind, split};
 use sf_value::{Bare, Dialect, Entries, Item, Key, Member, OutOfMemory, Sequence, can_start_key};
 
 /// A whole member of a Dictionary.

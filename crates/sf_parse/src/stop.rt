@@ -31,9 +31,8 @@ use crate::member::MemberReader;
 use crate::number::NumberReader;
 use crate::refusal::Refusal;
 use crate::sets::{BEHIND_KEY, CLOSE, KEY_START, SEMICOLON, SPACE, TOKEN, VISIBLE, set_if};
-use crate::whole_bare::{behind, split};
 use crate::whole_parts::{BehindItems, Owner, behind_spaces, find_key, put_each_param, read_items};
-use sf_value::classes::{InToken, Unescaped, long_prefix};
+use sf_value::classes::{InToken, Unescaped, behind, long_prefix, split};
 use sf_value::{Entries, Sequence, ShortBytes, can_start_token};
 
 /// The most bytes of a bare item or a key that need no allocation.

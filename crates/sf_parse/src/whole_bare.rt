@@ -1,7 +1,7 @@
 //! Bare items that are whole in a text, read without a state between two calls (RFC 9651 section
 //! 4.2.3.1). A function that returns None says nothing about the text, which is then refused, or
 //! read by [`crate::bare`].
-ghost use Rattle.std.specs.Prelude.{◌≡◌, ◌≢◌, [], ◌∷◌, IfSome, true, false};
+ghost use Rattle.std.specs.Prelude.{◌∷◌, IfSome};
 ghost use Rattle.sf_value.specs.Grammar.BareItems.{SpellsBare};
 ghost use Rattle.sf_parse.specs.WholeParts.{ReadsAs};
 
@@ -10,38 +10,8 @@ use crate::bare::BareReader;
 use crate::context::Context;
 use crate::leaf::{is_escaped_far, is_long_blob};
 use crate::level::Level;
+use sf_value::classes::split;
 use sf_value::{Bare, can_start_token};
-
-/// The first byte, and the rest.
-#[inline(always)]
-pub fn split(text: &[u8]) -> Option<(u8, &[u8])>
-    ensures { IfSome result (λ r. text.now ≡ r.0 ∷ r.1.now) }
-{
-    match text {
-        [first, rest @ ..] => Some((*first, rest)),
-        [] => None,
-    }
-}
-
-/// The rest after this byte, if the text begins with it.
-#[inline(always)]
-pub fn behind(text: &[u8], byte: u8) -> Option<&[u8]>
-    ensures { IfSome result (λ rest. text.now ≡ byte ∷ rest.now) }
-{
-    match split(text) {
-        Some((first, rest)) if first == byte => Some(rest),
-        _ => None,
-    }
-}
-
-/// Whether nothing is left.
-#[inline(always)]
-pub fn ends(text: &[u8]) -> bool
-    ensures all { result ≡ true → text.now ≡ [] }
-    ensures some { result ≡ false → text.now ≢ [] }
-{
-    text.is_empty()
-}
 
 /// A bare item that is no leaf, read by its reader, and the rest: a Date, a Display String, a long
 /// String with an escape, or a long Byte Sequence.

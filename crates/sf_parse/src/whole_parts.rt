@@ -24,18 +24,14 @@ ghost use Rattle.sf_parse.specs.WholeParts.{found_member};
 ghost use Rattle.sf_parse.specs.BegunParts.{IsBegunAt, IsBegunIn};
 
 use crate::ahead::{from_near, has_space, may_close};
-use crate::begun::{Begun, keep_closed, keep_inner, keep_items, keep_params};
+use crate::begun::{Begun, WHOLE_PARTS, keep_closed, keep_inner, keep_items, keep_params};
 use crate::context::Context;
 use crate::leaf::{Leaf, find_leaf, make};
-use crate::whole_bare::{behind, needs_reader, read_bare, split};
-use sf_value::classes::{InKey, Space, short_prefix};
+use crate::whole_bare::{needs_reader, read_bare};
+use sf_value::classes::{InKey, Space, behind, short_prefix, split};
 use sf_value::{
     Bare, Entries, Inner, Item, Key, Member, OutOfMemory, Sequence, ShortBytes, can_start_key,
 };
-
-/// Whole parts are looked for only in chunks of at least this many bytes. A smaller chunk seldom
-/// has a whole part and what follows it, and would take more time.
-pub const WHOLE_PARTS: usize = 64;
 
 /// The rest after spaces.
 #[inline(always)]

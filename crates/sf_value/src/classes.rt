@@ -1,6 +1,7 @@
-//! Classes of bytes (RFC 9651 section 3), and the runs of them that a text begins with. A class is
-//! a type; each is tested here, once, for values, parsers and writers.
-ghost use Rattle.std.specs.Prelude.{◌≡◌, ◌≤◌, ◌*◌, ◌++◌, ℕ, Bool, true, length, take};
+//! Classes of bytes (RFC 9651 section 3), and what a text begins with: runs of them, and single
+//! bytes. A class is a type; each is tested here, once, for values, parsers and writers.
+ghost use Rattle.std.specs.Prelude.{◌≡◌, ◌≢◌, ◌≤◌, ◌*◌, ◌++◌, [], ◌∷◌, ℕ, Bool, true, false};
+ghost use Rattle.std.specs.Prelude.{length, take, IfSome};
 ghost use Rattle.sf_value.specs.Grammar.Words.{Every};
 ghost use Rattle.sf_value.specs.Grammar.Classes.{is_in_key, is_in_token, is_key_start, is_sp};
 ghost use Rattle.sf_value.specs.Grammar.Classes.{is_ows as is_ows_byte, is_token_start};
@@ -311,6 +312,37 @@ pub fn short_prefix<C: ByteClass>(text: &[u8]) -> (&[u8], &[u8])
         run += 1;
     }
     text.split_at(run)
+}
+
+/// The first byte, and the rest; `None` if there is none. It does not allocate.
+#[inline(always)]
+pub fn split(text: &[u8]) -> Option<(u8, &[u8])>
+    ensures { IfSome result (λ r. text.now ≡ r.0 ∷ r.1.now) }
+{
+    match text {
+        [first, rest @ ..] => Some((*first, rest)),
+        [] => None,
+    }
+}
+
+/// The rest after this byte; `None` if the text does not begin with it. It does not allocate.
+#[inline(always)]
+pub fn behind(text: &[u8], byte: u8) -> Option<&[u8]>
+    ensures { IfSome result (λ rest. text.now ≡ byte ∷ rest.now) }
+{
+    match split(text) {
+        Some((first, rest)) if first == byte => Some(rest),
+        _ => None,
+    }
+}
+
+/// Whether nothing is left. It does not allocate.
+#[inline(always)]
+pub fn ends(text: &[u8]) -> bool
+    ensures all { result ≡ true → text.now ≡ [] }
+    ensures some { result ≡ false → text.now ≢ [] }
+{
+    text.is_empty()
 }
 
 /// Whether a key may begin with this byte: `a` to `z` and `*` (RFC 9651 section 3.1.2). It does not

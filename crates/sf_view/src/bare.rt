@@ -1,9 +1,10 @@
 //! Bare items.
-ghost use Rattle.std.specs.Prelude.{◌≡◌, ◌++◌, ◌∷◌, ◌≤◌, ◌<◌, ◌+◌, ◌-◌, ◌*◌, ◌^◌, length, IfSome, false, true, pos};
+ghost use Rattle.std.specs.Prelude.{◌≡◌, ◌++◌, ◌∷◌, ◌≤◌, ◌<◌, ◌+◌, ◌-◌, ◌*◌, ◌^◌, length, IfSome, false, true};
 ghost use Rattle.sf_value.specs.declared.dialect.Dialect.{Dialect as Which};
 ghost use Rattle.sf_value.specs.Grammar.Numbers.{sign, signed};
 ghost use Rattle.sf_view.specs.Scans.{ScansDigits, ScansFraction, ScansNumber, ScansDate, ScansBare, Closes};
 
+use crate::bare_part::{Part, bytes_of};
 use crate::classes::{InBase64, InToken, Unescaped, behind, is_token_start, long_prefix, split};
 use crate::display_string::scan_shown;
 use crate::node_types::NodeType;
@@ -11,16 +12,6 @@ use sf_value::Dialect;
 
 /// The most digits of a Decimal before its point (RFC 9651 section 3.3.2).
 const WHOLE_DIGITS: usize = 12;
-
-/// What a scanner read of a bare item.
-#[derive(Clone, Copy, Drop)]
-pub(crate) struct Part {
-    pub number: i64,
-    pub at: u32,
-    pub length: u32,
-    pub node_type: NodeType,
-    pub coded: bool,
-}
 
 /// A bare item that is a number.
 #[inline]
@@ -37,34 +28,6 @@ fn number_of(node_type: NodeType, number: i64) -> Part
         length: 0,
         node_type,
         coded: false,
-    }
-}
-
-/// A bare item of bytes: the first `size` bytes of this text, which is the end of a source of
-/// `whole` bytes.
-#[inline]
-pub(crate) fn bytes_of(
-    whole: usize,
-    node_type: NodeType,
-    coded: bool,
-    text: &[u8],
-    size: usize,
-) -> Part
-    requires small { whole < 2 ^ 32 }
-    requires within { length text.now ≤ whole }
-    requires prefix { size ≤ length text.now }
-    ensures node_type { result.node_type ≡ node_type }
-    ensures number { result.number ≡ pos 0 }
-    ensures at { result.at + length text.now ≡ whole }
-    ensures size { result.length ≡ size }
-    ensures coded { result.coded ≡ coded }
-{
-    Part {
-        number: 0,
-        at: (whole - text.len()) as u32,
-        length: size as u32,
-        node_type,
-        coded,
     }
 }
 

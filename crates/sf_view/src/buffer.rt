@@ -9,10 +9,10 @@ const BLOCK: usize = 32;
 /// The number of bytes that are counted together: small enough that the count fits in a byte.
 const CHUNK: usize = 128;
 
-/// Returns a buffer with enough nodes for [`crate::View::scan`] of this text. It counts the bytes
-/// that can be right before the part of a node, so there are few nodes too many. No clause says
-/// that they are enough: if they were not, the scan would return [`crate::Unviewed::ShortBuffer`].
-/// It fails only if an allocation fails.
+/// Returns a buffer with enough nodes for [`crate::View::scan`] of this text. Their number is that
+/// of the bytes that can be right before a part with a node, so it is close to the number of nodes
+/// of the text. No clause says that they are enough: if they were not, the scan would return
+/// [`crate::Unviewed::ShortBuffer`]. It fails only if an allocation fails.
 ///
 /// ```
 /// let mut nodes = node_buffer(alloc, text)?;

@@ -60,8 +60,8 @@ impl<'a> DictCursor<'a> {
     }
 
     /// Reads the next member: `Some(None)` after the last one, and `None` if the cursor declines
-    /// the text, which says nothing about it. A cursor declines a text that spells no Dictionary,
-    /// and a bare item if 4 GiB or more of the text are left there.
+    /// the text, of which nothing is then known. It declines a text that spells no Dictionary, and
+    /// a bare item if 4 GiB or more of the text are left there.
     #[inline(always)]
     pub fn next(&mut self) -> Option<Option<EntryView<'a>>>
         ensures dialect { self.new.dialect ≡ self.old.dialect }

@@ -7,6 +7,7 @@ ghost use Rattle.sf_value.specs.declared.value.Kind.TheVariants as kind_is;
 ghost use Rattle.sf_view.specs.Accepts.{Accepts, IsListed, AreEntries};
 ghost use Rattle.sf_view.specs.Scans.{ScansMember, ScansEntry, DistinguishKeys};
 ghost use Rattle.sf_view.specs.Settling.{HasParts};
+ghost use Rattle.sf_view.specs.Views.{IsViewed};
 
 use crate::buffer::most_nodes;
 use crate::classes::{behind, behind_spaces, behind_white, ends};
@@ -15,6 +16,7 @@ use crate::keys::Marks;
 use crate::node::Node;
 use crate::series::whole_item;
 use crate::settling::settled_nodes;
+use crate::view::View;
 use sf_value::{Dialect, Kind, OutOfMemory};
 use std::alloc::Global;
 
@@ -58,7 +60,7 @@ fn lengthen(nodes: &mut Vec<Node>, most: usize) -> Result<(), OutOfMemory>
     Ok(())
 }
 
-/// The nodes of an Item. If there are too few, it is read again with more.
+/// The nodes of an Item. If there were too few, it is read again with more.
 fn grown_item(
     dialect: Dialect,
     text: &[u8],
@@ -167,8 +169,8 @@ fn list_from<'a>(
     }
 }
 
-/// The nodes of a List. If there are too few, reading goes on with more from the member that needed
-/// them.
+/// The nodes of a List. If there were too few, reading goes on with more, from the member that
+/// needed them.
 fn grown_list(
     dialect: Dialect,
     text: &[u8],
@@ -379,4 +381,67 @@ pub(crate) fn grown_parts(
         Kind::List => return grown_list(dialect, text, most, nodes),
         Kind::Dict => return grown_dict(alloc, dialect, text, most, repeated, nodes),
     }
+}
+
+/// Scans a whole text as a field of this kind, as [`View::scan`] does, but also if a key is
+/// repeated in a Dictionary, or there are many keys: then the nodes are those of the members that
+/// stay if a later value of a key overwrites an earlier one and takes its place (RFC 9651 section
+/// 4.2.2). Nodes are added to the buffer as they are needed, so it may be empty; the number of them
+/// is bounded by what was read of the text and, if a key is repeated, by the number of different
+/// keys. It returns `None` if the text is malformed, a key of parameters is repeated, an allocation
+/// failed or, rarely, there are many keys with one hash. `None` says nothing about the text.
+///
+/// ```
+/// let mut nodes = Vec::new(alloc);
+/// let view = scan_settled(alloc, Dialect::Rfc9651, Kind::Dict, b"u=1, i, u=2", &mut nodes)?;
+/// view_text(alloc, &view, Kind::Dict)? // u=2, i
+/// ```
+pub fn scan_settled<'a>(
+    alloc: Global,
+    dialect: Dialect,
+    kind: Kind,
+    text: &'a [u8],
+    nodes: &'a mut Vec<Node>,
+) -> Option<View<'a>>
+    // The text spells a field, and no other, and the nodes of the view describe it.
+    ensures { IfSome result (λ v. IsViewed dialect kind text.now v) }
+{
+    let mut repeated = false;
+    match scan_or_settle(alloc, dialect, kind, &mut repeated, text, nodes) {
+        Ok(view) => return view,
+        Err(_) => return None,
+    }
+}
+
+/// As [`scan_settled`]; `repeated` is set if the nodes had to be settled. It fails only if an
+/// allocation of nodes fails.
+pub(crate) fn scan_or_settle<'a>(
+    alloc: Global,
+    dialect: Dialect,
+    kind: Kind,
+    repeated: &mut bool,
+    text: &'a [u8],
+    nodes: &'a mut Vec<Node>,
+) -> Result<Option<View<'a>>, OutOfMemory>
+    requires unset { repeated.old ≡ false }
+    ensures { IfOk result (λ found. IfSome found (λ v. IsViewed dialect kind text.now v)) }
+{
+    let Some(count) = grown_parts(alloc, dialect, kind, repeated, text, nodes)? else {
+        return Ok(None);
+    };
+    if *repeated {
+        let (raw, _) = nodes.as_slice().split_at(count);
+        let Some(settled) = settled_nodes(alloc, text, text.len(), raw, false) else {
+            return Ok(None);
+        };
+        *nodes = settled;
+        return Ok(Some(View {
+            text,
+            nodes: nodes.as_slice(),
+        }));
+    }
+    Ok(Some(View {
+        text,
+        nodes: &nodes.as_slice()[..count],
+    }))
 }

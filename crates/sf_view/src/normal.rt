@@ -11,10 +11,10 @@ ghost use Rattle.sf_view.specs.CanonicalParts.{IsCanonicalOf};
 ghost use Rattle.sf_view.specs.Settling.{IsRaw};
 
 use crate::declined::parse_declined;
-use crate::growing::grown_parts;
+use crate::growing::{grown_parts, scan_or_settle};
 use crate::node::Node;
 use crate::series::scan_parts;
-use crate::settling::{STACK_NODES, scan_or_settle, settle_few};
+use crate::settling::{STACK_NODES, settle_few};
 use crate::view::{Unviewed, View};
 use crate::writing::write_view;
 use sf_parse::Refusal;

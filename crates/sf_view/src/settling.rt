@@ -1,24 +1,20 @@
 //! Nodes of a Dictionary in which a key is repeated: the last value is at the place of the first
 //! one (RFC 9651 section 4.2.2).
 ghost use Rattle.std.specs.Prelude.{◌≡◌, ◌≤◌, ◌<◌, ◌*◌, ◌^◌, ℕ, List as Seq, IfOk, IfSome, length};
-ghost use Rattle.std.specs.Prelude.{take, false};
+ghost use Rattle.std.specs.Prelude.{take};
 ghost use Rattle.sf_value.specs.declared.dialect.Dialect.{Dialect as Which};
 ghost use Rattle.sf_value.specs.declared.value.Member.{Member};
 ghost use Rattle.sf_value.specs.Grammar.Pairs.{Pairs, settle as settled_pairs};
 ghost use Rattle.sf_view.specs.Scans.{Puts};
 ghost use Rattle.sf_view.specs.View.{DescribesEntries};
-ghost use Rattle.sf_view.specs.Views.{IsViewed};
 ghost use Rattle.sf_view.specs.Keys.{tag_of};
 ghost use Rattle.sf_view.specs.Settling.{key_from, run_from, runs_of, RunsDescribe};
 ghost use Rattle.sf_view.specs.Settling.{IsPlace, HoldsPlace, HoldsPlaces, IsIndex};
 
-use crate::growing::grown_parts;
 use crate::item::put;
 use crate::keys::{bytes_at, tag};
 use crate::lookup::hop;
 use crate::node::Node;
-use crate::view::View;
-use sf_value::{Dialect, Kind, OutOfMemory};
 use std::alloc::Global;
 
 /// If there are at most this many members, each two keys are compared.
@@ -352,67 +348,4 @@ pub(crate) fn settled_nodes(
     let count = put_members(raw, &order[..stay], nodes.as_mut_slice())?;
     nodes.truncate(count);
     Some(nodes)
-}
-
-/// Scans a whole text as a field of this kind, as [`View::scan`] does, but also if a key is
-/// repeated in a Dictionary, or there are many keys: then the nodes are those of the members that
-/// stay if a later value of a key overwrites an earlier one and takes its place (RFC 9651 section
-/// 4.2.2). Nodes are added to the buffer as they are needed, so it may be empty; the number of them
-/// is bounded by what was read of the text and, if a key is repeated, by the number of different
-/// keys. It returns `None` if the text is malformed, a key of parameters is repeated, an allocation
-/// failed or, rarely, there are many keys with one hash. `None` says nothing about the text.
-///
-/// ```
-/// let mut nodes = Vec::new(alloc);
-/// let view = scan_settled(alloc, Dialect::Rfc9651, Kind::Dict, b"u=1, i, u=2", &mut nodes)?;
-/// view_text(alloc, &view, Kind::Dict)? // u=2, i
-/// ```
-pub fn scan_settled<'a>(
-    alloc: Global,
-    dialect: Dialect,
-    kind: Kind,
-    text: &'a [u8],
-    nodes: &'a mut Vec<Node>,
-) -> Option<View<'a>>
-    // The text spells a field, and no other, and the nodes of the view describe it.
-    ensures { IfSome result (λ v. IsViewed dialect kind text.now v) }
-{
-    let mut repeated = false;
-    match scan_or_settle(alloc, dialect, kind, &mut repeated, text, nodes) {
-        Ok(view) => return view,
-        Err(_) => return None,
-    }
-}
-
-/// As [`scan_settled`]; `repeated` is set if the nodes had to be settled. It fails only if an
-/// allocation of nodes fails.
-pub(crate) fn scan_or_settle<'a>(
-    alloc: Global,
-    dialect: Dialect,
-    kind: Kind,
-    repeated: &mut bool,
-    text: &'a [u8],
-    nodes: &'a mut Vec<Node>,
-) -> Result<Option<View<'a>>, OutOfMemory>
-    requires unset { repeated.old ≡ false }
-    ensures { IfOk result (λ found. IfSome found (λ v. IsViewed dialect kind text.now v)) }
-{
-    let Some(count) = grown_parts(alloc, dialect, kind, repeated, text, nodes)? else {
-        return Ok(None);
-    };
-    if *repeated {
-        let (raw, _) = nodes.as_slice().split_at(count);
-        let Some(settled) = settled_nodes(alloc, text, text.len(), raw, false) else {
-            return Ok(None);
-        };
-        *nodes = settled;
-        return Ok(Some(View {
-            text,
-            nodes: nodes.as_slice(),
-        }));
-    }
-    Ok(Some(View {
-        text,
-        nodes: &nodes.as_slice()[..count],
-    }))
 }

@@ -12,7 +12,8 @@ ghost use Rattle.sf_view.specs.View.{slice_at};
 ghost use Rattle.sf_view.specs.Views.{IsBorrowed};
 ghost use Rattle.sf_view.specs.Reads.{Reads, ReadsBare, ReadsParam, ReadsItems, ReadsMember, ReadsEntry};
 
-use crate::bare::{Part, scan_value};
+use crate::bare::scan_value;
+use crate::bare_part::Part;
 use crate::classes::{InKey, behind, behind_spaces, is_key_start, short_prefix, split};
 use crate::keys::bytes_at;
 use crate::node_types::NodeType;
