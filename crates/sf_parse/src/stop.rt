@@ -1,12 +1,12 @@
 //! Where a text stops that spells no field, for the refusal of a text of which direct reading did
-//! not take all. It is found behind the whole parts that were kept of a member or an Item, or
-//! behind whole parameters that are put once more, or the Items of an Inner List that was not read
-//! before: directly in a bare item that takes no memory, and by its reader in another one. What is
-//! behind another whole part is left to the levels. What they would allocate up to there was
-//! allocated, or is here, so that a text is refused as out of memory where they refuse it so; this
-//! order is tested, not proved.
-ghost use Rattle.std.specs.Prelude.{◌≡◌, ◌∷◌, ◌++◌, List, [], is_some, IfSome};
-ghost use Rattle.sf_value.specs.Ascii.{quote};
+//! not take all. It is found behind the whole parts that were kept of a member or an Item, behind
+//! whole parameters of an Item of an Inner List, which are not put again, or behind the Items of one
+//! that was not read before: directly in a number, a short Token or a String, and by its reader in
+//! another bare item. What is behind another whole part is left to the levels. What they would
+//! allocate up to there was allocated, or is asked for here, so that a text is refused as out of
+//! memory where they refuse it so; this order is tested, not proved.
+ghost use Rattle.std.specs.Prelude.{◌≡◌, ◌<◌, ◌∷◌, ◌++◌, List, [], length, is_some, IfSome, true};
+ghost use Rattle.sf_value.specs.Ascii.{quote, semicolon};
 ghost use Rattle.sf_value.specs.declared.dialect.Dialect.{Dialect};
 ghost use Rattle.sf_value.specs.declared.value.Bare.{Bare};
 ghost use Rattle.sf_value.specs.declared.value.Item.{Item};
@@ -31,9 +31,9 @@ use crate::number::NumberReader;
 use crate::refusal::Refusal;
 use crate::sets::{BEHIND_KEY, CLOSE, KEY_START, SEMICOLON, SPACE, TOKEN, VISIBLE, set_if};
 use crate::whole_bare::{behind, split};
-use crate::whole_parts::{BehindItems, Owner, behind_spaces, find_key, put_each_param, read_items};
+use crate::whole_parts::{BehindItems, Owner, behind_spaces, find_key, read_items};
 use sf_value::classes::{InToken, Unescaped, long_prefix};
-use sf_value::{Entries, Sequence, ShortBytes, can_start_token};
+use sf_value::{Bare, Key, Sequence, ShortBytes, can_start_token};
 
 /// The most bytes of a bare item or a key that take no memory.
 const IN_PLACE: usize = 16;
@@ -75,7 +75,8 @@ pub fn refuse_left(left: &[u8], expected: u128, may_end: bool, place: usize) -> 
     })
 }
 
-/// Where a bare item stops. None claims nothing. What takes no memory needs no reader.
+/// Where a bare item stops. None claims nothing. A number, a short Token and a String without an
+/// escape need no reader.
 #[inline(always)]
 fn stop_in_bare<'a>(context: &Context, text: &'a [u8]) -> Option<Stop<'a>>
     ensures { IfSome result (StopsIn (bare_start context.now.dialect) bare_step
@@ -89,7 +90,7 @@ fn stop_in_bare<'a>(context: &Context, text: &'a [u8]) -> Option<Stop<'a>>
         return Some(stop);
     }
     if first == b'"' {
-        if let Some(stop) = stop_in_string(more) {
+        if let Some(stop) = stop_in_string(context, more) {
             return Some(stop);
         }
     }
@@ -143,14 +144,15 @@ fn stop_in_token(first: u8, more: &[u8]) -> Option<Stop<'_>>
     })
 }
 
-/// Where a String without an escape stops, after its opening quote. None claims nothing.
+/// Where a String without an escape stops, after its opening quote. None claims nothing: it has an
+/// escape, or there is no memory for its bytes.
 #[inline(always)]
-fn stop_in_string(more: &[u8]) -> Option<Stop<'_>>
+fn stop_in_string<'a>(context: &Context, more: &'a [u8]) -> Option<Stop<'a>>
     ensures { IfSome result (λ stop. (d : Dialect) → StopsIn (bare_start d) bare_step
         (λ s. is_some (bare_finish s)) (quote ∷ more.now) stop) }
 {
     let (run, left) = long_prefix::<Unescaped>(more);
-    if run.len() > IN_PLACE || behind(left, b'\\').is_some() {
+    if behind(left, b'\\').is_some() || !has_memory(context, run) {
         return None;
     }
     let Some(end) = behind(left, b'"') else {
@@ -212,18 +214,53 @@ fn stop_in_params<'a>(
     Some(stop_in_param(context, text))
 }
 
-/// The same of an Item in an Inner List, of which none are kept: the whole ones are put once more, as
-/// the levels do, which ask for the same memory.
+/// The same of an Item in an Inner List, of which none are kept. None also if there is no memory for
+/// the slots of the whole ones: the levels, which put them, ask for the same.
 #[inline(never)]
 fn stop_in_new_params<'a>(context: &Context, text: &'a [u8]) -> Option<Stop<'a>>
     ensures { IfSome result (StopsAt (params_step context.now.dialect)
         (λ s. is_some (params_finish s)) (Opened []) text.now) }
 {
-    let mut params = Entries::new(context.alloc, &context.seed);
-    let Ok(left) = put_each_param(context, text, true, &mut params) else {
+    let (count, stop) = stop_behind_params(context, text);
+    if Vec::<(Key, Bare)>::with_capacity(context.alloc, count).is_err() {
         return None;
-    };
-    Some(stop_in_param(context, left))
+    }
+    Some(stop)
+}
+
+/// How many parameters are whole, each with the semicolon after it, and where the next one stops.
+#[inline(always)]
+fn stop_behind_params<'a>(context: &Context, text: &'a [u8]) -> (usize, Stop<'a>)
+    ensures { StopsAt (params_step context.now.dialect) (λ s. is_some (params_finish s)) (Opened [])
+        text.now result.1 }
+{
+    let mut count = 0usize;
+    let mut rest = text;
+    loop {
+        let stop = stop_in_param(context, rest);
+        let Some(more) = behind_stop(stop.left, stop.may_end, rest) else {
+            return (count, stop);
+        };
+        count = count.wrapping_add(1);
+        rest = more;
+    }
+}
+
+/// The rest behind a semicolon where parameters of a text stop, if they may end there.
+#[inline(always)]
+fn behind_stop<'a>(left: &'a [u8], may_end: bool, text: &[u8]) -> Option<&'a [u8]>
+    ensures ends { IfSome result (λ more. (may_end ≡ true) × (left.now ≡ semicolon ∷ more.now)) }
+    ensures shorter { IfSome result (λ more. length more.now < length text.now) }
+{
+    if !may_end {
+        return None;
+    }
+    let more = behind(left, b';')?;
+    // This is always so, and not proved.
+    if more.len() >= text.len() {
+        return None;
+    }
+    Some(more)
 }
 
 /// The bytes of a key, and the rest; None if there is no memory for the key.
@@ -233,10 +270,16 @@ fn find_held_key<'a>(context: &Context, text: &'a [u8]) -> Option<(&'a [u8], &'a
     ensures key { IfSome result (λ r. IsKey r.0.now) }
 {
     let (key, rest) = find_key(text)?;
-    if key.len() > IN_PLACE && ShortBytes::from_slice(context.alloc, key).is_err() {
+    if !has_memory(context, key) {
         return None;
     }
     Some((key, rest))
+}
+
+/// Whether there is memory for these bytes, if they take any. Nothing is claimed of it.
+#[inline(always)]
+fn has_memory(context: &Context, bytes: &[u8]) -> bool {
+    bytes.len() <= IN_PLACE || ShortBytes::from_slice(context.alloc, bytes).is_ok()
 }
 
 /// Where the next parameter stops, after its semicolon.
