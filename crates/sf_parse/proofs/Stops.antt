@@ -8,6 +8,7 @@ use Rattle.std.specs.List.{slice_get}
 use Rattle.sf_value.specs.declared.dialect.Dialect.{Dialect}
 use Rattle.sf_value.specs.declared.dialect.Dialect.TheVariants.{Rfc8941, Rfc9651}
 use Rattle.sf_value.specs.declared.value.Bare.{Bare}
+use Rattle.sf_value.specs.declared.value.Bare.TheVariants.{Boolean}
 use Rattle.sf_value.specs.declared.value.Field.TheVariants as field
 use Rattle.sf_value.specs.declared.value.Item.{Item}
 use Rattle.sf_value.specs.declared.value.Member.TheVariants as member
@@ -265,6 +266,34 @@ module _ (d : Dialect) where
       (λ t m k. subst (λ z. MarksStep z (params_step d (InValue ps key t))) (sym f)
       (value_marks ps key t x.expected x.may_end m k))
       (λ t k. g ∙ k ∙ sym (some_then (put ps key) (bare_finish t))) h)
+
+  opens_value : (ps : Pairs Bare) (k : List ℕ) (t : BareState) (v : Bare) → bare_finish t ≡ Some v
+      → params_step d (InValue ps k t) 59 ≡ Some (Opened (put ps k v))
+  opens_value ps k t v e =
+      rw (is_none (bare_step t 59) (λ u n. bare_apart t v 59 u e n refl), e) refl
+
+  -- the semicolon where parameters may end
+  opens_next : (s : ParamsState) → ParamsEnd s ≡ true
+      → (ps : Pairs Bare) × (params_step d s 59 ≡ Some (Opened ps))
+  opens_next (Between ps) e = (ps, refl)
+  opens_next (Opened ps) e = absurd cc
+  opens_next (InParamKey ps k) e = (put ps k (Boolean true), refl)
+  opens_next (EqualsParam ps k) e = absurd cc
+  opens_next (InValue ps k t) e =
+      let v = whole_value (bare_finish t) (sym (some_then (put ps k) (bare_finish t)) ∙ e) in
+      (put ps k v.0, opens_value ps k t v.0 v.1)
+
+  -- the next parameters, after the semicolon where those before stop
+  pub stop_opens : (ps : Pairs Bare) (text more : List ℕ) (x : Stop)
+      → StopsAt (params_step d) ParamsEnd (Opened ps) text x → x.may_end ≡ true
+      → x.left.now ≡ 59 ∷ more
+      → (qs : Pairs Bare) × Goes (params_step d) (Opened ps) text more (Opened qs)
+  stop_opens ps text more x a m e =
+      let next = opens_next a.state (sym a.ending ∙ m) in (
+        next.0,
+        goes_byte (params_step d) (Opened ps) a.state (Opened next.0) text 59 more
+            (subst (λ y. Goes (params_step d) (Opened ps) text y a.state) e a.goes) next.1,
+      )
 
   -- a key after a semicolon, and what may come after it
   pub keyed_goes : (ps : Pairs Bare) (text named key after : List ℕ) → Behind is_sp text named

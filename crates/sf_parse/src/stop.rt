@@ -1,13 +1,13 @@
 //! Where a text stops: the place at which it is refused, and what may come there. It is looked for
 //! if direct reading did not take all of a text, so that the levels need not read the text again.
 //! The search goes on after the whole parts that were kept of a member or of an Item, after whole
-//! parameters, which are put once more, or after the Items of an Inner List that was not read
-//! before. A bare item that needs no allocation is searched directly, another one by its reader.
-//! After other whole parts, the search is left to the levels. What the levels would allocate before
-//! the place was allocated, or is allocated here, so that a text is refused as out of memory if
-//! they would refuse it so; this is tested, not proved.
-ghost use Rattle.std.specs.Prelude.{◌≡◌, ◌∷◌, ◌++◌, List, [], is_some, IfSome};
-ghost use Rattle.sf_value.specs.Ascii.{quote};
+//! parameters of an Item of an Inner List, which are not put again, or after the Items of an Inner
+//! List that was not read before. A number, a short Token and a String are searched directly,
+//! another bare item by its reader. After other whole parts, the search is left to the levels. What
+//! the levels would allocate before the place was allocated, or is asked for here, so that a text
+//! is refused as out of memory if they would refuse it so; this is tested, not proved.
+ghost use Rattle.std.specs.Prelude.{◌≡◌, ◌<◌, ◌∷◌, ◌++◌, List, [], length, is_some, IfSome, true};
+ghost use Rattle.sf_value.specs.Ascii.{quote, semicolon};
 ghost use Rattle.sf_value.specs.declared.dialect.Dialect.{Dialect};
 ghost use Rattle.sf_value.specs.declared.value.Bare.{Bare};
 ghost use Rattle.sf_value.specs.declared.value.Item.{Item};
@@ -31,9 +31,9 @@ use crate::member::MemberReader;
 use crate::number::NumberReader;
 use crate::refusal::Refusal;
 use crate::sets::{BEHIND_KEY, CLOSE, KEY_START, SEMICOLON, SPACE, TOKEN, VISIBLE, set_if};
-use crate::whole_parts::{BehindItems, Owner, behind_spaces, find_key, put_each_param, read_items};
+use crate::whole_parts::{BehindItems, Owner, behind_spaces, find_key, read_items};
 use sf_value::classes::{InToken, Unescaped, behind, long_prefix, split};
-use sf_value::{Entries, Sequence, ShortBytes, can_start_token};
+use sf_value::{Bare, Key, Sequence, ShortBytes, can_start_token};
 
 /// The most bytes of a bare item or a key that need no allocation.
 const IN_PLACE: usize = 16;
@@ -76,8 +76,8 @@ pub fn refuse_left(left: &[u8], expected: u128, may_end: bool, place: usize) -> 
     })
 }
 
-/// Where a bare item stops. None says nothing about the text. A bare item that needs no allocation
-/// needs no reader.
+/// Where a bare item stops. None says nothing about the text. A number, a short Token and a String
+/// without an escape need no reader.
 #[inline(always)]
 fn stop_in_bare<'a>(context: &Context, text: &'a [u8]) -> Option<Stop<'a>>
     ensures { IfSome result (StopsIn (bare_start context.now.dialect) bare_step
@@ -91,7 +91,7 @@ fn stop_in_bare<'a>(context: &Context, text: &'a [u8]) -> Option<Stop<'a>>
         return Some(stop);
     }
     if first == b'"' {
-        if let Some(stop) = stop_in_string(more) {
+        if let Some(stop) = stop_in_string(context, more) {
             return Some(stop);
         }
     }
@@ -146,14 +146,14 @@ fn stop_in_token(first: u8, more: &[u8]) -> Option<Stop<'_>>
 }
 
 /// Where a String without an escape stops, after its opening quote. None says nothing about the
-/// text.
+/// text: the String has an escape, or there is no memory for its bytes.
 #[inline(always)]
-fn stop_in_string(more: &[u8]) -> Option<Stop<'_>>
+fn stop_in_string<'a>(context: &Context, more: &'a [u8]) -> Option<Stop<'a>>
     ensures { IfSome result (λ stop. (d : Dialect) → StopsIn (bare_start d) bare_step
         (λ s. is_some (bare_finish s)) (quote ∷ more.now) stop) }
 {
     let (run, left) = long_prefix::<Unescaped>(more);
-    if run.len() > IN_PLACE || behind(left, b'\\').is_some() {
+    if behind(left, b'\\').is_some() || !has_memory(context, run) {
         return None;
     }
     let Some(end) = behind(left, b'"') else {
@@ -215,18 +215,54 @@ fn stop_in_params<'a>(
     Some(stop_in_param(context, text))
 }
 
-/// As [`stop_in_params`], for an Item of an Inner List, of which no parameters are kept: the whole
-/// ones are put once more, with the allocations that the levels would make.
+/// As [`stop_in_params`], for an Item of an Inner List, of which no parameters are kept. None also
+/// if there is no memory for the slots of the whole ones: the levels, which put them, ask for the
+/// same.
 #[inline(never)]
 fn stop_in_new_params<'a>(context: &Context, text: &'a [u8]) -> Option<Stop<'a>>
     ensures { IfSome result (StopsAt (params_step context.now.dialect)
         (λ s. is_some (params_finish s)) (Opened []) text.now) }
 {
-    let mut params = Entries::new(context.alloc, &context.seed);
-    let Ok(left) = put_each_param(context, text, true, &mut params) else {
+    let (count, stop) = stop_behind_params(context, text);
+    if Vec::<(Key, Bare)>::with_capacity(context.alloc, count).is_err() {
         return None;
-    };
-    Some(stop_in_param(context, left))
+    }
+    Some(stop)
+}
+
+/// How many parameters are whole, each with the semicolon after it, and where the next one stops.
+#[inline(always)]
+fn stop_behind_params<'a>(context: &Context, text: &'a [u8]) -> (usize, Stop<'a>)
+    ensures { StopsAt (params_step context.now.dialect) (λ s. is_some (params_finish s)) (Opened [])
+        text.now result.1 }
+{
+    let mut count = 0usize;
+    let mut rest = text;
+    loop {
+        let stop = stop_in_param(context, rest);
+        let Some(more) = behind_stop(stop.left, stop.may_end, rest) else {
+            return (count, stop);
+        };
+        count = count.wrapping_add(1);
+        rest = more;
+    }
+}
+
+/// The rest after a semicolon where parameters of a text stop, if they may end there.
+#[inline(always)]
+fn behind_stop<'a>(left: &'a [u8], may_end: bool, text: &[u8]) -> Option<&'a [u8]>
+    ensures ends { IfSome result (λ more. (may_end ≡ true) × (left.now ≡ semicolon ∷ more.now)) }
+    ensures shorter { IfSome result (λ more. length more.now < length text.now) }
+{
+    if !may_end {
+        return None;
+    }
+    let more = behind(left, b';')?;
+    // This is always so, and not proved.
+    if more.len() >= text.len() {
+        return None;
+    }
+    Some(more)
 }
 
 /// The bytes of a key, and the rest; None if there is no key, or no memory for it.
@@ -236,10 +272,16 @@ fn find_held_key<'a>(context: &Context, text: &'a [u8]) -> Option<(&'a [u8], &'a
     ensures key { IfSome result (λ r. IsKey r.0.now) }
 {
     let (key, rest) = find_key(text)?;
-    if key.len() > IN_PLACE && ShortBytes::from_slice(context.alloc, key).is_err() {
+    if !has_memory(context, key) {
         return None;
     }
     Some((key, rest))
+}
+
+/// Whether there is memory for these bytes, if they need any. No proof relies on it.
+#[inline(always)]
+fn has_memory(context: &Context, bytes: &[u8]) -> bool {
+    bytes.len() <= IN_PLACE || ShortBytes::from_slice(context.alloc, bytes).is_ok()
 }
 
 /// Where the next parameter stops, after its semicolon.

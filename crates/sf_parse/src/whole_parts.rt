@@ -229,17 +229,15 @@ pub fn add_params<'a>(
     if text.len() < WHOLE_PARTS {
         return Ok(text);
     }
-    put_each_param(context, text, false, params)
+    put_each_param(context, text, params)
 }
 
-/// As [`add_params`], for a chunk or a whole text: [`add_params`] itself only tests the length,
-/// since a call clears its stack. In a chunk a parameter that was not found is left to the levels,
-/// which have the reader of its value at hand.
+/// As [`add_params`]: [`add_params`] itself only tests the length, since a call clears its stack. A
+/// parameter that was not found is left to the levels, which have the reader of its value at hand.
 #[inline(never)]
-pub fn put_each_param<'a>(
+fn put_each_param<'a>(
     context: &Context,
     text: &'a [u8],
-    is_whole: bool,
     params: &mut Entries<Bare>,
 ) -> Result<&'a [u8], OutOfMemory>
     // The bytes before the rest lead to the new parameters, after a semicolon.
@@ -247,17 +245,9 @@ pub fn put_each_param<'a>(
         text.now rest.now (Opened params.new)) }
 {
     let mut rest = text;
-    while is_whole || rest.len() >= WHOLE_PARTS {
+    while rest.len() >= WHOLE_PARTS {
         let Some((found, after)) = find_named(behind_spaces(rest)) else {
-            if !is_whole {
-                return Ok(rest);
-            }
-            let left = put_any_param(context, rest, params)?;
-            if left.len() >= rest.len() {
-                return Ok(left);
-            }
-            rest = left;
-            continue;
+            return Ok(rest);
         };
         let Some(more) = behind(after, b';') else {
             return Ok(rest);
@@ -268,29 +258,6 @@ pub fn put_each_param<'a>(
         rest = more;
     }
     Ok(rest)
-}
-
-/// Puts a parameter that was not found, with the semicolon after it, and returns the rest; all of
-/// the text if it is not whole. It is not inlined, so that a loop over parameters that are found
-/// clears less stack.
-#[inline(never)]
-fn put_any_param<'a>(
-    context: &Context,
-    text: &'a [u8],
-    params: &mut Entries<Bare>,
-) -> Result<&'a [u8], OutOfMemory>
-    // The bytes before the rest lead to the new parameters, after a semicolon.
-    ensures { IfOk result (λ rest. Goes (params_step context.now.dialect) (Opened params.old)
-        text.now rest.now (Opened params.new)) }
-{
-    let Some((key, value, after)) = read_param(context, text) else {
-        return Ok(text);
-    };
-    let Some(left) = behind(after, b';') else {
-        return Ok(text);
-    };
-    params.set_named(context.alloc, key, value)?;
-    Ok(left)
 }
 
 /// Puts a parameter that was found. If the bytes of its value can't be allocated, it returns false

@@ -5,24 +5,19 @@ use Rattle.sf_parse.proofs.WholeParts.{param_after, param_shorter}
 use Rattle.sf_parse.proofs.WholeSteps.{param_goes}
 use Rattle.sf_parse.proofs.whole_parts.put_each_param.Goals as goal
 
-pub loop-found-init : goal.loop-found-init
-loop-found-init c = record { taken = []; split = refl; leads = refl }
+pub loop-rest-init : goal.loop-rest-init
+loop-rest-init c = record { taken = []; split = refl; leads = refl }
 
-pub loop-found-preserved : goal.loop-found-preserved
-loop-found-preserved c =
+pub loop-rest-preserved : goal.loop-rest-preserved
+loop-rest-preserved c =
     let d = c.args.context.now.dialect in
-    goes_more (params_step d) _ _ _ _ _ _ c.loop-found.invariant
+    goes_more (params_step d) _ _ _ _ _ _ c.loop-rest.invariant
     (param_goes d _ _ _ _ _ _ _
     (param_after d _ _ _ _ _ c.behind_spaces.ensures (c.in-Some.ensures.param d))
     c.in-Some-behind.ensures (c.in_ok-put_leaf.ensures.put c.if-not-branch.false))
 
-pub loop-found-preserved-in_default : goal.loop-found-preserved-in_default
-loop-found-preserved-in_default c =
-    goes_more (params_step c.args.context.now.dialect) _ _ _ _ _ _ c.loop-found.invariant
-    c.in_ok-left.ensures
-
-pub loop-found-smaller : goal.loop-found-smaller
-loop-found-smaller c =
+pub loop-rest-smaller : goal.loop-rest-smaller
+loop-rest-smaller c =
     let d = c.args.context.now.dialect in
     param_shorter d _ _ _ _ _
     (param_after d _ _ _ _ _ c.behind_spaces.ensures (c.in-Some.ensures.param d))
