@@ -1500,6 +1500,766 @@ typedef struct sf_joined {
 uint32_t sf_join(const void *line, size_t line_length, void *buffer, size_t buffer_length,
                  sf_joined *joined) SF_USE_RESULT;
 
+/*
+ * The calls with few arguments. The rest of this header is inline and calls the functions above. A
+ * text is an sf_text, a buffer is a struct with its capacity, the results of a call are in one
+ * struct, and an sf_context has what a program sets once. So no two arguments can be swapped: the
+ * compiler reports it. Only the two texts of sf_equal_texts have the same type.
+ *
+ * This code reads the priority that a client asks for:
+ *
+ *   sf_context context = sf_context_of(seed, SF_RFC8941);
+ *   sf_priority_flags client = SF_PRIORITY_UNSET;
+ *   if (sf_read_priority(&context, sf_cstr("u=5, i"), &client) == SF_NO_MEMORY)
+ *     return EXIT_FAILURE;
+ *   printf("%d\n", client.urgency); // 5
+ *
+ * A text that begins or ends with a tab is malformed for each of them (RFC 9651 section 4.2), but
+ * white space around the value of a field line is no part of the value (RFC 9110 section 5.5): pass
+ * sf_add_line, or the call itself if there is one line, what sf_trim returns.
+ *
+ * They allocate what the functions that they call do.
+ */
+
+/* Returns a text of a stated length. It is not copied. */
+static inline sf_text sf_text_of(const void *at, size_t length) {
+  sf_text text;
+  text.at = (const char *)at;
+  text.length = length;
+  return text;
+}
+
+/* Returns the text of a string that ends with a NUL; the empty text if it is NULL. */
+static inline sf_text sf_cstr(const char *string) { return sf_text_of(string, sf_length(string)); }
+
+/* What the calls of a program have in common. Threads may not use a context at the same time: give
+ * each a copy. */
+typedef struct sf_context {
+  sf_seed seed;       /* for the hashes of keys */
+  uint32_t dialect;   /* the sf_dialect in which texts are read and written */
+  sf_refusal refusal; /* where and why the last text was refused: written with SF_REFUSED and
+                         SF_SECOND_REFUSED alone */
+  size_t invalid;     /* index of the first node that is wrong: written with SF_INVALID by
+                         sf_write_tree and sf_write_builder */
+} sf_context;
+
+/* Returns a context. The dialect is the RFC that the definition of a field cites: SF_RFC8941 for
+ * Priority, Cache-Status and targeted cache control. */
+static inline sf_context sf_context_of(sf_seed seed, sf_dialect dialect) {
+  sf_context context;
+  memset(&context, 0, sizeof context);
+  context.seed = seed;
+  context.dialect = (uint32_t)dialect;
+  return context;
+}
+
+/* A buffer for bytes, such as a text that a call writes. */
+typedef struct sf_buffer {
+  char *at;        /* the caller's bytes */
+  size_t capacity; /* how many there are */
+  size_t length;   /* how many of them the last call wrote; 0 unless it returned SF_OK */
+  size_t required; /* after SF_SHORT, the capacity that the call requires */
+} sf_buffer;
+
+/* A buffer for the nodes of a value, likewise. Here and in sf_hops, required is in elements. */
+typedef struct sf_nodes {
+  sf_node *at;
+  size_t capacity;
+  size_t length;
+  size_t required; /* after SF_TOO_MANY and SF_SHORT, the capacity that is large enough */
+} sf_nodes;
+
+/* A buffer for the hops of a path, likewise. */
+typedef struct sf_hops {
+  sf_hop *at;
+  size_t capacity;
+  size_t length;
+  size_t required; /* after SF_SHORT, the capacity that is large enough */
+} sf_hops;
+
+/* Return a buffer over the caller's memory, with its capacity in bytes, nodes or hops. */
+static inline sf_buffer sf_buffer_of(void *at, size_t capacity) {
+  sf_buffer buffer;
+  buffer.at = (char *)at;
+  buffer.capacity = capacity;
+  buffer.length = 0;
+  buffer.required = 0;
+  return buffer;
+}
+
+static inline sf_nodes sf_nodes_of(sf_node *at, size_t capacity) {
+  sf_nodes nodes;
+  nodes.at = at;
+  nodes.capacity = capacity;
+  nodes.length = 0;
+  nodes.required = 0;
+  return nodes;
+}
+
+static inline sf_hops sf_hops_of(sf_hop *at, size_t capacity) {
+  sf_hops hops;
+  hops.at = at;
+  hops.capacity = capacity;
+  hops.length = 0;
+  hops.required = 0;
+  return hops;
+}
+
+/* The number of elements of an array. A pointer in its place does not compile, except in C with
+ * other compilers than GCC and Clang. */
+#if defined(__cplusplus)
+extern "C++" {
+template <class Element, size_t length> inline size_t sf_length_of(Element (&)[length]) {
+  return length;
+}
+}
+#define SF_LENGTH_OF(array) (sf_length_of(array))
+#elif defined(__GNUC__)
+#define SF_LENGTH_OF(array)                                                                        \
+  (sizeof(array) / sizeof *(array) *                                                               \
+   sizeof(char[__builtin_types_compatible_p(__typeof__(array), __typeof__(&(array)[0])) ? -1 : 1]))
+#else
+#define SF_LENGTH_OF(array) (sizeof(array) / sizeof *(array))
+#endif
+
+/* A buffer over an array of char, of sf_node, and of sf_hop:
+ *
+ *   char text[SF_PRIORITY_SIZE];
+ *   sf_buffer out = SF_BUFFER(text);
+ */
+#define SF_BUFFER(chars) sf_buffer_of((chars), sizeof *(chars) * SF_LENGTH_OF(chars))
+#define SF_NODES(nodes) sf_nodes_of((nodes), SF_LENGTH_OF(nodes))
+#define SF_HOPS(hops) sf_hops_of((hops), SF_LENGTH_OF(hops))
+
+/* Returns the text that the last call wrote to a buffer; the empty text if it failed. The text is in
+ * the buffer. */
+static inline sf_text sf_written(const sf_buffer *buffer) {
+  return sf_text_of(buffer->at, buffer->length);
+}
+
+/* Sets what the struct of a buffer says after a call with this status: for the functions below. */
+static inline uint32_t sf_wrote(sf_buffer *buffer, uint32_t status, size_t required) {
+  buffer->length = status == SF_OK ? required : 0;
+  buffer->required = status == SF_SHORT ? required : 0;
+  return status;
+}
+
+/* The lines of a field, joined. */
+typedef struct sf_lines {
+  sf_buffer buffer; /* its first bytes are the joined lines */
+  uint32_t begun;   /* 0 before the first line */
+} sf_lines;
+
+/* Returns the lines of a field before the first: none. */
+static inline sf_lines sf_lines_in(sf_buffer buffer) {
+  sf_lines lines;
+  lines.buffer = buffer;
+  lines.buffer.length = 0;
+  lines.begun = 0;
+  return lines;
+}
+
+/*
+ * Appends one line of a field, with a comma and a space between two lines (RFC 9651 section 4.2), by
+ * sf_join. These calls join the lines of a field:
+ *
+ *   char bytes[64];
+ *   sf_lines lines = sf_lines_in(SF_BUFFER(bytes));
+ *   if (sf_add_line(&lines, sf_trim("\tu=5", 4)) != SF_OK ||
+ *       sf_add_line(&lines, sf_trim(" i", 2)) != SF_OK)
+ *     return EXIT_FAILURE;
+ *   // sf_joined_text(&lines) is the text `u=5, i`
+ *
+ *   SF_OK        the line is appended
+ *   SF_SHORT     lines->buffer.required bytes are required; the lines before stay. Call again with a
+ *                buffer that begins with the same bytes
+ *   SF_BAD_CALL  lines->buffer.length is greater than its capacity
+ */
+SF_USE_RESULT
+static inline uint32_t sf_add_line(sf_lines *lines, sf_text line) {
+  sf_joined joined;
+  joined.length = lines->buffer.length;
+  joined.required = 0;
+  joined.begun = lines->begun;
+  uint32_t status =
+      sf_join(line.at, line.length, lines->buffer.at, lines->buffer.capacity, &joined);
+  lines->buffer.length = joined.length;
+  lines->buffer.required = joined.required;
+  lines->begun = joined.begun;
+  return status;
+}
+
+/* Returns the text of a field: its lines, joined; the empty text if it has none. It is in the buffer
+ * of the lines. */
+static inline sf_text sf_joined_text(const sf_lines *lines) {
+  return sf_text_of(lines->buffer.at, lines->buffer.length);
+}
+
+/*
+ * Checks whether a text is a well-formed field of the kind (RFC 9651 section 4.2), by sf_check:
+ *
+ *   sf_check_text(&context, SF_ITEM, sf_cstr("1 2")) // SF_REFUSED: context.refusal.offset is 2
+ *
+ *   SF_OK         it is
+ *   SF_REFUSED    it is not; context->refusal says where and why
+ *   SF_NO_MEMORY, SF_BAD_CALL
+ */
+SF_USE_RESULT
+static inline uint32_t sf_check_text(sf_context *context, sf_kind kind, sf_text text) {
+  return sf_check(&context->seed, context->dialect, (uint32_t)kind, text.at, text.length,
+                  &context->refusal);
+}
+
+/*
+ * Writes the error message of a refusal to out, by sf_refusal_text. A buffer of SF_REFUSAL_SIZE
+ * bytes is always large enough.
+ *
+ *   char message[SF_REFUSAL_SIZE];
+ *   sf_buffer out = SF_BUFFER(message);
+ *   if (sf_check_text(&context, SF_ITEM, sf_cstr("1 2")) == SF_REFUSED &&
+ *       sf_write_refusal(&context.refusal, &out) == SF_OK)
+ *     printf("%.*s\n", (int)out.length, out.at);
+ *     // byte 0x32 '2' at place 2, expected a space or the end
+ *
+ *   SF_OK         the first out->length bytes of out are the message
+ *   SF_SHORT      the message has out->required bytes, more than the capacity
+ *   SF_NO_MEMORY
+ */
+SF_USE_RESULT
+static inline uint32_t sf_write_refusal(const sf_refusal *refusal, sf_buffer *out) {
+  size_t required = 0;
+  uint32_t status = sf_refusal_text(refusal, out->at, out->capacity, &required);
+  return sf_wrote(out, status, required);
+}
+
+/* Writes the error message of a refusal of this text, with the text and a caret, by
+ * sf_refusal_in_text. A buffer of SF_REFUSAL_IN_TEXT_SIZE(text.length) bytes is always large enough.
+ * The results are those of sf_write_refusal. */
+SF_USE_RESULT
+static inline uint32_t sf_show_refusal(const sf_refusal *refusal, sf_text text, sf_buffer *out) {
+  size_t required = 0;
+  uint32_t status =
+      sf_refusal_in_text(refusal, text.at, text.length, out->at, out->capacity, &required);
+  return sf_wrote(out, status, required);
+}
+
+/* Writes the error message of a refusal of this text, with at most so many bytes of the text around
+ * the offset and a caret, by sf_refusal_excerpt. A buffer of SF_REFUSAL_EXCERPT_SIZE(most) bytes is
+ * always large enough. The results are those of sf_write_refusal. */
+SF_USE_RESULT
+static inline uint32_t sf_show_excerpt(const sf_refusal *refusal, sf_text text, size_t most,
+                                       sf_buffer *out) {
+  size_t required = 0;
+  uint32_t status = sf_refusal_excerpt(refusal, text.at, text.length, most, out->at,
+                                       out->capacity, &required);
+  return sf_wrote(out, status, required);
+}
+
+/*
+ * Writes the canonical text (RFC 9651 section 4.1) of the value of a text, by sf_normalise. A buffer
+ * of SF_CANONICAL_SIZE(text.length) bytes is always large enough. For the Dictionary `u=1,  i=?1` it
+ * is `u=1, i`.
+ *
+ *   SF_OK         the first out->length bytes of out are the canonical text
+ *   SF_SHORT      it has out->required bytes, more than the capacity
+ *   SF_REFUSED    the text is malformed; context->refusal says where and why
+ *   SF_NO_MEMORY, SF_BAD_CALL
+ */
+SF_USE_RESULT
+static inline uint32_t sf_write_canonical(sf_context *context, sf_kind kind, sf_text text,
+                                          sf_buffer *out) {
+  size_t required = 0;
+  uint32_t status = sf_normalise(&context->seed, context->dialect, (uint32_t)kind, text.at,
+                                 text.length, out->at, out->capacity, &required, &context->refusal);
+  return sf_wrote(out, status, required);
+}
+
+/*
+ * Compares the values of two texts of a kind (RFC 9651 sections 3 and 4.2), by sf_equal. Those of
+ * `u=1,i` and `u=1, i=?1` are equal.
+ *
+ *   SF_OK              *are_equal is 1 if the values are equal, otherwise 0
+ *   SF_REFUSED         the first text is malformed; context->refusal says where and why
+ *   SF_SECOND_REFUSED  the first is well-formed and the second malformed, likewise
+ *   SF_NO_MEMORY, SF_BAD_CALL
+ *
+ * Unless SF_OK is returned, *are_equal is 0.
+ */
+SF_USE_RESULT
+static inline uint32_t sf_equal_texts(sf_context *context, sf_kind kind, sf_text first,
+                                      sf_text second, uint32_t *are_equal) {
+  *are_equal = 0;
+  return sf_equal(&context->seed, context->dialect, (uint32_t)kind, first.at, first.length,
+                  second.at, second.length, are_equal, &context->refusal);
+}
+
+/* A parsed value: its nodes, and the text and the bytes to which they point. The text is not copied:
+ * it must be valid as long as the tree is used. */
+typedef struct sf_tree {
+  sf_text text;    /* that sf_read_tree parsed */
+  sf_nodes nodes;  /* the first nodes.length are the value, in the order of sf_node */
+  sf_buffer bytes; /* what is escaped or encoded in the text, decoded */
+  uint32_t kind;   /* the sf_kind */
+} sf_tree;
+
+/* Returns an empty tree with these buffers, which must be valid as long as the tree is used. */
+static inline sf_tree sf_tree_in(sf_nodes nodes, sf_buffer bytes) {
+  sf_tree tree;
+  tree.text = sf_text_of(NULL, 0);
+  tree.nodes = nodes;
+  tree.nodes.length = 0;
+  tree.bytes = bytes;
+  tree.bytes.length = 0;
+  tree.kind = 0;
+  return tree;
+}
+
+/*
+ * Parses a text (RFC 9651 section 4.2) into a tree, by sf_parse:
+ *
+ *   sf_node nodes[16];
+ *   char bytes[64];
+ *   sf_tree tree = sf_tree_in(SF_NODES(nodes), SF_BUFFER(bytes));
+ *   if (sf_read_tree(&context, SF_DICT, sf_cstr("a=1, sig=:YQ==:;created=7, b"), &tree) != SF_OK)
+ *     return EXIT_FAILURE;
+ *   const sf_node *sig = sf_find_member(&tree, "sig");
+ *   const sf_node *created = sig == NULL ? NULL : sf_find_parameter(&tree, sig, "created");
+ *   if (created != NULL && created->type == SF_INTEGER)
+ *     printf("%d\n", (int)created->number); // 7
+ *
+ *   SF_OK         the tree is the value
+ *   SF_TOO_MANY   the value has tree->nodes.required nodes, more than there is capacity for
+ *   SF_SHORT      it may require tree->bytes.required bytes, more than there is capacity for
+ *   SF_REFUSED    the text is malformed; context->refusal says where and why
+ *   SF_TOO_LONG   the text, or what has to be decoded, has 4 GiB or more
+ *   SF_NO_MEMORY, SF_BAD_CALL
+ *
+ * Unless SF_OK is returned, the tree is empty. Buffers of SF_NODES_SIZE(text.length) nodes and
+ * SF_BYTES_SIZE(text.length) bytes are always large enough.
+ */
+SF_USE_RESULT
+static inline uint32_t sf_read_tree(sf_context *context, sf_kind kind, sf_text text,
+                                    sf_tree *tree) {
+  sf_sizes sizes = {0, 0};
+  uint32_t status = sf_parse(&context->seed, context->dialect, (uint32_t)kind, text.at,
+                             text.length, tree->nodes.at, tree->nodes.capacity, tree->bytes.at,
+                             tree->bytes.capacity, &sizes, &context->refusal);
+  int is_read = status == SF_OK;
+  tree->text = is_read ? text : sf_text_of(NULL, 0);
+  tree->kind = is_read ? (uint32_t)kind : 0;
+  tree->nodes.length = is_read ? sizes.nodes : 0;
+  tree->nodes.required = is_read ? 0 : sizes.nodes;
+  tree->bytes.length = is_read ? sizes.bytes : 0;
+  tree->bytes.required = is_read ? 0 : sizes.bytes;
+  return status;
+}
+
+/* Returns the end of the nodes of a tree. This loop visits each member of the field:
+ *
+ *   for (const sf_node *node = tree.nodes.at; node < sf_tree_end(&tree); node += node->size)
+ */
+static inline const sf_node *sf_tree_end(const sf_tree *tree) {
+  return tree->nodes.length == 0 ? tree->nodes.at : tree->nodes.at + tree->nodes.length;
+}
+
+/* Returns the key of a node of a tree; the empty text if it has none. */
+static inline sf_text sf_node_key(const sf_tree *tree, const sf_node *node) {
+  return sf_text_of(sf_key(node, tree->text.at, tree->text.length, tree->bytes.at),
+                    node->key_length);
+}
+
+/* Returns the bytes of a String, Token, Byte Sequence or Display String of a tree, without quotes and
+ * decoded; the empty text for other types. */
+static inline sf_text sf_node_text(const sf_tree *tree, const sf_node *node) {
+  return sf_text_of(sf_bytes(node, tree->text.at, tree->text.length, tree->bytes.at),
+                    node->text_length);
+}
+
+/* Returns the first of so many nodes from an index on that has this role and this key, or NULL: for
+ * the functions below. */
+static inline sf_node *sf_find_node(const sf_tree *tree, size_t from, size_t length, sf_role role,
+                                    sf_text key) {
+  size_t index = 0;
+  if (length == 0 || sf_find(tree->nodes.at + from, length, tree->text.at, tree->text.length,
+                             tree->bytes.at, tree->bytes.length, (uint32_t)role, key.at, key.length,
+                             &index) != SF_OK)
+    return NULL;
+  return tree->nodes.at + from + index;
+}
+
+/* Returns the member of a Dictionary that has this key (RFC 9651 section 3.2), or NULL. The key ends
+ * with a NUL; sf_find takes one of a stated length. */
+static inline sf_node *sf_find_member(const sf_tree *tree, const char *key) {
+  return sf_find_node(tree, 0, tree->nodes.length, SF_MEMBER, sf_cstr(key));
+}
+
+/* Returns the parameter of an Item or an Inner List that has this key (RFC 9651 section 3.1.2), or
+ * NULL. The node is one of the tree; the key ends with a NUL. */
+static inline sf_node *sf_find_parameter(const sf_tree *tree, const sf_node *node,
+                                         const char *key) {
+  return sf_find_node(tree, (size_t)(node - tree->nodes.at), node->size,
+                      node->type == SF_INNER_LIST ? SF_INNER_PARAMETER : SF_PARAMETER,
+                      sf_cstr(key));
+}
+
+/*
+ * Changes the bare item of a node of a tree to a String, Token, Byte Sequence or Display String with
+ * this value, by sf_set_bytes, which copies it to the bytes of the tree. For the other types call
+ * sf_set_number. The key and the parameters of the node stay.
+ *
+ *   SF_OK        the node is changed
+ *   SF_SHORT     tree->bytes.required bytes are required
+ *   SF_TOO_LONG  the offset or the length of the value would be 4 GiB or more
+ *
+ * Unless SF_OK is returned, the value of the tree is unchanged.
+ */
+SF_USE_RESULT
+static inline uint32_t sf_set_text(sf_tree *tree, sf_node *node, sf_type type, sf_text value) {
+  sf_sizes sizes;
+  sizes.nodes = tree->nodes.length;
+  sizes.bytes = tree->bytes.length;
+  uint32_t status = sf_set_bytes(node, (uint32_t)type, value.at, value.length, tree->text.length,
+                                 tree->bytes.at, tree->bytes.capacity, &sizes);
+  tree->bytes.length = sizes.bytes;
+  tree->bytes.required = status == SF_SHORT ? sizes.bytes + value.length : 0;
+  return status;
+}
+
+/*
+ * Writes the canonical text (RFC 9651 section 4.1) of a tree, changed or not, by sf_write. A buffer
+ * of SF_WRITTEN_SIZE(tree->nodes.length, tree->text.length + tree->bytes.length) bytes is large
+ * enough for a tree whose nodes share no bytes, as those of sf_read_tree do not.
+ *
+ *   SF_OK       the first out->length bytes of out are the text
+ *   SF_SHORT    it has out->required bytes, more than the capacity
+ *   SF_INVALID  the nodes do not describe a valid field; context->invalid is the index of the first
+ *               node that is wrong
+ *   SF_NO_MEMORY, SF_BAD_CALL
+ */
+SF_USE_RESULT
+static inline uint32_t sf_write_tree(sf_context *context, const sf_tree *tree, sf_buffer *out) {
+  size_t required = 0;
+  uint32_t status =
+      sf_write(&context->seed, context->dialect, tree->kind, tree->nodes.at, tree->nodes.length,
+               tree->text.at, tree->text.length, tree->bytes.at, tree->bytes.length, out->at,
+               out->capacity, &required, &context->invalid);
+  return sf_wrote(out, status, required);
+}
+
+/* Returns an empty builder with these buffers, by sf_build. */
+static inline sf_builder sf_builder_in(sf_nodes nodes, sf_buffer bytes) {
+  return sf_build(nodes.at, nodes.capacity, bytes.at, bytes.capacity);
+}
+
+/* Puts a copy of an Item, an Inner List or a parameter of a tree, with its subtree, by
+ * sf_put_copy. */
+static inline void sf_put_node_of(sf_builder *builder, const sf_tree *tree, const sf_node *node) {
+  sf_put_copy(builder, node, tree->text.at, tree->text.length, tree->bytes.at);
+}
+
+/*
+ * Writes the canonical text (RFC 9651 section 4.1) of what was put, by sf_write_built:
+ *
+ *   sf_node nodes[2];
+ *   char bytes[8], text[SF_WRITTEN_SIZE(2, 8)];
+ *   sf_buffer out = SF_BUFFER(text);
+ *   sf_builder field = sf_builder_in(SF_NODES(nodes), SF_BUFFER(bytes));
+ *   sf_put_token(&field, NULL, "gzip");
+ *   sf_param_decimal(&field, "q", 500);
+ *   if (sf_write_builder(&context, SF_LIST, &field, &out) == SF_OK)
+ *     printf("%.*s\n", (int)out.length, out.at); // gzip;q=0.5
+ *
+ *   SF_OK        the first out->length bytes of out are the text. If it is empty, the field is not to
+ *                be sent
+ *   SF_SHORT     it has out->required bytes, more than the capacity
+ *   SF_INVALID   the nodes do not describe a valid field of this kind; context->invalid is the index
+ *                of the first node that is wrong
+ *   SF_BAD_CALL  a call with the builder failed: builder->status says why
+ *   SF_NO_MEMORY
+ */
+SF_USE_RESULT
+static inline uint32_t sf_write_builder(sf_context *context, sf_kind kind,
+                                        const sf_builder *builder, sf_buffer *out) {
+  size_t required = 0;
+  uint32_t status = sf_write_built(&context->seed, context->dialect, (uint32_t)kind, builder,
+                                   out->at, out->capacity, &required, &context->invalid);
+  return sf_wrote(out, status, required);
+}
+
+/*
+ * Reads the Priority field of a request (RFC 9218 section 5), by sf_priority_in. `u=5, i` sets
+ * urgency 5 and incremental.
+ *
+ *   SF_OK         *client is written
+ *   SF_REFUSED    the text is not a well-formed Dictionary; context->refusal says where and why.
+ *                 Treat the field as absent
+ *   SF_NO_MEMORY, SF_BAD_CALL
+ *
+ * Unless SF_OK is returned, *client is unchanged: begin with SF_PRIORITY_UNSET.
+ */
+SF_USE_RESULT
+static inline uint32_t sf_read_priority(sf_context *context, sf_text text,
+                                        sf_priority_flags *client) {
+  return sf_priority_in(&context->seed, context->dialect, text.at, text.length, client,
+                        &context->refusal);
+}
+
+/* Reads the Priority field of a response (RFC 9218 section 8), by sf_response_priority. The results
+ * are those of sf_read_priority, with *server in the place of *client: begin with zeros. */
+SF_USE_RESULT
+static inline uint32_t sf_read_response_priority(sf_context *context, sf_text text,
+                                                 sf_response_priority_flags *server) {
+  return sf_response_priority(&context->seed, context->dialect, text.at, text.length, server,
+                              &context->refusal);
+}
+
+/* Merges what the client asks for and what the server sets (RFC 9218 section 8), by
+ * sf_priority_merge. Swapped arguments do not compile. */
+static inline sf_priority_flags sf_merge_priority(sf_priority_flags client,
+                                                  sf_response_priority_flags server) {
+  return sf_priority_merge(&client, &server);
+}
+
+/*
+ * Writes the text of the Priority field of a request (RFC 9218 section 5), by sf_priority_text. A
+ * buffer of SF_PRIORITY_SIZE bytes is always large enough.
+ *
+ *   SF_OK       the first out->length bytes of out are the text. If it is empty, the field is not to
+ *               be sent
+ *   SF_SHORT    it has out->required bytes, more than the capacity
+ *   SF_INVALID  urgency is above SF_URGENCY_LAST, or a parameter is set whose has_ flag is 0
+ */
+SF_USE_RESULT
+static inline uint32_t sf_write_priority(sf_priority_flags client, sf_buffer *out) {
+  size_t required = 0;
+  uint32_t status = sf_priority_text(&client, out->at, out->capacity, &required);
+  return sf_wrote(out, status, required);
+}
+
+/* Writes the text of the Priority field of a response (RFC 9218 section 8), likewise, by
+ * sf_response_priority_text. */
+SF_USE_RESULT
+static inline uint32_t sf_write_response_priority(sf_response_priority_flags server,
+                                                  sf_buffer *out) {
+  size_t required = 0;
+  uint32_t status = sf_response_priority_text(&server, out->at, out->capacity, &required);
+  return sf_wrote(out, status, required);
+}
+
+/*
+ * Writes the Priority field of a request with what *client sets, and keeps its other members (RFC
+ * 9218 section 4), by sf_priority_change, so in the dialect SF_RFC9651. A buffer of
+ * SF_PRIORITY_CHANGE_SIZE(text.length) bytes is always large enough.
+ *
+ *   SF_REFUSED  the text is not a well-formed Dictionary; context->refusal says where and why
+ *   SF_NO_MEMORY
+ *
+ * The other results are those of sf_write_priority.
+ */
+SF_USE_RESULT
+static inline uint32_t sf_change_priority(sf_context *context, sf_text text,
+                                          sf_priority_flags client, sf_buffer *out) {
+  size_t required = 0;
+  uint32_t status = sf_priority_change(&context->seed, text.at, text.length, &client, out->at,
+                                       out->capacity, &required, &context->refusal);
+  return sf_wrote(out, status, required);
+}
+
+/*
+ * Reads one targeted field (RFC 9213 section 2.1), such as CDN-Cache-Control, for sf_decide, by
+ * sf_cache_rules.
+ *
+ *   SF_OK         *rules is written
+ *   SF_EMPTY      the Dictionary has no members: ignore the field
+ *   SF_REFUSED    the text is not a well-formed Dictionary: ignore the field; context->refusal says
+ *                 where and why
+ *   SF_NO_MEMORY, SF_BAD_CALL
+ *
+ * Unless SF_OK is returned, *rules is unchanged.
+ */
+SF_USE_RESULT
+static inline uint32_t sf_read_rules(sf_context *context, sf_text text, sf_rules *rules) {
+  return sf_cache_rules(&context->seed, context->dialect, text.at, text.length, rules,
+                        &context->refusal);
+}
+
+/* The field of a target list that a cache obeys, and its directives. */
+typedef struct sf_choice {
+  size_t index;   /* of the field, from 0 */
+  sf_rules rules; /* for sf_decide */
+} sf_choice;
+
+/*
+ * Chooses the field that a cache obeys: the first of its target list that is well-formed and not
+ * empty (RFC 9213 section 2.2). The fields are in the order of the list; one that the response does
+ * not have is an empty text. It is sf_select_rules for texts that may be in different buffers.
+ *
+ *   sf_text fields[] = {sf_cstr("max-age=60,"), sf_cstr("max-age=600")}; // the first is malformed
+ *   sf_response response = {0, 0, 0, 0};
+ *   sf_choice choice;
+ *   sf_decision decision;
+ *   if (sf_choose_rules(&context, fields, 2, &choice) == SF_OK &&
+ *       sf_decide(&choice.rules, SF_SHARED_CACHE, &response, &decision) == SF_OK)
+ *     printf("%s for %d s\n", sf_reuse_name(decision.reuse), (int)decision.seconds);
+ *     // fresh for 600 s
+ *
+ *   SF_OK         fields[choice->index] is the field; those before it are ignored
+ *   SF_EMPTY      every field is ignored: Cache-Control and Expires decide
+ *   SF_NO_MEMORY, SF_BAD_CALL
+ *
+ * Unless SF_OK is returned, *choice is unchanged. context->refusal is that of the last field that is
+ * malformed.
+ */
+SF_USE_RESULT
+static inline uint32_t sf_choose_rules(sf_context *context, const sf_text *fields,
+                                       size_t fields_length, sf_choice *choice) {
+  size_t i;
+  if (context->dialect != SF_RFC9651 && context->dialect != SF_RFC8941)
+    return SF_BAD_CALL;
+  for (i = 0; i < fields_length; ++i) {
+    uint32_t status = sf_read_rules(context, fields[i], &choice->rules);
+    if (status == SF_OK)
+      choice->index = i;
+    if (status != SF_EMPTY && status != SF_REFUSED)
+      return status;
+  }
+  return SF_EMPTY;
+}
+
+/* The caches on the path of a response, and what each did. */
+typedef struct sf_hop_list {
+  sf_hops hops;         /* the first hops.length are the path, the cache nearest the origin first */
+  sf_buffer bytes;      /* their names, fwd tokens, keys and details: see sf_hop_part */
+  const sf_hop *served; /* the hop that served the response: the last one whose outcome is SF_HIT;
+                           NULL if there is none */
+  size_t nameless;      /* after SF_NOT_A_CACHE, the index of the first member that names no cache */
+} sf_hop_list;
+
+/* Returns an empty list with these buffers, which must be valid as long as the list is used. */
+static inline sf_hop_list sf_hop_list_in(sf_hops hops, sf_buffer bytes) {
+  sf_hop_list list;
+  list.hops = hops;
+  list.hops.length = 0;
+  list.bytes = bytes;
+  list.bytes.length = 0;
+  list.served = NULL;
+  list.nameless = 0;
+  return list;
+}
+
+/*
+ * Reads the Cache-Status field of a response (RFC 9211 section 2), by sf_cache_status_in:
+ *
+ *   sf_hop hops[8];
+ *   char bytes[256];
+ *   sf_hop_list list = sf_hop_list_in(SF_HOPS(hops), SF_BUFFER(bytes));
+ *   if (sf_read_hops(&context, sf_cstr("origin; fwd=stale, \"edge\"; hit"), &list) != SF_OK)
+ *     return EXIT_FAILURE;
+ *   sf_text name = list.served == NULL ? sf_cstr("nobody") : sf_hop_part(&list, list.served->name);
+ *   printf("%.*s\n", (int)name.length, name.at); // edge
+ *
+ *   SF_OK           the list is the path
+ *   SF_SHORT        it requires list->hops.required hops and list->bytes.required bytes, and one of
+ *                   the two buffers is smaller
+ *   SF_NOT_A_CACHE  member list->nameless is the first that is not an Item of a String or a Token
+ *   SF_REFUSED      the text is not a well-formed List; context->refusal says where and why
+ *   SF_NO_MEMORY, SF_BAD_CALL
+ *
+ * Unless SF_OK is returned, the list is empty. Buffers of SF_NODES_SIZE(text.length) hops and
+ * SF_BYTES_SIZE(text.length) bytes are always large enough.
+ */
+SF_USE_RESULT
+static inline uint32_t sf_read_hops(sf_context *context, sf_text text, sf_hop_list *list) {
+  sf_path path = {0, 0, 0, 0, 0};
+  uint32_t status = sf_cache_status_in(&context->seed, context->dialect, text.at, text.length,
+                                       list->hops.at, list->hops.capacity, list->bytes.at,
+                                       list->bytes.capacity, &path, &context->refusal);
+  int is_read = status == SF_OK;
+  list->hops.length = is_read ? path.hops : 0;
+  list->hops.required = is_read ? 0 : path.hops;
+  list->bytes.length = is_read ? path.bytes : 0;
+  list->bytes.required = is_read ? 0 : path.bytes;
+  list->served = is_read && path.is_served ? list->hops.at + path.served : NULL;
+  list->nameless = status == SF_NOT_A_CACHE ? path.nameless : 0;
+  return status;
+}
+
+/* Returns a part of a hop of a list: its name, why_token, key or detail, such as
+ * sf_hop_part(&list, hop->name); the empty text if the part is absent. */
+static inline sf_text sf_hop_part(const sf_hop_list *list, sf_span part) {
+  return part.length == 0 ? sf_text_of("", 0)
+                          : sf_text_of(list->bytes.at + part.at, part.length);
+}
+
+/* A hop that is to be written, and the bytes that its ranges are in. */
+typedef struct sf_own_hop {
+  sf_hop hop;
+  sf_text bytes;
+} sf_own_hop;
+
+/*
+ * Returns a hop of a cache with this name, which ends with a NUL; it is a Token if type is SF_TOKEN,
+ * and otherwise a String. The hop says nothing yet. Set the members of its field hop that this cache
+ * reports; bytes are those of the name, which are not copied:
+ *
+ *   sf_own_hop own = sf_hop_named("ExampleCDN", SF_TOKEN);
+ *   own.hop.outcome = SF_HIT;
+ *   own.hop.ttl = 30;
+ *   own.hop.has_ttl = 1;
+ *
+ * For a key, a detail or a why_token, set bytes to a text that has the name and these, and the range
+ * of each in the hop.
+ */
+static inline sf_own_hop sf_hop_named(const char *name, sf_type type) {
+  sf_own_hop own;
+  memset(&own, 0, sizeof own);
+  own.bytes = sf_cstr(name);
+  own.hop.name.length = own.bytes.length;
+  own.hop.name_is_token = type == SF_TOKEN;
+  return own;
+}
+
+/*
+ * Writes the text of a Cache-Status field whose only member is this hop (RFC 9211 section 2), by
+ * sf_hop_text. A buffer of SF_HOP_SIZE(own->bytes.length) bytes is always large enough.
+ *
+ *   SF_OK       the first out->length bytes of out are the text
+ *   SF_SHORT    it has out->required bytes, more than the capacity
+ *   SF_INVALID  own->hop is not a hop
+ *   SF_NO_MEMORY
+ */
+SF_USE_RESULT
+static inline uint32_t sf_write_hop(sf_context *context, const sf_own_hop *own, sf_buffer *out) {
+  size_t required = 0;
+  uint32_t status = sf_hop_text(&context->seed, &own->hop, own->bytes.at, own->bytes.length,
+                                out->at, out->capacity, &required);
+  return sf_wrote(out, status, required);
+}
+
+/*
+ * Writes the Cache-Status field that was received with this hop as its last member (RFC 9211 section
+ * 2), by sf_cache_status_append. The text is that of the lines that were received, joined, or empty;
+ * what is written is sent in their place. A buffer of
+ * SF_APPENDED_SIZE(text.length, own->bytes.length) bytes is always large enough. With the hop of the
+ * comment of sf_hop_named, `origin; fwd=miss` becomes `origin;fwd=miss, ExampleCDN;hit;ttl=30`.
+ *
+ *   SF_OK       the first out->length bytes of out are the text
+ *   SF_SHORT    it has out->required bytes, more than the capacity
+ *   SF_REFUSED  the text that was received is not a well-formed List; context->refusal says where and
+ *               why. Send the text of sf_write_hop in its place
+ *   SF_INVALID  own->hop is not a hop, or its outcome is SF_CONFLICT
+ *   SF_NO_MEMORY, SF_BAD_CALL
+ */
+SF_USE_RESULT
+static inline uint32_t sf_append_hop(sf_context *context, sf_text text, const sf_own_hop *own,
+                                     sf_buffer *out) {
+  size_t required = 0;
+  uint32_t status = sf_cache_status_append(
+      &context->seed, context->dialect, text.at, text.length, &own->hop, own->bytes.at,
+      own->bytes.length, out->at, out->capacity, &required, &context->refusal);
+  return sf_wrote(out, status, required);
+}
+
 #ifdef __cplusplus
 }
 #endif
