@@ -172,7 +172,8 @@ typedef struct sf_text {
 /*
  * Returns a text without the spaces and tabs before and after it. White space around the value of a
  * field line is no part of it (RFC 9110 section 5.5), but some programs pass it on. The functions
- * that read a text accept spaces there, and refuse a tab (RFC 9651 section 4.2): trim each line
+ * that read a text accept spaces there, but refuse a tab at the beginning, and one after an Item
+ * (RFC 9651 section 4.2; after a member of a List or Dictionary it is accepted). So trim each line
  * before sf_join, or the text of a field of one line.
  */
 static inline sf_text sf_trim(const void *text, size_t length) {
@@ -210,8 +211,8 @@ typedef struct sf_refusal {
 } sf_refusal;
 
 /*
- * Checks whether a text is a well-formed field of the kind (RFC 9651 section 4.2). Here and below,
- * a text that begins or ends with a tab is malformed: see sf_trim.
+ * Checks whether a text is a well-formed field of the kind (RFC 9651 section 4.2). A tab at the
+ * beginning, or after an Item, is refused: see sf_trim.
  *
  *   SF_OK         it is
  *   SF_REFUSED    it is not; refusal says where and why
@@ -294,8 +295,8 @@ static inline sf_line_place sf_refusal_line(const sf_refusal *refusal, const sf_
 
 /*
  * Writes the error message of a refusal, a second line with at most so many bytes of the text
- * around the offset, and a caret below the offset, without a newline at the end. So the message has a
- * bound, whatever the length of the text. Bytes are written as by sf_refusal_in_text. The results
+ * around the offset, and a caret below the offset, without a newline at the end. So the message has
+ * a bound, whatever the length of the text. Bytes are written as by sf_refusal_in_text. The results
  * are those of sf_refusal_text.
  */
 SF_USE_RESULT
@@ -338,7 +339,8 @@ static inline uint32_t sf_refusal_excerpt(const sf_refusal *refusal, const void 
 /*
  * Writes the canonical text (RFC 9651 section 4.1) of the value of a text to buffer. Two texts of a
  * kind have equal values if and only if their canonical texts are equal, and the canonical text of
- * a canonical text is that text itself.
+ * a canonical text is that text itself. A tab at the beginning, or after an Item, is refused: see
+ * sf_trim.
  *
  *   SF_OK         the first *required bytes of buffer are the canonical text; the others are
  *                 unchanged
@@ -355,7 +357,7 @@ uint32_t sf_normalise(const sf_seed *seed, uint32_t dialect, uint32_t kind, cons
 
 /*
  * Compares the values of two texts of a kind (RFC 9651 sections 3 and 4.2). The order of members,
- * items and parameters counts.
+ * items and parameters counts. A tab at the beginning, or after an Item, is refused: see sf_trim.
  *
  *   SF_OK              *equal is 1 if the values are equal, otherwise 0
  *   SF_REFUSED         the first text is malformed; refusal says where and why
@@ -491,7 +493,8 @@ typedef struct sf_sizes {
 /*
  * Parses a text and writes its value as nodes. If a key is repeated, its member or parameter
  * appears once, at the position of the first and with the value of the last (RFC 9651 section 4.2).
- * No two values of a kind have the same nodes, text and bytes.
+ * No two values of a kind have the same nodes, text and bytes. A tab at the beginning, or after an
+ * Item, is refused: see sf_trim.
  *
  *   SF_OK         the first sizes->nodes nodes are the value, with the text and the first
  *                 sizes->bytes bytes, to which they point
@@ -954,7 +957,7 @@ typedef struct sf_response_priority_flags {
 
 /*
  * Reads the text of the Priority field of a request (RFC 9218 section 5). Members that are unknown,
- * of another type or out of range are ignored.
+ * of another type or out of range are ignored. A tab at the beginning is refused: see sf_trim.
  *
  *   SF_OK         *priority is written
  *   SF_REFUSED    the text is not a well-formed Dictionary; refusal says where and why
@@ -973,7 +976,7 @@ uint32_t sf_priority_in(const sf_seed *seed, uint32_t dialect, const void *text,
 
 /*
  * Reads the text of the Priority field of a response (RFC 9218 section 8), in a dialect. Members
- * are ignored as by sf_priority.
+ * are ignored as by sf_priority. A tab at the beginning is refused: see sf_trim.
  *
  *   SF_OK         *priority is written
  *   SF_REFUSED    the text is not a well-formed Dictionary; refusal says where and why
@@ -1045,7 +1048,7 @@ uint32_t sf_response_priority_text(const sf_response_priority_flags *priority, v
  * Writes the canonical text of a Priority field in which u is set if has_urgency is set, and i if
  * has_incremental is (RFC 9218 section 4). A member that the field has is overwritten in its place,
  * and a new one is added at the end; all other members stay as they are. If the text is empty, the
- * field is not to be sent.
+ * field is not to be sent. A tab at the beginning is refused: see sf_trim.
  *
  *   SF_OK       the first *required bytes of buffer are the text; the others are unchanged
  *   SF_SHORT    the text has *required bytes, more than buffer_length; buffer is unchanged
@@ -1075,7 +1078,8 @@ typedef struct sf_policy {
 
 /*
  * Reads the text of one targeted field (RFC 9213 section 2.1). After SF_REFUSED or SF_EMPTY, a
- * cache ignores this field and uses the next of its target list (section 2.2), as sf_select does.
+ * cache ignores this field and uses the next of its target list (section 2.2), as sf_select does. A
+ * tab at the beginning is refused: see sf_trim.
  *
  *   SF_OK         *policy is written
  *   SF_EMPTY      the Dictionary has no members
@@ -1103,7 +1107,8 @@ typedef struct sf_rules {
 /*
  * Reads the text of one targeted field (RFC 9213 section 2.1), for sf_decide, in a dialect: RFC
  * 9213 cites RFC 8941, by which a text with a Date or a Display String is malformed. After
- * SF_REFUSED or SF_EMPTY, a cache ignores this field, as after the same of sf_cache_control.
+ * SF_REFUSED or SF_EMPTY, a cache ignores this field, as after the same of sf_cache_control. A tab
+ * at the beginning is refused: see sf_trim.
  *
  *   SF_OK         *rules is written
  *   SF_EMPTY      the Dictionary has no members
@@ -1127,7 +1132,7 @@ typedef struct sf_span {
  * section 2.2). The fields are in the order of the list. Each is the range of its text in texts:
  * the lines of the field, joined, or an empty range if the response does not have the field. A
  * field is ignored if its text is not a well-formed Dictionary, or is one without members (section
- * 2.1).
+ * 2.1). A tab at the beginning is refused: see sf_trim.
  *
  *   SF_OK         fields[*index] is the field, and *policy its directives; the fields before it are
  *                 ignored
@@ -1329,7 +1334,8 @@ typedef enum sf_forward {
   SF_OTHER = 9       /* another token: see why_token */
 } sf_forward;
 
-/* Returns the token of a reason, as fwd has it; "" for SF_NO_FORWARD, SF_OTHER and other numbers. */
+/* Returns the token of a reason, as fwd has it; "" for SF_NO_FORWARD, SF_OTHER and other
+ * numbers. */
 static inline const char *sf_forward_name(uint32_t why) {
   switch (why) {
   case SF_BYPASS:
@@ -1395,7 +1401,7 @@ typedef struct sf_path {
 /*
  * Reads the text of a Cache-Status field (RFC 9211 section 2) and writes the path of the response:
  * one hop for each member, the cache nearest the origin first. No two paths have the same hops and
- * bytes.
+ * bytes. A tab at the beginning is refused: see sf_trim.
  *
  *   SF_OK           the first path->hops hops and the first path->bytes bytes are the path
  *   SF_SHORT        the path has path->hops hops and path->bytes bytes, and one of the two buffers
@@ -1458,7 +1464,8 @@ uint32_t sf_hop_text(const sf_seed *seed, const sf_hop *hop, const void *bytes, 
 /*
  * Writes the canonical text of a Cache-Status field with *hop as its last member (RFC 9211 section
  * 2), in the place of the lines that were received. The text is that of these lines, joined, or
- * empty if there are none; the ranges of *hop are in bytes.
+ * empty if there are none; the ranges of *hop are in bytes. A tab at the beginning is refused: see
+ * sf_trim.
  *
  *   SF_OK       the first *required bytes of buffer are the text; the others are unchanged
  *   SF_SHORT    the text has *required bytes, more than buffer_length; buffer is unchanged
@@ -1514,9 +1521,9 @@ uint32_t sf_join(const void *line, size_t line_length, void *buffer, size_t buff
  *     return EXIT_FAILURE;
  *   printf("%d\n", client.urgency); // 5
  *
- * A text that begins or ends with a tab is malformed for each of them (RFC 9651 section 4.2), but
- * white space around the value of a field line is no part of the value (RFC 9110 section 5.5): pass
- * sf_add_line, or the call itself if there is one line, what sf_trim returns.
+ * White space around the value of a field line is no part of the value (RFC 9110 section 5.5), but
+ * a tab at the beginning is refused (RFC 9651 section 4.2): pass sf_add_line, or the call itself if
+ * there is one line, what sf_trim returns.
  *
  * They allocate what the functions that they call do.
  */
@@ -1631,8 +1638,8 @@ template <class Element, size_t length> inline size_t sf_length_of(Element (&)[l
 #define SF_NODES(nodes) sf_nodes_of((nodes), SF_LENGTH_OF(nodes))
 #define SF_HOPS(hops) sf_hops_of((hops), SF_LENGTH_OF(hops))
 
-/* Returns the text that the last call wrote to a buffer; the empty text if it failed. The text is in
- * the buffer. */
+/* Returns the text that the last call wrote to a buffer; the empty text if it failed. The text is
+ * in the buffer. */
 static inline sf_text sf_written(const sf_buffer *buffer) {
   return sf_text_of(buffer->at, buffer->length);
 }
@@ -1660,8 +1667,8 @@ static inline sf_lines sf_lines_in(sf_buffer buffer) {
 }
 
 /*
- * Appends one line of a field, with a comma and a space between two lines (RFC 9651 section 4.2), by
- * sf_join. These calls join the lines of a field:
+ * Appends one line of a field, with a comma and a space between two lines (RFC 9651 section 4.2),
+ * by sf_join. These calls join the lines of a field:
  *
  *   char bytes[64];
  *   sf_lines lines = sf_lines_in(SF_BUFFER(bytes));
@@ -1671,8 +1678,8 @@ static inline sf_lines sf_lines_in(sf_buffer buffer) {
  *   // sf_joined_text(&lines) is the text `u=5, i`
  *
  *   SF_OK        the line is appended
- *   SF_SHORT     lines->buffer.required bytes are required; the lines before stay. Call again with a
- *                buffer that begins with the same bytes
+ *   SF_SHORT     lines->buffer.required bytes are required; the lines before stay. Call again with
+ *                a buffer that begins with the same bytes
  *   SF_BAD_CALL  lines->buffer.length is greater than its capacity
  */
 SF_USE_RESULT
@@ -1689,8 +1696,8 @@ static inline uint32_t sf_add_line(sf_lines *lines, sf_text line) {
   return status;
 }
 
-/* Returns the text of a field: its lines, joined; the empty text if it has none. It is in the buffer
- * of the lines. */
+/* Returns the text of a field: its lines, joined; the empty text if it has none. It is in the
+ * buffer of the lines. */
 static inline sf_text sf_joined_text(const sf_lines *lines) {
   return sf_text_of(lines->buffer.at, lines->buffer.length);
 }
@@ -1699,6 +1706,8 @@ static inline sf_text sf_joined_text(const sf_lines *lines) {
  * Checks whether a text is a well-formed field of the kind (RFC 9651 section 4.2), by sf_check:
  *
  *   sf_check_text(&context, SF_ITEM, sf_cstr("1 2")) // SF_REFUSED: context.refusal.offset is 2
+ *
+ * A tab at the beginning, or after an Item, is refused: see sf_trim.
  *
  *   SF_OK         it is
  *   SF_REFUSED    it is not; context->refusal says where and why
@@ -1733,8 +1742,8 @@ static inline uint32_t sf_write_refusal(const sf_refusal *refusal, sf_buffer *ou
 }
 
 /* Writes the error message of a refusal of this text, with the text and a caret, by
- * sf_refusal_in_text. A buffer of SF_REFUSAL_IN_TEXT_SIZE(text.length) bytes is always large enough.
- * The results are those of sf_write_refusal. */
+ * sf_refusal_in_text. A buffer of SF_REFUSAL_IN_TEXT_SIZE(text.length) bytes is always large
+ * enough. The results are those of sf_write_refusal. */
 SF_USE_RESULT
 static inline uint32_t sf_show_refusal(const sf_refusal *refusal, sf_text text, sf_buffer *out) {
   size_t required = 0;
@@ -1756,9 +1765,14 @@ static inline uint32_t sf_show_excerpt(const sf_refusal *refusal, sf_text text, 
 }
 
 /*
- * Writes the canonical text (RFC 9651 section 4.1) of the value of a text, by sf_normalise. A buffer
- * of SF_CANONICAL_SIZE(text.length) bytes is always large enough. For the Dictionary `u=1,  i=?1` it
- * is `u=1, i`.
+ * Writes the canonical text (RFC 9651 section 4.1) of the value of a text, by sf_normalise. A
+ * buffer of SF_CANONICAL_SIZE(text.length) bytes is always large enough. A tab at the beginning, or
+ * after an Item, is refused: see sf_trim.
+ *
+ *   char text[SF_CANONICAL_SIZE(10)];
+ *   sf_buffer out = SF_BUFFER(text);
+ *   if (sf_write_canonical(&context, SF_DICT, sf_cstr("u=1,  i=?1"), &out) == SF_OK)
+ *     printf("%.*s\n", (int)out.length, out.at); // u=1, i
  *
  *   SF_OK         the first out->length bytes of out are the canonical text
  *   SF_SHORT      it has out->required bytes, more than the capacity
@@ -1775,8 +1789,13 @@ static inline uint32_t sf_write_canonical(sf_context *context, sf_kind kind, sf_
 }
 
 /*
- * Compares the values of two texts of a kind (RFC 9651 sections 3 and 4.2), by sf_equal. Those of
- * `u=1,i` and `u=1, i=?1` are equal.
+ * Compares the values of two texts of a kind (RFC 9651 sections 3 and 4.2), by sf_equal. A tab at
+ * the beginning, or after an Item, is refused: see sf_trim.
+ *
+ *   uint32_t are_equal;
+ *   if (sf_equal_texts(&context, SF_DICT, sf_cstr("u=1,i"), sf_cstr("u=1, i=?1"), &are_equal) ==
+ *       SF_OK)
+ *     printf("%s\n", are_equal ? "equal" : "not equal"); // equal
  *
  *   SF_OK              *are_equal is 1 if the values are equal, otherwise 0
  *   SF_REFUSED         the first text is malformed; context->refusal says where and why
@@ -1793,8 +1812,8 @@ static inline uint32_t sf_equal_texts(sf_context *context, sf_kind kind, sf_text
                   second.at, second.length, are_equal, &context->refusal);
 }
 
-/* A parsed value: its nodes, and the text and the bytes to which they point. The text is not copied:
- * it must be valid as long as the tree is used. */
+/* A parsed value: its nodes, and the text and the bytes to which they point. The text is not
+ * copied: it must be valid as long as the tree is used. */
 typedef struct sf_tree {
   sf_text text;    /* that sf_read_tree parsed */
   sf_nodes nodes;  /* the first nodes.length are the value, in the order of sf_node */
@@ -1826,6 +1845,8 @@ static inline sf_tree sf_tree_in(sf_nodes nodes, sf_buffer bytes) {
  *   const sf_node *created = sig == NULL ? NULL : sf_find_parameter(&tree, sig, "created");
  *   if (created != NULL && created->type == SF_INTEGER)
  *     printf("%d\n", (int)created->number); // 7
+ *
+ * A tab at the beginning, or after an Item, is refused: see sf_trim.
  *
  *   SF_OK         the tree is the value
  *   SF_TOO_MANY   the value has tree->nodes.required nodes, more than there is capacity for
@@ -1868,8 +1889,8 @@ static inline sf_text sf_node_key(const sf_tree *tree, const sf_node *node) {
                     node->key_length);
 }
 
-/* Returns the bytes of a String, Token, Byte Sequence or Display String of a tree, without quotes and
- * decoded; the empty text for other types. */
+/* Returns the bytes of a String, Token, Byte Sequence or Display String of a tree, without quotes
+ * and decoded; the empty text for other types. */
 static inline sf_text sf_node_text(const sf_tree *tree, const sf_node *node) {
   return sf_text_of(sf_bytes(node, tree->text.at, tree->text.length, tree->bytes.at),
                     node->text_length);
@@ -1887,8 +1908,8 @@ static inline sf_node *sf_find_node(const sf_tree *tree, size_t from, size_t len
   return tree->nodes.at + from + index;
 }
 
-/* Returns the member of a Dictionary that has this key (RFC 9651 section 3.2), or NULL. The key ends
- * with a NUL; sf_find takes one of a stated length. */
+/* Returns the member of a Dictionary that has this key (RFC 9651 section 3.2), or NULL. The key
+ * ends with a NUL; sf_find takes one of a stated length. */
 static inline sf_node *sf_find_member(const sf_tree *tree, const char *key) {
   return sf_find_node(tree, 0, tree->nodes.length, SF_MEMBER, sf_cstr(key));
 }
@@ -1903,9 +1924,9 @@ static inline sf_node *sf_find_parameter(const sf_tree *tree, const sf_node *nod
 }
 
 /*
- * Changes the bare item of a node of a tree to a String, Token, Byte Sequence or Display String with
- * this value, by sf_set_bytes, which copies it to the bytes of the tree. For the other types call
- * sf_set_number. The key and the parameters of the node stay.
+ * Changes the bare item of a node of a tree to a String, Token, Byte Sequence or Display String
+ * with this value, by sf_set_bytes, which copies it to the bytes of the tree. For the other types
+ * call sf_set_number. The key and the parameters of the node stay.
  *
  *   SF_OK        the node is changed
  *   SF_SHORT     tree->bytes.required bytes are required
@@ -1969,11 +1990,11 @@ static inline void sf_put_node_of(sf_builder *builder, const sf_tree *tree, cons
  *   if (sf_write_builder(&context, SF_LIST, &field, &out) == SF_OK)
  *     printf("%.*s\n", (int)out.length, out.at); // gzip;q=0.5
  *
- *   SF_OK        the first out->length bytes of out are the text. If it is empty, the field is not to
- *                be sent
+ *   SF_OK        the first out->length bytes of out are the text. If it is empty, the field is not
+ *                to be sent
  *   SF_SHORT     it has out->required bytes, more than the capacity
- *   SF_INVALID   the nodes do not describe a valid field of this kind; context->invalid is the index
- *                of the first node that is wrong
+ *   SF_INVALID   the nodes do not describe a valid field of this kind; context->invalid is the
+ *                index of the first node that is wrong
  *   SF_BAD_CALL  a call with the builder failed: builder->status says why
  *   SF_NO_MEMORY
  */
@@ -1988,7 +2009,7 @@ static inline uint32_t sf_write_builder(sf_context *context, sf_kind kind,
 
 /*
  * Reads the Priority field of a request (RFC 9218 section 5), by sf_priority_in. `u=5, i` sets
- * urgency 5 and incremental.
+ * urgency 5 and incremental. A tab at the beginning is refused: see sf_trim.
  *
  *   SF_OK         *client is written
  *   SF_REFUSED    the text is not a well-formed Dictionary; context->refusal says where and why.
@@ -2004,8 +2025,9 @@ static inline uint32_t sf_read_priority(sf_context *context, sf_text text,
                         &context->refusal);
 }
 
-/* Reads the Priority field of a response (RFC 9218 section 8), by sf_response_priority. The results
- * are those of sf_read_priority, with *server in the place of *client: begin with zeros. */
+/* Reads the Priority field of a response (RFC 9218 section 8), by sf_response_priority. The
+ * results are those of sf_read_priority, with *server in the place of *client: begin with zeros.
+ * A tab at the beginning is refused: see sf_trim. */
 SF_USE_RESULT
 static inline uint32_t sf_read_response_priority(sf_context *context, sf_text text,
                                                  sf_response_priority_flags *server) {
@@ -2024,8 +2046,8 @@ static inline sf_priority_flags sf_merge_priority(sf_priority_flags client,
  * Writes the text of the Priority field of a request (RFC 9218 section 5), by sf_priority_text. A
  * buffer of SF_PRIORITY_SIZE bytes is always large enough.
  *
- *   SF_OK       the first out->length bytes of out are the text. If it is empty, the field is not to
- *               be sent
+ *   SF_OK       the first out->length bytes of out are the text. If it is empty, the field is not
+ *               to be sent
  *   SF_SHORT    it has out->required bytes, more than the capacity
  *   SF_INVALID  urgency is above SF_URGENCY_LAST, or a parameter is set whose has_ flag is 0
  */
@@ -2049,7 +2071,8 @@ static inline uint32_t sf_write_response_priority(sf_response_priority_flags ser
 /*
  * Writes the Priority field of a request with what *client sets, and keeps its other members (RFC
  * 9218 section 4), by sf_priority_change, so in the dialect SF_RFC9651. A buffer of
- * SF_PRIORITY_CHANGE_SIZE(text.length) bytes is always large enough.
+ * SF_PRIORITY_CHANGE_SIZE(text.length) bytes is always large enough. A tab at the beginning is
+ * refused: see sf_trim.
  *
  *   SF_REFUSED  the text is not a well-formed Dictionary; context->refusal says where and why
  *   SF_NO_MEMORY
@@ -2067,7 +2090,7 @@ static inline uint32_t sf_change_priority(sf_context *context, sf_text text,
 
 /*
  * Reads one targeted field (RFC 9213 section 2.1), such as CDN-Cache-Control, for sf_decide, by
- * sf_cache_rules.
+ * sf_cache_rules. A tab at the beginning is refused: see sf_trim.
  *
  *   SF_OK         *rules is written
  *   SF_EMPTY      the Dictionary has no members: ignore the field
@@ -2092,7 +2115,8 @@ typedef struct sf_choice {
 /*
  * Chooses the field that a cache obeys: the first of its target list that is well-formed and not
  * empty (RFC 9213 section 2.2). The fields are in the order of the list; one that the response does
- * not have is an empty text. It is sf_select_rules for texts that may be in different buffers.
+ * not have is an empty text. It is sf_select_rules for texts that may be in different buffers. A
+ * tab at the beginning is refused: see sf_trim.
  *
  *   sf_text fields[] = {sf_cstr("max-age=60,"), sf_cstr("max-age=600")}; // the first is malformed
  *   sf_response response = {0, 0, 0, 0};
@@ -2107,8 +2131,8 @@ typedef struct sf_choice {
  *   SF_EMPTY      every field is ignored: Cache-Control and Expires decide
  *   SF_NO_MEMORY, SF_BAD_CALL
  *
- * Unless SF_OK is returned, *choice is unchanged. context->refusal is that of the last field that is
- * malformed.
+ * Unless SF_OK is returned, *choice is unchanged. context->refusal is that of the last field that
+ * is malformed.
  */
 SF_USE_RESULT
 static inline uint32_t sf_choose_rules(sf_context *context, const sf_text *fields,
@@ -2132,7 +2156,7 @@ typedef struct sf_hop_list {
   sf_buffer bytes;      /* their names, fwd tokens, keys and details: see sf_hop_part */
   const sf_hop *served; /* the hop that served the response: the last one whose outcome is SF_HIT;
                            NULL if there is none */
-  size_t nameless;      /* after SF_NOT_A_CACHE, the index of the first member that names no cache */
+  size_t nameless;      /* after SF_NOT_A_CACHE, the index of the first member that is no cache */
 } sf_hop_list;
 
 /* Returns an empty list with these buffers, which must be valid as long as the list is used. */
@@ -2157,6 +2181,8 @@ static inline sf_hop_list sf_hop_list_in(sf_hops hops, sf_buffer bytes) {
  *     return EXIT_FAILURE;
  *   sf_text name = list.served == NULL ? sf_cstr("nobody") : sf_hop_part(&list, list.served->name);
  *   printf("%.*s\n", (int)name.length, name.at); // edge
+ *
+ * A tab at the beginning is refused: see sf_trim.
  *
  *   SF_OK           the list is the path
  *   SF_SHORT        it requires list->hops.required hops and list->bytes.required bytes, and one of
@@ -2184,8 +2210,8 @@ static inline uint32_t sf_read_hops(sf_context *context, sf_text text, sf_hop_li
   return status;
 }
 
-/* Returns a part of a hop of a list: its name, why_token, key or detail, such as
- * sf_hop_part(&list, hop->name); the empty text if the part is absent. */
+/* Returns a part of a hop of a list: its name, why_token, key or detail, such as sf_hop_part(&list,
+ * hop->name); the empty text if the part is absent. */
 static inline sf_text sf_hop_part(const sf_hop_list *list, sf_span part) {
   return part.length == 0 ? sf_text_of("", 0)
                           : sf_text_of(list->bytes.at + part.at, part.length);
@@ -2198,17 +2224,17 @@ typedef struct sf_own_hop {
 } sf_own_hop;
 
 /*
- * Returns a hop of a cache with this name, which ends with a NUL; it is a Token if type is SF_TOKEN,
- * and otherwise a String. The hop says nothing yet. Set the members of its field hop that this cache
- * reports; bytes are those of the name, which are not copied:
+ * Returns a hop of a cache with this name, which ends with a NUL; it is a Token if type is
+ * SF_TOKEN, and otherwise a String. The hop says nothing yet. Set the members of its field hop that
+ * this cache reports; bytes are those of the name, which are not copied:
  *
  *   sf_own_hop own = sf_hop_named("ExampleCDN", SF_TOKEN);
  *   own.hop.outcome = SF_HIT;
  *   own.hop.ttl = 30;
  *   own.hop.has_ttl = 1;
  *
- * For a key, a detail or a why_token, set bytes to a text that has the name and these, and the range
- * of each in the hop.
+ * For a key, a detail or a why_token, set bytes to a text that has the name and these, and the
+ * range of each in the hop.
  */
 static inline sf_own_hop sf_hop_named(const char *name, sf_type type) {
   sf_own_hop own;
@@ -2237,16 +2263,17 @@ static inline uint32_t sf_write_hop(sf_context *context, const sf_own_hop *own, 
 }
 
 /*
- * Writes the Cache-Status field that was received with this hop as its last member (RFC 9211 section
- * 2), by sf_cache_status_append. The text is that of the lines that were received, joined, or empty;
- * what is written is sent in their place. A buffer of
- * SF_APPENDED_SIZE(text.length, own->bytes.length) bytes is always large enough. With the hop of the
- * comment of sf_hop_named, `origin; fwd=miss` becomes `origin;fwd=miss, ExampleCDN;hit;ttl=30`.
+ * Writes the Cache-Status field that was received with this hop as its last member (RFC 9211
+ * section 2), by sf_cache_status_append. The text is that of the lines that were received, joined,
+ * or empty; what is written is sent in their place. A buffer of SF_APPENDED_SIZE(text.length,
+ * own->bytes.length) bytes is always large enough. With the hop of the comment of sf_hop_named,
+ * `origin; fwd=miss` becomes `origin;fwd=miss, ExampleCDN;hit;ttl=30`. A tab at the beginning is
+ * refused: see sf_trim.
  *
  *   SF_OK       the first out->length bytes of out are the text
  *   SF_SHORT    it has out->required bytes, more than the capacity
- *   SF_REFUSED  the text that was received is not a well-formed List; context->refusal says where and
- *               why. Send the text of sf_write_hop in its place
+ *   SF_REFUSED  the text that was received is not a well-formed List; context->refusal says where
+ *               and why. Send the text of sf_write_hop in its place
  *   SF_INVALID  own->hop is not a hop, or its outcome is SF_CONFLICT
  *   SF_NO_MEMORY, SF_BAD_CALL
  */
