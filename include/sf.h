@@ -1675,7 +1675,7 @@ static inline sf_lines sf_lines_in(sf_buffer buffer) {
  *   if (sf_add_line(&lines, sf_trim("\tu=5", 4)) != SF_OK ||
  *       sf_add_line(&lines, sf_trim(" i", 2)) != SF_OK)
  *     return EXIT_FAILURE;
- *   // sf_joined_text(&lines) is the text `u=5, i`
+ *   printf("%.*s\n", (int)sf_joined_text(&lines).length, bytes); // u=5, i
  *
  *   SF_OK        the line is appended
  *   SF_SHORT     lines->buffer.required bytes are required; the lines before stay. Call again with
@@ -1705,7 +1705,8 @@ static inline sf_text sf_joined_text(const sf_lines *lines) {
 /*
  * Checks whether a text is a well-formed field of the kind (RFC 9651 section 4.2), by sf_check:
  *
- *   sf_check_text(&context, SF_ITEM, sf_cstr("1 2")) // SF_REFUSED: context.refusal.offset is 2
+ *   if (sf_check_text(&context, SF_ITEM, sf_cstr("1 2")) == SF_REFUSED)
+ *     printf("%d\n", (int)context.refusal.offset); // 2
  *
  * A tab at the beginning, or after an Item, is refused: see sf_trim.
  *
@@ -2118,7 +2119,7 @@ typedef struct sf_choice {
  * not have is an empty text. It is sf_select_rules for texts that may be in different buffers. A
  * tab at the beginning is refused: see sf_trim.
  *
- *   sf_text fields[] = {sf_cstr("max-age=60,"), sf_cstr("max-age=600")}; // the first is malformed
+ *   sf_text fields[] = {sf_cstr("max-age=60,"), sf_cstr("max-age=600")};
  *   sf_response response = {0, 0, 0, 0};
  *   sf_choice choice;
  *   sf_decision decision;
