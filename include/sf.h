@@ -4,6 +4,10 @@
  * targeted cache control fields (RFC 9213) and Cache-Status (RFC 9211). They are in libsf.a and
  * libsf.so.0, which require only the C library.
  *
+ * A program in C or C++ best calls the inline functions at the end, after the comment `The calls
+ * with few arguments`: with texts and buffers as structs, no two arguments can be swapped. They are
+ * over the functions of the library, which come first, and which take pointers and lengths.
+ *
  * The caller provides the buffer for each result, and never owns or frees memory of the library. If
  * a buffer is too small, the call returns SF_SHORT (SF_TOO_MANY for the nodes of sf_parse) and
  * stores the required length. What a call allocates with malloc it frees before it returns.
