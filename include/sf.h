@@ -293,46 +293,6 @@ static inline sf_line_place sf_refusal_line(const sf_refusal *refusal, const sf_
   return place;
 }
 
-/* The size in bytes of a buffer that is large enough for each message of sf_refusal_excerpt with
- * this number of bytes of the text at most. */
-#define SF_REFUSAL_EXCERPT_SIZE(most) (SF_REFUSAL_SIZE + 3 + sizeof(char[2]) * (most))
-
-/*
- * Writes the error message of a refusal, a second line with at most so many bytes of the text
- * around the offset, and a caret below the offset, without a newline at the end. So the message has
- * a bound, whatever the length of the text. Bytes are written as by sf_refusal_in_text. The results
- * are those of sf_refusal_text.
- */
-SF_USE_RESULT
-static inline uint32_t sf_refusal_excerpt(const sf_refusal *refusal, const void *text,
-                                          size_t text_length, size_t most, void *buffer,
-                                          size_t buffer_length, size_t *required) {
-  size_t at = refusal->offset < text_length ? (size_t)refusal->offset : text_length;
-  size_t from = at > most / 2 ? at - most / 2 : 0, length, message, i;
-  if (text_length - from < most)
-    from = text_length > most ? text_length - most : 0;
-  length = text_length - from < most ? text_length - from : most;
-  uint32_t status = sf_refusal_text(refusal, NULL, 0, &message);
-  if (status != SF_SHORT)
-    return status;
-  *required = message + length + (at - from) + 3;
-  if (*required > buffer_length)
-    return SF_SHORT;
-  status = sf_refusal_text(refusal, buffer, buffer_length, &message);
-  if (status != SF_OK)
-    return status;
-  char *to = (char *)buffer + message;
-  *to++ = '\n';
-  for (i = 0; i < length; ++i) {
-    char byte = ((const char *)text)[from + i];
-    *to++ = byte >= ' ' && byte <= '~' ? byte : '?';
-  }
-  *to++ = '\n';
-  memset(to, ' ', at - from);
-  to[at - from] = '^';
-  return SF_OK;
-}
-
 /* The size in bytes of a buffer that is large enough for the canonical text of any text of this
  * length: eight fifths of it, so SF_CANONICAL_SIZE(5) is 8. The result is a size_t whatever integer
  * type the length has, and valid for lengths up to SIZE_MAX / 8 * 5. The macro evaluates its
@@ -444,8 +404,7 @@ static inline const char *sf_type_name(uint32_t type) {
  * parameters, and then by its own parameters.
  *
  * An offset below text_length, the length of the text that was parsed, is in that text. Any other
- * offset is in the caller's buffer bytes, at offset - text_length. sf_key and sf_bytes return the
- * pointers.
+ * offset is in the caller's buffer bytes, at offset - text_length.
  */
 typedef struct sf_node {
   int64_t number;       /* value of an Integer, Decimal, Boolean or Date; otherwise 0 */
@@ -459,27 +418,6 @@ typedef struct sf_node {
   uint8_t role;         /* an sf_role */
   uint8_t coded;        /* 0 in nodes that sf_parse writes; sf_write documents other numbers */
 } sf_node;
-
-/* Returns a pointer to the key of a node, which has key_length bytes. The text and bytes are those
- * of the call of sf_parse that wrote the node. */
-static inline const char *sf_key(const sf_node *node, const void *text, size_t text_length,
-                                 const void *bytes) {
-  if (node->key_length == 0)
-    return "";
-  return node->key_at < text_length ? (const char *)text + node->key_at
-                                    : (const char *)bytes + (node->key_at - text_length);
-}
-
-/* Returns a pointer to the bytes of a String, Token, Byte Sequence or Display String, which has
- * node->text_length bytes. The text and bytes are those of the call of sf_parse that wrote the
- * node. */
-static inline const char *sf_bytes(const sf_node *node, const void *text, size_t text_length,
-                                   const void *bytes) {
-  if (node->text_length == 0)
-    return "";
-  return node->text_at < text_length ? (const char *)text + node->text_at
-                                     : (const char *)bytes + (node->text_at - text_length);
-}
 
 /* The sizes of buffers that are large enough for the value of any text of this length: in nodes or
  * hops, four fifths of the length, rounded to the nearest integer; and in bytes, eight fifths. The
@@ -549,7 +487,7 @@ uint32_t sf_find(const sf_node *nodes, size_t nodes_length, const void *text, si
                  size_t key_length, size_t *index) SF_USE_RESULT;
 
 /* The size in bytes of a buffer that is large enough for the text of so many nodes whose keys and
- * bytes together have so many bytes: of a builder, nodes_length and bytes_length. */
+ * bytes together have so many bytes: of a builder, nodes.length and bytes.length. */
 #define SF_WRITTEN_SIZE(nodes, bytes) (sizeof(char[24]) * (nodes) + sizeof(char[3]) * (bytes))
 
 /*
@@ -581,358 +519,6 @@ uint32_t sf_write(const sf_seed *seed, uint32_t dialect, uint32_t kind, const sf
                   size_t nodes_length, const void *text, size_t text_length, const void *bytes,
                   size_t bytes_length, void *buffer, size_t buffer_length, size_t *required,
                   size_t *invalid) SF_USE_RESULT;
-
-/*
- * Changes the bare item of a node to an Integer, Decimal, Boolean or Date with this number. The key
- * and the parameters of the node stay. This code changes a parameter of the member nodes[i], before
- * sf_write writes the field:
- *
- *   size_t at;
- *   if (sf_find(nodes + i, nodes[i].size, text, text_length, bytes, sizes.bytes, SF_PARAMETER,
- *               "created", 7, &at) == SF_OK)
- *     sf_set_number(&nodes[i + at], SF_INTEGER, 1);
- *
- * sf_write checks the type and the number. Returns nothing.
- */
-static inline void sf_set_number(sf_node *node, uint32_t type, int64_t number) {
-  node->number = number;
-  node->text_length = 0;
-  node->type = (uint8_t)type;
-  node->coded = 0;
-}
-
-/*
- * Likewise changes the bare item of a node to a String, Token, Byte Sequence or Display String with
- * this value. The node is one that sf_parse wrote. The value is copied to the buffer bytes of that
- * call, after the first sizes->bytes bytes, and sizes->bytes is increased by its length. The
- * text_length is that of the text that was parsed.
- *
- *   SF_OK        the node is changed
- *   SF_SHORT     the buffer bytes is too small: sizes->bytes + length bytes are required
- *   SF_TOO_LONG  the offset or the length of the value would be 4 GiB or more
- *
- * Unless SF_OK is returned, everything is unchanged.
- */
-SF_USE_RESULT
-static inline uint32_t sf_set_bytes(sf_node *node, uint32_t type, const void *value, size_t length,
-                                    size_t text_length, void *bytes, size_t bytes_capacity,
-                                    sf_sizes *sizes) {
-  if (sizes->bytes > bytes_capacity || length > bytes_capacity - sizes->bytes)
-    return SF_SHORT;
-  if (text_length > UINT32_MAX || sizes->bytes > UINT32_MAX - text_length || length > UINT32_MAX)
-    return SF_TOO_LONG;
-  if (length > 0)
-    memcpy((char *)bytes + sizes->bytes, value, length);
-  node->number = 0;
-  node->text_at = (uint32_t)(text_length + sizes->bytes);
-  node->text_length = (uint32_t)length;
-  node->type = (uint8_t)type;
-  node->coded = 0;
-  sizes->bytes += length;
-  return SF_OK;
-}
-
-/*
- * A builder makes the nodes of a field in two of the caller's buffers, and keeps their sizes and
- * offsets. These calls build a Dictionary and write its text:
- *
- *   sf_node nodes[8];
- *   char bytes[64], text[64];
- *   size_t length, invalid;
- *   sf_builder field = sf_build(nodes, 8, bytes, sizeof bytes);
- *   sf_begin_inner_list(&field, "sig1");
- *   sf_put_string(&field, NULL, "@method");
- *   sf_put_string(&field, NULL, "@path");
- *   sf_end_inner_list(&field);
- *   sf_param_integer(&field, "created", 1);
- *   sf_param_string(&field, "keyid", "k");
- *   if (sf_write_built(&seed, SF_RFC9651, SF_DICT, &field, text, sizeof text, &length, &invalid) ==
- *       SF_OK)
- *     printf("%.*s\n", (int)length, text); // sig1=("@method" "@path");created=1;keyid="k"
- *
- * A node is required for each Item, each Inner List and each parameter, and as many bytes as all
- * keys and texts have. These are copied, so a builder keeps no pointer to its arguments.
- *
- * The calls that change a builder return nothing. If one fails, it puts nothing, builder->status
- * says why, and later calls do nothing:
- *
- *   SF_SHORT     one of the two buffers is too small
- *   SF_BAD_CALL  a parameter with nothing before it that it could belong to, an Inner List in
- *                another, or an end without a beginning
- *   SF_TOO_LONG  the keys and bytes have 4 GiB or more
- *
- * Builders do not check what is put: sf_write does. It refuses bytes that are not a String, a
- * number out of range, a repeated key, or the nodes of a List if a Dictionary is to be written.
- * These functions are not in the library: all are inline. Only sf_write_built allocates, by
- * sf_write.
- */
-typedef struct sf_builder {
-  sf_node *nodes;        /* the first nodes_length are the nodes of what was put */
-  size_t nodes_length;
-  size_t nodes_capacity;
-  char *bytes;           /* the first bytes_length are their keys and bytes */
-  size_t bytes_length;
-  size_t bytes_capacity;
-  size_t last;           /* index of the Item or Inner List to which parameters are put */
-  size_t inner_list;     /* index of the Inner List that was begun last */
-  uint32_t is_open;      /* 1 if it has not been ended, otherwise 0 */
-  uint32_t status;       /* SF_OK, or the status of the first call that failed */
-} sf_builder;
-
-/* Returns an empty builder with these buffers, which must be valid as long as the builder is used.
- * A builder need not be freed. */
-static inline sf_builder sf_build(sf_node *nodes, size_t nodes_capacity, void *bytes,
-                                  size_t bytes_capacity) {
-  sf_builder builder;
-  builder.nodes = nodes;
-  builder.nodes_length = 0;
-  builder.nodes_capacity = nodes_capacity;
-  builder.bytes = (char *)bytes;
-  builder.bytes_length = 0;
-  builder.bytes_capacity = bytes_capacity;
-  builder.last = 0;
-  builder.inner_list = 0;
-  builder.is_open = 0;
-  builder.status = SF_OK;
-  return builder;
-}
-
-/* Puts one node: for the functions below. */
-static inline void sf_put_node(sf_builder *builder, uint32_t role, uint32_t type, int64_t number,
-                               const void *key, size_t key_length, const void *text,
-                               size_t text_length) {
-  if (builder->status != SF_OK)
-    return;
-  size_t at = builder->bytes_length, left = builder->bytes_capacity - at;
-  if (builder->nodes_length >= builder->nodes_capacity || key_length > left ||
-      text_length > left - key_length) {
-    builder->status = SF_SHORT;
-    return;
-  }
-  if (builder->nodes_length >= UINT32_MAX || at + key_length + text_length > UINT32_MAX) {
-    builder->status = SF_TOO_LONG;
-    return;
-  }
-  sf_node *node = builder->nodes + builder->nodes_length;
-  memset(node, 0, sizeof *node);
-  node->number = number;
-  node->key_at = (uint32_t)at;
-  node->key_length = (uint32_t)key_length;
-  node->text_at = (uint32_t)(at + key_length);
-  node->text_length = (uint32_t)text_length;
-  node->size = 1;
-  node->type = (uint8_t)type;
-  node->role = (uint8_t)role;
-  if (key_length > 0)
-    memcpy(builder->bytes + at, key, key_length);
-  if (text_length > 0)
-    memcpy(builder->bytes + at + key_length, text, text_length);
-  if (role == SF_PARAMETER || role == SF_INNER_PARAMETER)
-    ++builder->nodes[builder->last].size;
-  else
-    builder->last = builder->nodes_length;
-  if (builder->is_open)
-    ++builder->nodes[builder->inner_list].size;
-  ++builder->nodes_length;
-  builder->bytes_length = at + key_length + text_length;
-}
-
-/*
- * Puts a bare item of any type, with a key and a text of stated lengths. The functions below call
- * it. An Integer, Decimal, Boolean or Date has a number and an empty text; the other types have a
- * text and the number 0. SF_INNER_LIST puts an Inner List without Items; sf_begin begins one with
- * Items. If type is no sf_type, sf_write refuses the node.
- *
- * If an Inner List is open, the item is one of its Items; otherwise it is a member of the field.
- * The key is that of a member of a Dictionary; for an Item, a member of a List, and an Item of an
- * Inner List, key_length is 0.
- */
-static inline void sf_put(sf_builder *builder, const void *key, size_t key_length, uint32_t type,
-                          int64_t number, const void *text, size_t text_length) {
-  sf_put_node(builder, builder->is_open ? SF_INNER_ITEM : SF_MEMBER, type, number, key, key_length,
-              text, text_length);
-}
-
-/* Puts a parameter, likewise. It belongs to the Item that was put last or, if an Inner List was
- * ended since, to that Inner List. */
-static inline void sf_param(sf_builder *builder, const void *key, size_t key_length, uint32_t type,
-                            int64_t number, const void *text, size_t text_length) {
-  if (builder->status != SF_OK)
-    return;
-  if (builder->nodes_length == 0 || (builder->is_open && builder->last == builder->inner_list)) {
-    builder->status = SF_BAD_CALL;
-    return;
-  }
-  int is_inner = builder->nodes[builder->last].type == SF_INNER_LIST;
-  sf_put_node(builder, is_inner ? SF_INNER_PARAMETER : SF_PARAMETER, type, number, key, key_length,
-              text, text_length);
-}
-
-/*
- * Begins an Inner List, which is a member of the field. What is put until sf_end_inner_list are its
- * Items and their parameters; the parameters that are put after the end, and before the next Item
- * or Inner List, are its own. The key has a stated length, which is 0 in a List.
- */
-static inline void sf_begin(sf_builder *builder, const void *key, size_t key_length) {
-  if (builder->status != SF_OK)
-    return;
-  if (builder->is_open) {
-    builder->status = SF_BAD_CALL;
-    return;
-  }
-  sf_put(builder, key, key_length, SF_INNER_LIST, 0, NULL, 0);
-  builder->inner_list = builder->last;
-  builder->is_open = builder->status == SF_OK;
-}
-
-/* Returns the length of a text that ends with a NUL; 0 if it is NULL. */
-static inline size_t sf_length(const char *text) { return text == NULL ? 0 : strlen(text); }
-
-/*
- * Begins an Inner List, likewise.
- *
- * Here and below, keys and texts end with a NUL, and key is NULL except for members of a Dictionary
- * and for parameters.
- */
-static inline void sf_begin_inner_list(sf_builder *builder, const char *key) {
-  sf_begin(builder, key, sf_length(key));
-}
-
-/* Ends the Inner List that is open. */
-static inline void sf_end_inner_list(sf_builder *builder) {
-  if (builder->status != SF_OK)
-    return;
-  if (!builder->is_open)
-    builder->status = SF_BAD_CALL;
-  builder->last = builder->inner_list;
-  builder->is_open = 0;
-}
-
-/* Puts an Integer. */
-static inline void sf_put_integer(sf_builder *builder, const char *key, int64_t number) {
-  sf_put(builder, key, sf_length(key), SF_INTEGER, number, NULL, 0);
-}
-
-/* Puts a Decimal, in thousandths. */
-static inline void sf_put_decimal(sf_builder *builder, const char *key, int64_t thousandths) {
-  sf_put(builder, key, sf_length(key), SF_DECIMAL, thousandths, NULL, 0);
-}
-
-/* Puts a String. */
-static inline void sf_put_string(sf_builder *builder, const char *key, const char *text) {
-  sf_put(builder, key, sf_length(key), SF_STRING, 0, text, sf_length(text));
-}
-
-/* Puts a Token. */
-static inline void sf_put_token(sf_builder *builder, const char *key, const char *text) {
-  sf_put(builder, key, sf_length(key), SF_TOKEN, 0, text, sf_length(text));
-}
-
-/* Puts a Byte Sequence, which may have any bytes. */
-static inline void sf_put_byte_sequence(sf_builder *builder, const char *key, const void *bytes,
-                                        size_t bytes_length) {
-  sf_put(builder, key, sf_length(key), SF_BYTE_SEQUENCE, 0, bytes, bytes_length);
-}
-
-/* Puts a Boolean: true if is_true is not 0. */
-static inline void sf_put_boolean(sf_builder *builder, const char *key, int is_true) {
-  sf_put(builder, key, sf_length(key), SF_BOOLEAN, is_true != 0, NULL, 0);
-}
-
-/* Puts a Date, in seconds since 1970-01-01T00:00:00Z. */
-static inline void sf_put_date(sf_builder *builder, const char *key, int64_t seconds) {
-  sf_put(builder, key, sf_length(key), SF_DATE, seconds, NULL, 0);
-}
-
-/* Puts a Display String, in UTF-8. For one with a NUL in it, call sf_put. */
-static inline void sf_put_display_string(sf_builder *builder, const char *key, const char *text) {
-  sf_put(builder, key, sf_length(key), SF_DISPLAY_STRING, 0, text, sf_length(text));
-}
-
-/* These put a parameter, likewise. */
-static inline void sf_param_integer(sf_builder *builder, const char *key, int64_t number) {
-  sf_param(builder, key, sf_length(key), SF_INTEGER, number, NULL, 0);
-}
-
-static inline void sf_param_decimal(sf_builder *builder, const char *key, int64_t thousandths) {
-  sf_param(builder, key, sf_length(key), SF_DECIMAL, thousandths, NULL, 0);
-}
-
-static inline void sf_param_string(sf_builder *builder, const char *key, const char *text) {
-  sf_param(builder, key, sf_length(key), SF_STRING, 0, text, sf_length(text));
-}
-
-static inline void sf_param_token(sf_builder *builder, const char *key, const char *text) {
-  sf_param(builder, key, sf_length(key), SF_TOKEN, 0, text, sf_length(text));
-}
-
-static inline void sf_param_byte_sequence(sf_builder *builder, const char *key, const void *bytes,
-                                          size_t bytes_length) {
-  sf_param(builder, key, sf_length(key), SF_BYTE_SEQUENCE, 0, bytes, bytes_length);
-}
-
-static inline void sf_param_boolean(sf_builder *builder, const char *key, int is_true) {
-  sf_param(builder, key, sf_length(key), SF_BOOLEAN, is_true != 0, NULL, 0);
-}
-
-static inline void sf_param_date(sf_builder *builder, const char *key, int64_t seconds) {
-  sf_param(builder, key, sf_length(key), SF_DATE, seconds, NULL, 0);
-}
-
-static inline void sf_param_display_string(sf_builder *builder, const char *key,
-                                           const char *text) {
-  sf_param(builder, key, sf_length(key), SF_DISPLAY_STRING, 0, text, sf_length(text));
-}
-
-/*
- * Puts a copy of an Item or Inner List of a parsed value, with its parameters, or of a parameter.
- * The node is one that sf_parse wrote, followed by the others of its subtree, and the text and the
- * bytes are those of that call. To change a field, copy what stays, in order:
- *
- *   for (const sf_node *node = nodes; node < nodes + sizes.nodes; node += node->size)
- *     sf_put_copy(&field, node, text, text_length, bytes);
- *
- * An Item becomes a member, or an Item of the Inner List that is open, wherever it was. A member
- * keeps its key, and an Item of an Inner List has none. For copies of a whole value, a builder with
- * SF_NODES_SIZE(text_length) nodes and SF_BYTES_SIZE(text_length) bytes is always large enough.
- */
-static inline void sf_put_copy(sf_builder *builder, const sf_node *node, const void *text,
-                               size_t text_length, const void *bytes) {
-  uint32_t was_open = builder->is_open, i;
-  for (i = 0; i < node->size && builder->status == SF_OK; ++i) {
-    const sf_node *one = node + i;
-    const char *key = sf_key(one, text, text_length, bytes);
-    const char *its_bytes = sf_bytes(one, text, text_length, bytes);
-    int is_param = one->role == SF_PARAMETER || one->role == SF_INNER_PARAMETER;
-    uint32_t key_length = was_open && !is_param ? 0 : one->key_length;
-    if (one->role == SF_INNER_PARAMETER && builder->is_open && !was_open)
-      sf_end_inner_list(builder);
-    if (is_param)
-      sf_param(builder, key, key_length, one->type, one->number, its_bytes, one->text_length);
-    else if (one->type == SF_INNER_LIST)
-      sf_begin(builder, key, key_length);
-    else
-      sf_put(builder, key, key_length, one->type, one->number, its_bytes, one->text_length);
-    if (builder->status == SF_OK)
-      builder->nodes[builder->nodes_length - 1].coded = one->coded;
-  }
-  if (builder->is_open && !was_open)
-    sf_end_inner_list(builder);
-}
-
-/*
- * Writes the canonical text of what was put, by sf_write, and returns the result of sf_write. If a
- * call with the builder failed, returns SF_BAD_CALL and writes nothing.
- */
-SF_USE_RESULT
-static inline uint32_t sf_write_built(const sf_seed *seed, uint32_t dialect, uint32_t kind,
-                                      const sf_builder *builder, void *buffer, size_t buffer_length,
-                                      size_t *required, size_t *invalid) {
-  if (builder->status != SF_OK)
-    return SF_BAD_CALL;
-  return sf_write(seed, dialect, kind, builder->nodes, builder->nodes_length, NULL, 0,
-                  builder->bytes, builder->bytes_length, buffer, buffer_length, required, invalid);
-}
 
 /* The parameters of the Priority field of a request (RFC 9218 section 4), with defaults for absent
  * ones. */
@@ -1514,8 +1100,9 @@ uint32_t sf_join(const void *line, size_t line_length, void *buffer, size_t buff
 /*
  * The calls with few arguments. The rest of this header is inline and calls the functions above. A
  * text is an sf_text, a buffer is a struct with its capacity, the results of a call are in one
- * struct, and an sf_context has what a program sets once. So no two arguments can be swapped: the
- * compiler reports it. Only the two texts of sf_equal_texts have the same type.
+ * struct, and an sf_context has what a program sets once. So the compiler reports swapped
+ * arguments: only the two texts of sf_equal_texts have the same type, and the key and the text of
+ * the functions of sf_builder.
  *
  * This code reads the priority that a client asks for:
  *
@@ -1541,7 +1128,9 @@ static inline sf_text sf_text_of(const void *at, size_t length) {
 }
 
 /* Returns the text of a string that ends with a NUL; the empty text if it is NULL. */
-static inline sf_text sf_cstr(const char *string) { return sf_text_of(string, sf_length(string)); }
+static inline sf_text sf_cstr(const char *string) {
+  return sf_text_of(string, string == NULL ? 0 : strlen(string));
+}
 
 /* What the calls of a program have in common. Threads may not use a context at the same time: give
  * each a copy. */
@@ -1551,7 +1140,7 @@ typedef struct sf_context {
   sf_refusal refusal; /* where and why the last text was refused: written with SF_REFUSED and
                          SF_SECOND_REFUSED alone */
   size_t invalid;     /* index of the first node that is wrong: written with SF_INVALID by
-                         sf_write_tree and sf_write_builder */
+                         sf_write_tree and sf_write_built */
 } sf_context;
 
 /* Returns a context. The dialect is the RFC that the definition of a field cites: SF_RFC8941 for
@@ -1757,16 +1346,43 @@ static inline uint32_t sf_show_refusal(const sf_refusal *refusal, sf_text text, 
   return sf_wrote(out, status, required);
 }
 
-/* Writes the error message of a refusal of this text, with at most so many bytes of the text around
- * the offset and a caret, by sf_refusal_excerpt. A buffer of SF_REFUSAL_EXCERPT_SIZE(most) bytes is
- * always large enough. The results are those of sf_write_refusal. */
+/* The size in bytes of a buffer that is large enough for each message of sf_show_excerpt with this
+ * number of bytes of the text at most. */
+#define SF_REFUSAL_EXCERPT_SIZE(most) (SF_REFUSAL_SIZE + 3 + sizeof(char[2]) * (most))
+
+/*
+ * Writes the error message of a refusal of this text, a second line with at most so many bytes of
+ * the text around the offset, and a caret below the offset, without a newline at the end. So the
+ * message has a bound, whatever the length of the text. Bytes are written as by sf_refusal_in_text.
+ * The results are those of sf_write_refusal.
+ */
 SF_USE_RESULT
 static inline uint32_t sf_show_excerpt(const sf_refusal *refusal, sf_text text, size_t most,
                                        sf_buffer *out) {
-  size_t required = 0;
-  uint32_t status = sf_refusal_excerpt(refusal, text.at, text.length, most, out->at,
-                                       out->capacity, &required);
-  return sf_wrote(out, status, required);
+  size_t at = refusal->offset < text.length ? (size_t)refusal->offset : text.length;
+  size_t from = at > most / 2 ? at - most / 2 : 0, length, message = 0, i;
+  if (text.length - from < most)
+    from = text.length > most ? text.length - most : 0;
+  length = text.length - from < most ? text.length - from : most;
+  uint32_t status = sf_refusal_text(refusal, NULL, 0, &message);
+  if (status != SF_SHORT)
+    return sf_wrote(out, status, 0);
+  size_t required = message + length + (at - from) + 3;
+  if (required > out->capacity)
+    return sf_wrote(out, SF_SHORT, required);
+  status = sf_refusal_text(refusal, out->at, out->capacity, &message);
+  if (status != SF_OK)
+    return sf_wrote(out, status, 0);
+  char *to = out->at + message;
+  *to++ = '\n';
+  for (i = 0; i < length; ++i) {
+    char byte = text.at[from + i];
+    *to++ = byte >= ' ' && byte <= '~' ? byte : '?';
+  }
+  *to++ = '\n';
+  memset(to, ' ', at - from);
+  to[at - from] = '^';
+  return sf_wrote(out, SF_OK, required);
 }
 
 /*
@@ -1888,17 +1504,24 @@ static inline const sf_node *sf_tree_end(const sf_tree *tree) {
   return tree->nodes.length == 0 ? tree->nodes.at : tree->nodes.at + tree->nodes.length;
 }
 
+/* Returns the text at an offset of a node: for the functions below. */
+static inline sf_text sf_text_at(const sf_tree *tree, uint32_t at, uint32_t length) {
+  if (length == 0)
+    return sf_text_of("", 0);
+  return sf_text_of(at < tree->text.length ? tree->text.at + at
+                                           : tree->bytes.at + (at - tree->text.length),
+                    length);
+}
+
 /* Returns the key of a node of a tree; the empty text if it has none. */
 static inline sf_text sf_node_key(const sf_tree *tree, const sf_node *node) {
-  return sf_text_of(sf_key(node, tree->text.at, tree->text.length, tree->bytes.at),
-                    node->key_length);
+  return sf_text_at(tree, node->key_at, node->key_length);
 }
 
 /* Returns the bytes of a String, Token, Byte Sequence or Display String of a tree, without quotes
  * and decoded; the empty text for other types. */
 static inline sf_text sf_node_text(const sf_tree *tree, const sf_node *node) {
-  return sf_text_of(sf_bytes(node, tree->text.at, tree->text.length, tree->bytes.at),
-                    node->text_length);
+  return sf_text_at(tree, node->text_at, node->text_length);
 }
 
 /* Returns the first of so many nodes from an index on that has this role and this key, or NULL: for
@@ -1929,9 +1552,26 @@ static inline sf_node *sf_find_parameter(const sf_tree *tree, const sf_node *nod
 }
 
 /*
- * Changes the bare item of a node of a tree to a String, Token, Byte Sequence or Display String
- * with this value, by sf_set_bytes, which copies it to the bytes of the tree. For the other types
- * call sf_set_number. The key and the parameters of the node stay.
+ * Changes the bare item of a node of a tree to an Integer, Decimal, Boolean or Date with this
+ * number. The key and the parameters of the node stay. This code changes a parameter of a member,
+ * before sf_write_tree writes the field:
+ *
+ *   sf_node *created = sf_find_parameter(&tree, member, "created");
+ *   if (created != NULL)
+ *     sf_set_number(created, SF_INTEGER, 1);
+ *
+ * sf_write_tree checks the type and the number. Returns nothing.
+ */
+static inline void sf_set_number(sf_node *node, sf_type type, int64_t number) {
+  node->number = number;
+  node->text_length = 0;
+  node->type = (uint8_t)type;
+  node->coded = 0;
+}
+
+/*
+ * Likewise changes the bare item of a node of a tree to a String, Token, Byte Sequence or Display
+ * String with this value. It is copied after the bytes of the tree.
  *
  *   SF_OK        the node is changed
  *   SF_SHORT     tree->bytes.required bytes are required
@@ -1941,14 +1581,24 @@ static inline sf_node *sf_find_parameter(const sf_tree *tree, const sf_node *nod
  */
 SF_USE_RESULT
 static inline uint32_t sf_set_text(sf_tree *tree, sf_node *node, sf_type type, sf_text value) {
-  sf_sizes sizes;
-  sizes.nodes = tree->nodes.length;
-  sizes.bytes = tree->bytes.length;
-  uint32_t status = sf_set_bytes(node, (uint32_t)type, value.at, value.length, tree->text.length,
-                                 tree->bytes.at, tree->bytes.capacity, &sizes);
-  tree->bytes.length = sizes.bytes;
-  tree->bytes.required = status == SF_SHORT ? sizes.bytes + value.length : 0;
-  return status;
+  size_t at = tree->bytes.length;
+  tree->bytes.required = 0;
+  if (at > tree->bytes.capacity || value.length > tree->bytes.capacity - at) {
+    tree->bytes.required = at + value.length;
+    return SF_SHORT;
+  }
+  if (tree->text.length > UINT32_MAX || at > UINT32_MAX - tree->text.length ||
+      value.length > UINT32_MAX)
+    return SF_TOO_LONG;
+  if (value.length > 0)
+    memcpy(tree->bytes.at + at, value.at, value.length);
+  node->number = 0;
+  node->text_at = (uint32_t)(tree->text.length + at);
+  node->text_length = (uint32_t)value.length;
+  node->type = (uint8_t)type;
+  node->coded = 0;
+  tree->bytes.length = at + value.length;
+  return SF_OK;
 }
 
 /*
@@ -1972,28 +1622,279 @@ static inline uint32_t sf_write_tree(sf_context *context, const sf_tree *tree, s
   return sf_wrote(out, status, required);
 }
 
-/* Returns an empty builder with these buffers, by sf_build. */
-static inline sf_builder sf_builder_in(sf_nodes nodes, sf_buffer bytes) {
-  return sf_build(nodes.at, nodes.capacity, bytes.at, bytes.capacity);
+/*
+ * A builder makes the nodes of a field in two of the caller's buffers, and keeps their sizes and
+ * offsets. These calls build a Dictionary and write its text:
+ *
+ *   sf_node nodes[8];
+ *   char bytes[64], text[64];
+ *   sf_buffer out = SF_BUFFER(text);
+ *   sf_builder field = sf_build(SF_NODES(nodes), SF_BUFFER(bytes));
+ *   sf_begin_inner_list(&field, "sig1");
+ *   sf_put_string(&field, NULL, "@method");
+ *   sf_put_string(&field, NULL, "@path");
+ *   sf_end_inner_list(&field);
+ *   sf_param_integer(&field, "created", 1);
+ *   sf_param_string(&field, "keyid", "k");
+ *   if (sf_write_built(&context, SF_DICT, &field, &out) == SF_OK)
+ *     printf("%.*s\n", (int)out.length, text); // sig1=("@method" "@path");created=1;keyid="k"
+ *
+ * A node is required for each Item, each Inner List and each parameter, and as many bytes as all
+ * keys and texts have. These are copied, so a builder keeps no pointer to its arguments.
+ *
+ * The calls that change a builder return nothing. If one fails, it puts nothing, builder->status
+ * says why, and later calls do nothing:
+ *
+ *   SF_SHORT     one of the two buffers is too small
+ *   SF_BAD_CALL  a parameter with nothing before it that it could belong to, an Inner List in
+ *                another, or an end without a beginning
+ *   SF_TOO_LONG  the keys and bytes have 4 GiB or more
+ *
+ * Builders do not check what is put: sf_write_built does. It refuses bytes that are not a String, a
+ * number out of range, a repeated key, or the nodes of a List if a Dictionary is to be written.
+ * Only sf_write_built allocates, by sf_write.
+ */
+typedef struct sf_builder {
+  sf_nodes nodes;      /* the first nodes.length are the nodes of what was put */
+  sf_buffer bytes;     /* the first bytes.length are their keys and bytes */
+  size_t last;         /* index of the Item or Inner List to which parameters are put */
+  size_t inner_list;   /* index of the Inner List that was begun last */
+  uint32_t is_open;    /* 1 if it has not been ended, otherwise 0 */
+  uint32_t status;     /* SF_OK, or the status of the first call that failed */
+} sf_builder;
+
+/* Returns an empty builder with these buffers, which must be valid as long as the builder is used.
+ * A builder need not be freed. */
+static inline sf_builder sf_build(sf_nodes nodes, sf_buffer bytes) {
+  sf_builder builder;
+  builder.nodes = nodes;
+  builder.nodes.length = 0;
+  builder.bytes = bytes;
+  builder.bytes.length = 0;
+  builder.last = 0;
+  builder.inner_list = 0;
+  builder.is_open = 0;
+  builder.status = SF_OK;
+  return builder;
 }
 
-/* Puts a copy of an Item, an Inner List or a parameter of a tree, with its subtree, by
- * sf_put_copy. */
-static inline void sf_put_node_of(sf_builder *builder, const sf_tree *tree, const sf_node *node) {
-  sf_put_copy(builder, node, tree->text.at, tree->text.length, tree->bytes.at);
+/* Puts one node: for the functions below. */
+static inline void sf_put_node(sf_builder *builder, sf_role role, sf_type type, int64_t number,
+                               sf_text key, sf_text text) {
+  if (builder->status != SF_OK)
+    return;
+  size_t at = builder->bytes.length, left = builder->bytes.capacity - at;
+  if (builder->nodes.length >= builder->nodes.capacity || key.length > left ||
+      text.length > left - key.length) {
+    builder->status = SF_SHORT;
+    return;
+  }
+  if (builder->nodes.length >= UINT32_MAX || at + key.length + text.length > UINT32_MAX) {
+    builder->status = SF_TOO_LONG;
+    return;
+  }
+  sf_node *node = builder->nodes.at + builder->nodes.length;
+  memset(node, 0, sizeof *node);
+  node->number = number;
+  node->key_at = (uint32_t)at;
+  node->key_length = (uint32_t)key.length;
+  node->text_at = (uint32_t)(at + key.length);
+  node->text_length = (uint32_t)text.length;
+  node->size = 1;
+  node->type = (uint8_t)type;
+  node->role = (uint8_t)role;
+  if (key.length > 0)
+    memcpy(builder->bytes.at + at, key.at, key.length);
+  if (text.length > 0)
+    memcpy(builder->bytes.at + at + key.length, text.at, text.length);
+  if (role == SF_PARAMETER || role == SF_INNER_PARAMETER)
+    ++builder->nodes.at[builder->last].size;
+  else
+    builder->last = builder->nodes.length;
+  if (builder->is_open)
+    ++builder->nodes.at[builder->inner_list].size;
+  ++builder->nodes.length;
+  builder->bytes.length = at + key.length + text.length;
 }
 
 /*
- * Writes the canonical text (RFC 9651 section 4.1) of what was put, by sf_write_built:
+ * Puts a bare item of any type, with a key and a text of stated lengths. The functions below call
+ * it. An Integer, Decimal, Boolean or Date has a number and an empty text; the other types have a
+ * text and the number 0. SF_INNER_LIST puts an Inner List without Items; sf_begin begins one with
+ * Items. If type is no sf_type, sf_write_built refuses the node.
  *
- *   sf_node nodes[2];
- *   char bytes[8], text[SF_WRITTEN_SIZE(2, 8)];
- *   sf_buffer out = SF_BUFFER(text);
- *   sf_builder field = sf_builder_in(SF_NODES(nodes), SF_BUFFER(bytes));
- *   sf_put_token(&field, NULL, "gzip");
- *   sf_param_decimal(&field, "q", 500);
- *   if (sf_write_builder(&context, SF_LIST, &field, &out) == SF_OK)
- *     printf("%.*s\n", (int)out.length, out.at); // gzip;q=0.5
+ * If an Inner List is open, the item is one of its Items; otherwise it is a member of the field.
+ * The key is that of a member of a Dictionary; for an Item, a member of a List, and an Item of an
+ * Inner List, it is empty.
+ */
+static inline void sf_put(sf_builder *builder, sf_text key, sf_type type, int64_t number,
+                          sf_text text) {
+  sf_put_node(builder, builder->is_open ? SF_INNER_ITEM : SF_MEMBER, type, number, key, text);
+}
+
+/* Puts a parameter, likewise. It belongs to the Item that was put last or, if an Inner List was
+ * ended since, to that Inner List. */
+static inline void sf_param(sf_builder *builder, sf_text key, sf_type type, int64_t number,
+                            sf_text text) {
+  if (builder->status != SF_OK)
+    return;
+  if (builder->nodes.length == 0 || (builder->is_open && builder->last == builder->inner_list)) {
+    builder->status = SF_BAD_CALL;
+    return;
+  }
+  int is_inner = builder->nodes.at[builder->last].type == SF_INNER_LIST;
+  sf_put_node(builder, is_inner ? SF_INNER_PARAMETER : SF_PARAMETER, type, number, key, text);
+}
+
+/*
+ * Begins an Inner List, which is a member of the field. What is put until sf_end_inner_list are its
+ * Items and their parameters; the parameters that are put after the end, and before the next Item
+ * or Inner List, are its own. The key has a stated length, which is 0 in a List.
+ */
+static inline void sf_begin(sf_builder *builder, sf_text key) {
+  if (builder->status != SF_OK)
+    return;
+  if (builder->is_open) {
+    builder->status = SF_BAD_CALL;
+    return;
+  }
+  sf_put(builder, key, SF_INNER_LIST, 0, sf_cstr(NULL));
+  builder->inner_list = builder->last;
+  builder->is_open = builder->status == SF_OK;
+}
+
+/*
+ * Begins an Inner List, likewise.
+ *
+ * Here and below, keys and texts end with a NUL, and key is NULL except for members of a Dictionary
+ * and for parameters.
+ */
+static inline void sf_begin_inner_list(sf_builder *builder, const char *key) {
+  sf_begin(builder, sf_cstr(key));
+}
+
+/* Ends the Inner List that is open. */
+static inline void sf_end_inner_list(sf_builder *builder) {
+  if (builder->status != SF_OK)
+    return;
+  if (!builder->is_open)
+    builder->status = SF_BAD_CALL;
+  builder->last = builder->inner_list;
+  builder->is_open = 0;
+}
+
+/* Puts an Integer. */
+static inline void sf_put_integer(sf_builder *builder, const char *key, int64_t number) {
+  sf_put(builder, sf_cstr(key), SF_INTEGER, number, sf_cstr(NULL));
+}
+
+/* Puts a Decimal, in thousandths. */
+static inline void sf_put_decimal(sf_builder *builder, const char *key, int64_t thousandths) {
+  sf_put(builder, sf_cstr(key), SF_DECIMAL, thousandths, sf_cstr(NULL));
+}
+
+/* Puts a String. */
+static inline void sf_put_string(sf_builder *builder, const char *key, const char *text) {
+  sf_put(builder, sf_cstr(key), SF_STRING, 0, sf_cstr(text));
+}
+
+/* Puts a Token. */
+static inline void sf_put_token(sf_builder *builder, const char *key, const char *text) {
+  sf_put(builder, sf_cstr(key), SF_TOKEN, 0, sf_cstr(text));
+}
+
+/* Puts a Byte Sequence, which may have any bytes. */
+static inline void sf_put_byte_sequence(sf_builder *builder, const char *key, sf_text bytes) {
+  sf_put(builder, sf_cstr(key), SF_BYTE_SEQUENCE, 0, bytes);
+}
+
+/* Puts a Boolean: true if is_true is not 0. */
+static inline void sf_put_boolean(sf_builder *builder, const char *key, int is_true) {
+  sf_put(builder, sf_cstr(key), SF_BOOLEAN, is_true != 0, sf_cstr(NULL));
+}
+
+/* Puts a Date, in seconds since 1970-01-01T00:00:00Z. */
+static inline void sf_put_date(sf_builder *builder, const char *key, int64_t seconds) {
+  sf_put(builder, sf_cstr(key), SF_DATE, seconds, sf_cstr(NULL));
+}
+
+/* Puts a Display String, in UTF-8. For one with a NUL in it, call sf_put. */
+static inline void sf_put_display_string(sf_builder *builder, const char *key, const char *text) {
+  sf_put(builder, sf_cstr(key), SF_DISPLAY_STRING, 0, sf_cstr(text));
+}
+
+/* These put a parameter, likewise. */
+static inline void sf_param_integer(sf_builder *builder, const char *key, int64_t number) {
+  sf_param(builder, sf_cstr(key), SF_INTEGER, number, sf_cstr(NULL));
+}
+
+static inline void sf_param_decimal(sf_builder *builder, const char *key, int64_t thousandths) {
+  sf_param(builder, sf_cstr(key), SF_DECIMAL, thousandths, sf_cstr(NULL));
+}
+
+static inline void sf_param_string(sf_builder *builder, const char *key, const char *text) {
+  sf_param(builder, sf_cstr(key), SF_STRING, 0, sf_cstr(text));
+}
+
+static inline void sf_param_token(sf_builder *builder, const char *key, const char *text) {
+  sf_param(builder, sf_cstr(key), SF_TOKEN, 0, sf_cstr(text));
+}
+
+static inline void sf_param_byte_sequence(sf_builder *builder, const char *key, sf_text bytes) {
+  sf_param(builder, sf_cstr(key), SF_BYTE_SEQUENCE, 0, bytes);
+}
+
+static inline void sf_param_boolean(sf_builder *builder, const char *key, int is_true) {
+  sf_param(builder, sf_cstr(key), SF_BOOLEAN, is_true != 0, sf_cstr(NULL));
+}
+
+static inline void sf_param_date(sf_builder *builder, const char *key, int64_t seconds) {
+  sf_param(builder, sf_cstr(key), SF_DATE, seconds, sf_cstr(NULL));
+}
+
+static inline void sf_param_display_string(sf_builder *builder, const char *key,
+                                           const char *text) {
+  sf_param(builder, sf_cstr(key), SF_DISPLAY_STRING, 0, sf_cstr(text));
+}
+
+/*
+ * Puts a copy of an Item or Inner List of a tree, with its parameters, or of a parameter. To change
+ * a field, copy what stays, in order:
+ *
+ *   for (const sf_node *node = tree.nodes.at; node < sf_tree_end(&tree); node += node->size)
+ *     sf_put_copy(&field, &tree, node);
+ *
+ * An Item becomes a member, or an Item of the Inner List that is open, wherever it was. A member
+ * keeps its key, and an Item of an Inner List has none. For copies of a whole value, a builder with
+ * SF_NODES_SIZE(text.length) nodes and SF_BYTES_SIZE(text.length) bytes is always large enough.
+ */
+static inline void sf_put_copy(sf_builder *builder, const sf_tree *tree, const sf_node *node) {
+  uint32_t was_open = builder->is_open, i;
+  for (i = 0; i < node->size && builder->status == SF_OK; ++i) {
+    const sf_node *one = node + i;
+    sf_text key = sf_node_key(tree, one), text = sf_node_text(tree, one);
+    sf_type type = (sf_type)one->type;
+    int is_param = one->role == SF_PARAMETER || one->role == SF_INNER_PARAMETER;
+    if (was_open && !is_param)
+      key = sf_cstr(NULL);
+    if (one->role == SF_INNER_PARAMETER && builder->is_open && !was_open)
+      sf_end_inner_list(builder);
+    if (is_param)
+      sf_param(builder, key, type, one->number, text);
+    else if (type == SF_INNER_LIST)
+      sf_begin(builder, key);
+    else
+      sf_put(builder, key, type, one->number, text);
+    if (builder->status == SF_OK)
+      builder->nodes.at[builder->nodes.length - 1].coded = one->coded;
+  }
+  if (builder->is_open && !was_open)
+    sf_end_inner_list(builder);
+}
+
+/*
+ * Writes the canonical text (RFC 9651 section 4.1) of what was put, by sf_write. A buffer of
+ * SF_WRITTEN_SIZE(builder->nodes.length, builder->bytes.length) bytes is always large enough.
  *
  *   SF_OK        the first out->length bytes of out are the text. If it is empty, the field is not
  *                to be sent
@@ -2004,11 +1905,15 @@ static inline void sf_put_node_of(sf_builder *builder, const sf_tree *tree, cons
  *   SF_NO_MEMORY
  */
 SF_USE_RESULT
-static inline uint32_t sf_write_builder(sf_context *context, sf_kind kind,
-                                        const sf_builder *builder, sf_buffer *out) {
+static inline uint32_t sf_write_built(sf_context *context, sf_kind kind,
+                                      const sf_builder *builder, sf_buffer *out) {
   size_t required = 0;
-  uint32_t status = sf_write_built(&context->seed, context->dialect, (uint32_t)kind, builder,
-                                   out->at, out->capacity, &required, &context->invalid);
+  if (builder->status != SF_OK)
+    return sf_wrote(out, SF_BAD_CALL, 0);
+  uint32_t status =
+      sf_write(&context->seed, context->dialect, (uint32_t)kind, builder->nodes.at,
+               builder->nodes.length, NULL, 0, builder->bytes.at, builder->bytes.length, out->at,
+               out->capacity, &required, &context->invalid);
   return sf_wrote(out, status, required);
 }
 
@@ -2030,9 +1935,9 @@ static inline uint32_t sf_read_priority(sf_context *context, sf_text text,
                         &context->refusal);
 }
 
-/* Reads the Priority field of a response (RFC 9218 section 8), by sf_response_priority. The
- * results are those of sf_read_priority, with *server in the place of *client: begin with zeros.
- * A tab at the beginning is refused: see sf_trim. */
+/* Reads the Priority field of a response (RFC 9218 section 8), by sf_response_priority. The results
+ * are those of sf_read_priority, with *server in the place of *client: begin with zeros. A tab at
+ * the beginning is refused: see sf_trim. */
 SF_USE_RESULT
 static inline uint32_t sf_read_response_priority(sf_context *context, sf_text text,
                                                  sf_response_priority_flags *server) {

@@ -36,7 +36,7 @@ static uint32_t put_others(sf_context *context, sf_text text, const char *label,
   const sf_node *old = sf_find_member(&tree, label); /* NULL if there is none */
   for (const sf_node *node = tree.nodes.at; node < sf_tree_end(&tree); node += node->size)
     if (node != old)
-      sf_put_node_of(field, &tree, node);
+      sf_put_copy(field, &tree, node);
   free(tree.nodes.at);
   free(tree.bytes.at);
   return status;
@@ -60,7 +60,7 @@ int main(int argc, char **argv) {
   sf_nodes nodes = sf_nodes_of(allocated(size * sizeof(sf_node)), size);
   sf_buffer bytes = sf_buffer_of(allocated(size), size);
   sf_buffer out = sf_buffer_of(allocated(size * 2), size * 2);
-  sf_builder field = sf_builder_in(nodes, bytes);
+  sf_builder field = sf_build(nodes, bytes);
   sf_context context = sf_context_of(seed, SF_RFC9651);
   sf_text text = sf_trim(argv[1], strlen(argv[1]));
   uint32_t status = put_others(&context, text, argv[2], &field);
@@ -74,7 +74,7 @@ int main(int argc, char **argv) {
   sf_param_integer(&field, "created", 1618884473);
   sf_param_string(&field, "keyid", "test-key");
 
-  status = sf_write_builder(&context, SF_DICT, &field, &out);
+  status = sf_write_built(&context, SF_DICT, &field, &out);
   if (status == SF_INVALID)
     printf("part %llu is no value\n", (unsigned long long)context.invalid);
   else if (status != SF_OK)

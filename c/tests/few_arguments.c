@@ -239,7 +239,7 @@ static void builders(void) {
   char bytes[64], decoded[16], text[128];
   sf_buffer out = SF_BUFFER(text), empty = sf_buffer_of(NULL, 0);
   /* RFC 9651 section 3.1.1 */
-  sf_builder field = sf_builder_in(SF_NODES(nodes), SF_BUFFER(bytes));
+  sf_builder field = sf_build(SF_NODES(nodes), SF_BUFFER(bytes));
   sf_begin_inner_list(&field, NULL);
   sf_put_string(&field, NULL, "foo");
   sf_param_integer(&field, "a", 1);
@@ -248,17 +248,17 @@ static void builders(void) {
   sf_param_integer(&field, "lvl", 5);
   sf_tree tree = sf_tree_in(SF_NODES(parsed), SF_BUFFER(decoded));
   CHECK(sf_read_tree(&context, SF_LIST, sf_cstr("(\"bar\" \"baz\");lvl=1"), &tree) == SF_OK);
-  sf_put_node_of(&field, &tree, tree.nodes.at);
-  CHECK(sf_write_builder(&context, SF_LIST, &field, &out) == SF_OK);
+  sf_put_copy(&field, &tree, tree.nodes.at);
+  CHECK(sf_write_built(&context, SF_LIST, &field, &out) == SF_OK);
   CHECK(is(sf_written(&out), "(\"foo\";a=1;b=2);lvl=5, (\"bar\" \"baz\");lvl=1"));
-  CHECK(sf_write_builder(&context, SF_LIST, &field, &empty) == SF_SHORT);
+  CHECK(sf_write_built(&context, SF_LIST, &field, &empty) == SF_SHORT);
   CHECK(empty.required == out.length);
-  CHECK(sf_write_builder(&context, SF_DICT, &field, &out) == SF_INVALID && context.invalid == 0);
-  CHECK(sf_write_builder(&context, no_kind, &field, &out) == SF_BAD_CALL);
+  CHECK(sf_write_built(&context, SF_DICT, &field, &out) == SF_INVALID && context.invalid == 0);
+  CHECK(sf_write_built(&context, no_kind, &field, &out) == SF_BAD_CALL);
   sf_end_inner_list(&field);
   CHECK(field.status == SF_BAD_CALL);
-  CHECK(sf_write_builder(&context, SF_LIST, &field, &out) == SF_BAD_CALL && out.length == 0);
-  field = sf_builder_in(sf_nodes_of(nodes, 1), sf_buffer_of(bytes, 1));
+  CHECK(sf_write_built(&context, SF_LIST, &field, &out) == SF_BAD_CALL && out.length == 0);
+  field = sf_build(sf_nodes_of(nodes, 1), sf_buffer_of(bytes, 1));
   sf_put_token(&field, NULL, "ab");
   CHECK(field.status == SF_SHORT);
 }
