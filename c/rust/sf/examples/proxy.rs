@@ -19,7 +19,7 @@ fn main() -> Result<(), Box<dyn std::error::Error>> {
     let field = |side: char, name: &str| {
         sf::join(lines.iter().filter_map(|line| {
             let (found, value) = line.strip_prefix(side)?.split_once(':')?;
-            (found.trim().eq_ignore_ascii_case(name)).then(|| value.trim())
+            (found.trim().eq_ignore_ascii_case(name)).then(|| sf::trim(value))
         }))
     };
 

@@ -300,6 +300,40 @@ impl CacheRules {
     }
 }
 
+/// The directives that are set, as the text of a targeted field. A lifetime that is not a number of
+/// seconds is the Token `invalid`.
+///
+/// ```
+/// let rules: sf::CacheRules = "public, max-age=1.5, no-store, x".parse().unwrap();
+/// assert_eq!(rules.to_string(), "no-store, max-age=invalid, public");
+/// assert_eq!(rules.to_string().parse(), Ok(rules));
+/// ```
+#[cfg(feature = "std")]
+impl fmt::Display for CacheRules {
+    fn fmt(&self, f: &mut fmt::Formatter<'_>) -> fmt::Result {
+        let mut field = self.policy.to_dictionary().map_err(|_| fmt::Error)?;
+        for (name, is_invalid) in [
+            ("max-age", self.invalid_max_age),
+            ("s-maxage", self.invalid_s_maxage),
+        ] {
+            if is_invalid {
+                let invalid = crate::TokenRef::constant("invalid");
+                field.insert(name, invalid).map_err(|_| fmt::Error)?;
+            }
+        }
+        for (name, is_set) in [
+            ("proxy-revalidate", self.proxy_revalidate),
+            ("must-understand", self.must_understand),
+            ("public", self.is_public),
+        ] {
+            if is_set {
+                field.insert(name, true).map_err(|_| fmt::Error)?;
+            }
+        }
+        field.fmt(f)
+    }
+}
+
 /// Which field of a target list a cache obeys (RFC 9213 section 2.2), with what decides.
 #[derive(Clone, Copy, Debug, PartialEq, Eq, Hash)]
 pub enum RulesChoice {
