@@ -1277,12 +1277,12 @@ static inline sf_lines sf_lines_in(sf_buffer buffer) {
  */
 SF_USE_RESULT
 static inline uint32_t sf_add_line(sf_lines *lines, sf_text line) {
+  uint32_t status;
   sf_joined joined;
   joined.length = lines->buffer.length;
   joined.required = 0;
   joined.begun = lines->begun;
-  uint32_t status =
-      sf_join(line.at, line.length, lines->buffer.at, lines->buffer.capacity, &joined);
+  status = sf_join(line.at, line.length, lines->buffer.at, lines->buffer.capacity, &joined);
   lines->buffer.length = joined.length;
   lines->buffer.required = joined.required;
   lines->begun = joined.begun;
@@ -1360,20 +1360,22 @@ SF_USE_RESULT
 static inline uint32_t sf_show_excerpt(const sf_refusal *refusal, sf_text text, size_t most,
                                        sf_buffer *out) {
   size_t at = refusal->offset < text.length ? (size_t)refusal->offset : text.length;
-  size_t from = at > most / 2 ? at - most / 2 : 0, length, message = 0, i;
+  size_t from = at > most / 2 ? at - most / 2 : 0, length, message = 0, required, i;
+  uint32_t status;
+  char *to;
   if (text.length - from < most)
     from = text.length > most ? text.length - most : 0;
   length = text.length - from < most ? text.length - from : most;
-  uint32_t status = sf_refusal_text(refusal, NULL, 0, &message);
+  status = sf_refusal_text(refusal, NULL, 0, &message);
   if (status != SF_SHORT)
     return sf_wrote(out, status, 0);
-  size_t required = message + length + (at - from) + 3;
+  required = message + length + (at - from) + 3;
   if (required > out->capacity)
     return sf_wrote(out, SF_SHORT, required);
   status = sf_refusal_text(refusal, out->at, out->capacity, &message);
   if (status != SF_OK)
     return sf_wrote(out, status, 0);
-  char *to = out->at + message;
+  to = out->at + message;
   *to++ = '\n';
   for (i = 0; i < length; ++i) {
     char byte = text.at[from + i];
@@ -1681,9 +1683,10 @@ static inline sf_builder sf_build(sf_nodes nodes, sf_buffer bytes) {
 /* Puts one node: for the functions below. */
 static inline void sf_put_node(sf_builder *builder, sf_role role, sf_type type, int64_t number,
                                sf_text key, sf_text text) {
+  size_t at = builder->bytes.length, left = builder->bytes.capacity - at;
+  sf_node *node;
   if (builder->status != SF_OK)
     return;
-  size_t at = builder->bytes.length, left = builder->bytes.capacity - at;
   if (builder->nodes.length >= builder->nodes.capacity || key.length > left ||
       text.length > left - key.length) {
     builder->status = SF_SHORT;
@@ -1693,7 +1696,7 @@ static inline void sf_put_node(sf_builder *builder, sf_role role, sf_type type, 
     builder->status = SF_TOO_LONG;
     return;
   }
-  sf_node *node = builder->nodes.at + builder->nodes.length;
+  node = builder->nodes.at + builder->nodes.length;
   memset(node, 0, sizeof *node);
   node->number = number;
   node->key_at = (uint32_t)at;
@@ -1736,14 +1739,16 @@ static inline void sf_put(sf_builder *builder, sf_text key, sf_type type, int64_
  * ended since, to that Inner List. */
 static inline void sf_param(sf_builder *builder, sf_text key, sf_type type, int64_t number,
                             sf_text text) {
+  sf_role role = SF_PARAMETER;
   if (builder->status != SF_OK)
     return;
   if (builder->nodes.length == 0 || (builder->is_open && builder->last == builder->inner_list)) {
     builder->status = SF_BAD_CALL;
     return;
   }
-  int is_inner = builder->nodes.at[builder->last].type == SF_INNER_LIST;
-  sf_put_node(builder, is_inner ? SF_INNER_PARAMETER : SF_PARAMETER, type, number, key, text);
+  if (builder->nodes.at[builder->last].type == SF_INNER_LIST)
+    role = SF_INNER_PARAMETER;
+  sf_put_node(builder, role, type, number, key, text);
 }
 
 /*
@@ -1908,12 +1913,11 @@ SF_USE_RESULT
 static inline uint32_t sf_write_built(sf_context *context, sf_kind kind,
                                       const sf_builder *builder, sf_buffer *out) {
   size_t required = 0;
-  if (builder->status != SF_OK)
-    return sf_wrote(out, SF_BAD_CALL, 0);
-  uint32_t status =
-      sf_write(&context->seed, context->dialect, (uint32_t)kind, builder->nodes.at,
-               builder->nodes.length, NULL, 0, builder->bytes.at, builder->bytes.length, out->at,
-               out->capacity, &required, &context->invalid);
+  uint32_t status = SF_BAD_CALL;
+  if (builder->status == SF_OK)
+    status = sf_write(&context->seed, context->dialect, (uint32_t)kind, builder->nodes.at,
+                      builder->nodes.length, NULL, 0, builder->bytes.at, builder->bytes.length,
+                      out->at, out->capacity, &required, &context->invalid);
   return sf_wrote(out, status, required);
 }
 
