@@ -1102,7 +1102,7 @@ uint32_t sf_join(const void *line, size_t line_length, void *buffer, size_t buff
  * text is an sf_text, a buffer is a struct with its capacity, the results of a call are in one
  * struct, and an sf_context has what a program sets once. So the compiler reports swapped
  * arguments: only the two texts of sf_equal_texts have the same type, and the key and the text of
- * the functions of sf_builder.
+ * the functions of sf_builder. Each function that reads or writes a field returns an sf_status.
  *
  * This code reads the priority that a client asks for:
  *
@@ -1238,10 +1238,10 @@ static inline sf_text sf_written(const sf_buffer *buffer) {
 }
 
 /* Sets what the struct of a buffer says after a call with this status: for the functions below. */
-static inline uint32_t sf_wrote(sf_buffer *buffer, uint32_t status, size_t required) {
+static inline sf_status sf_wrote(sf_buffer *buffer, uint32_t status, size_t required) {
   buffer->length = status == SF_OK ? required : 0;
   buffer->required = status == SF_SHORT ? required : 0;
-  return status;
+  return (sf_status)status;
 }
 
 /* The lines of a field, joined. */
@@ -1276,7 +1276,7 @@ static inline sf_lines sf_lines_in(sf_buffer buffer) {
  *   SF_BAD_CALL  lines->buffer.length is greater than its capacity
  */
 SF_USE_RESULT
-static inline uint32_t sf_add_line(sf_lines *lines, sf_text line) {
+static inline sf_status sf_add_line(sf_lines *lines, sf_text line) {
   uint32_t status;
   sf_joined joined;
   joined.length = lines->buffer.length;
@@ -1286,7 +1286,7 @@ static inline uint32_t sf_add_line(sf_lines *lines, sf_text line) {
   lines->buffer.length = joined.length;
   lines->buffer.required = joined.required;
   lines->begun = joined.begun;
-  return status;
+  return (sf_status)status;
 }
 
 /* Returns the text of a field: its lines, joined; the empty text if it has none. It is in the
@@ -1308,9 +1308,10 @@ static inline sf_text sf_joined_text(const sf_lines *lines) {
  *   SF_NO_MEMORY, SF_BAD_CALL
  */
 SF_USE_RESULT
-static inline uint32_t sf_check_text(sf_context *context, sf_kind kind, sf_text text) {
-  return sf_check(&context->seed, context->dialect, (uint32_t)kind, text.at, text.length,
-                  &context->refusal);
+static inline sf_status sf_check_text(sf_context *context, sf_kind kind, sf_text text) {
+  uint32_t status = sf_check(&context->seed, context->dialect, (uint32_t)kind, text.at, text.length,
+                             &context->refusal);
+  return (sf_status)status;
 }
 
 /*
@@ -1329,7 +1330,7 @@ static inline uint32_t sf_check_text(sf_context *context, sf_kind kind, sf_text 
  *   SF_NO_MEMORY
  */
 SF_USE_RESULT
-static inline uint32_t sf_write_refusal(const sf_refusal *refusal, sf_buffer *out) {
+static inline sf_status sf_write_refusal(const sf_refusal *refusal, sf_buffer *out) {
   size_t required = 0;
   uint32_t status = sf_refusal_text(refusal, out->at, out->capacity, &required);
   return sf_wrote(out, status, required);
@@ -1339,7 +1340,7 @@ static inline uint32_t sf_write_refusal(const sf_refusal *refusal, sf_buffer *ou
  * sf_refusal_in_text. A buffer of SF_REFUSAL_IN_TEXT_SIZE(text.length) bytes is always large
  * enough. The results are those of sf_write_refusal. */
 SF_USE_RESULT
-static inline uint32_t sf_show_refusal(const sf_refusal *refusal, sf_text text, sf_buffer *out) {
+static inline sf_status sf_show_refusal(const sf_refusal *refusal, sf_text text, sf_buffer *out) {
   size_t required = 0;
   uint32_t status =
       sf_refusal_in_text(refusal, text.at, text.length, out->at, out->capacity, &required);
@@ -1357,7 +1358,7 @@ static inline uint32_t sf_show_refusal(const sf_refusal *refusal, sf_text text, 
  * The results are those of sf_write_refusal.
  */
 SF_USE_RESULT
-static inline uint32_t sf_show_excerpt(const sf_refusal *refusal, sf_text text, size_t most,
+static inline sf_status sf_show_excerpt(const sf_refusal *refusal, sf_text text, size_t most,
                                        sf_buffer *out) {
   size_t at = refusal->offset < text.length ? (size_t)refusal->offset : text.length;
   size_t from = at > most / 2 ? at - most / 2 : 0, length, message = 0, required, i;
@@ -1403,7 +1404,7 @@ static inline uint32_t sf_show_excerpt(const sf_refusal *refusal, sf_text text, 
  *   SF_NO_MEMORY, SF_BAD_CALL
  */
 SF_USE_RESULT
-static inline uint32_t sf_write_canonical(sf_context *context, sf_kind kind, sf_text text,
+static inline sf_status sf_write_canonical(sf_context *context, sf_kind kind, sf_text text,
                                           sf_buffer *out) {
   size_t required = 0;
   uint32_t status = sf_normalise(&context->seed, context->dialect, (uint32_t)kind, text.at,
@@ -1428,11 +1429,12 @@ static inline uint32_t sf_write_canonical(sf_context *context, sf_kind kind, sf_
  * Unless SF_OK is returned, *are_equal is 0.
  */
 SF_USE_RESULT
-static inline uint32_t sf_equal_texts(sf_context *context, sf_kind kind, sf_text first,
+static inline sf_status sf_equal_texts(sf_context *context, sf_kind kind, sf_text first,
                                       sf_text second, uint32_t *are_equal) {
   *are_equal = 0;
-  return sf_equal(&context->seed, context->dialect, (uint32_t)kind, first.at, first.length,
-                  second.at, second.length, are_equal, &context->refusal);
+  uint32_t status = sf_equal(&context->seed, context->dialect, (uint32_t)kind, first.at,
+                             first.length, second.at, second.length, are_equal, &context->refusal);
+  return (sf_status)status;
 }
 
 /* A parsed value: its nodes, and the text and the bytes to which they point. The text is not
@@ -1482,7 +1484,7 @@ static inline sf_tree sf_tree_in(sf_nodes nodes, sf_buffer bytes) {
  * SF_BYTES_SIZE(text.length) bytes are always large enough.
  */
 SF_USE_RESULT
-static inline uint32_t sf_read_tree(sf_context *context, sf_kind kind, sf_text text,
+static inline sf_status sf_read_tree(sf_context *context, sf_kind kind, sf_text text,
                                     sf_tree *tree) {
   sf_sizes sizes = {0, 0};
   uint32_t status = sf_parse(&context->seed, context->dialect, (uint32_t)kind, text.at,
@@ -1495,7 +1497,7 @@ static inline uint32_t sf_read_tree(sf_context *context, sf_kind kind, sf_text t
   tree->nodes.required = is_read ? 0 : sizes.nodes;
   tree->bytes.length = is_read ? sizes.bytes : 0;
   tree->bytes.required = is_read ? 0 : sizes.bytes;
-  return status;
+  return (sf_status)status;
 }
 
 /* Returns the end of the nodes of a tree. This loop visits each member of the field:
@@ -1582,7 +1584,7 @@ static inline void sf_set_number(sf_node *node, sf_type type, int64_t number) {
  * Unless SF_OK is returned, the value of the tree is unchanged.
  */
 SF_USE_RESULT
-static inline uint32_t sf_set_text(sf_tree *tree, sf_node *node, sf_type type, sf_text value) {
+static inline sf_status sf_set_text(sf_tree *tree, sf_node *node, sf_type type, sf_text value) {
   size_t at = tree->bytes.length;
   tree->bytes.required = 0;
   if (at > tree->bytes.capacity || value.length > tree->bytes.capacity - at) {
@@ -1615,7 +1617,7 @@ static inline uint32_t sf_set_text(sf_tree *tree, sf_node *node, sf_type type, s
  *   SF_NO_MEMORY, SF_BAD_CALL
  */
 SF_USE_RESULT
-static inline uint32_t sf_write_tree(sf_context *context, const sf_tree *tree, sf_buffer *out) {
+static inline sf_status sf_write_tree(sf_context *context, const sf_tree *tree, sf_buffer *out) {
   size_t required = 0;
   uint32_t status =
       sf_write(&context->seed, context->dialect, tree->kind, tree->nodes.at, tree->nodes.length,
@@ -1910,7 +1912,7 @@ static inline void sf_put_copy(sf_builder *builder, const sf_tree *tree, const s
  *   SF_NO_MEMORY
  */
 SF_USE_RESULT
-static inline uint32_t sf_write_built(sf_context *context, sf_kind kind,
+static inline sf_status sf_write_built(sf_context *context, sf_kind kind,
                                       const sf_builder *builder, sf_buffer *out) {
   size_t required = 0;
   uint32_t status = SF_BAD_CALL;
@@ -1933,20 +1935,22 @@ static inline uint32_t sf_write_built(sf_context *context, sf_kind kind,
  * Unless SF_OK is returned, *client is unchanged: begin with SF_PRIORITY_UNSET.
  */
 SF_USE_RESULT
-static inline uint32_t sf_read_priority(sf_context *context, sf_text text,
+static inline sf_status sf_read_priority(sf_context *context, sf_text text,
                                         sf_priority_flags *client) {
-  return sf_priority_in(&context->seed, context->dialect, text.at, text.length, client,
-                        &context->refusal);
+  uint32_t status = sf_priority_in(&context->seed, context->dialect, text.at, text.length, client,
+                                   &context->refusal);
+  return (sf_status)status;
 }
 
 /* Reads the Priority field of a response (RFC 9218 section 8), by sf_response_priority. The results
  * are those of sf_read_priority, with *server in the place of *client: begin with zeros. A tab at
  * the beginning is refused: see sf_trim. */
 SF_USE_RESULT
-static inline uint32_t sf_read_response_priority(sf_context *context, sf_text text,
+static inline sf_status sf_read_response_priority(sf_context *context, sf_text text,
                                                  sf_response_priority_flags *server) {
-  return sf_response_priority(&context->seed, context->dialect, text.at, text.length, server,
-                              &context->refusal);
+  uint32_t status = sf_response_priority(&context->seed, context->dialect, text.at, text.length,
+                                         server, &context->refusal);
+  return (sf_status)status;
 }
 
 /* Merges what the client asks for and what the server sets (RFC 9218 section 8), by
@@ -1966,7 +1970,7 @@ static inline sf_priority_flags sf_merge_priority(sf_priority_flags client,
  *   SF_INVALID  urgency is above SF_URGENCY_LAST, or a parameter is set whose has_ flag is 0
  */
 SF_USE_RESULT
-static inline uint32_t sf_write_priority(sf_priority_flags client, sf_buffer *out) {
+static inline sf_status sf_write_priority(sf_priority_flags client, sf_buffer *out) {
   size_t required = 0;
   uint32_t status = sf_priority_text(&client, out->at, out->capacity, &required);
   return sf_wrote(out, status, required);
@@ -1975,7 +1979,7 @@ static inline uint32_t sf_write_priority(sf_priority_flags client, sf_buffer *ou
 /* Writes the text of the Priority field of a response (RFC 9218 section 8), likewise, by
  * sf_response_priority_text. */
 SF_USE_RESULT
-static inline uint32_t sf_write_response_priority(sf_response_priority_flags server,
+static inline sf_status sf_write_response_priority(sf_response_priority_flags server,
                                                   sf_buffer *out) {
   size_t required = 0;
   uint32_t status = sf_response_priority_text(&server, out->at, out->capacity, &required);
@@ -1994,7 +1998,7 @@ static inline uint32_t sf_write_response_priority(sf_response_priority_flags ser
  * The other results are those of sf_write_priority.
  */
 SF_USE_RESULT
-static inline uint32_t sf_change_priority(sf_context *context, sf_text text,
+static inline sf_status sf_change_priority(sf_context *context, sf_text text,
                                           sf_priority_flags client, sf_buffer *out) {
   size_t required = 0;
   uint32_t status = sf_priority_change(&context->seed, text.at, text.length, &client, out->at,
@@ -2015,9 +2019,10 @@ static inline uint32_t sf_change_priority(sf_context *context, sf_text text,
  * Unless SF_OK is returned, *rules is unchanged.
  */
 SF_USE_RESULT
-static inline uint32_t sf_read_rules(sf_context *context, sf_text text, sf_rules *rules) {
-  return sf_cache_rules(&context->seed, context->dialect, text.at, text.length, rules,
-                        &context->refusal);
+static inline sf_status sf_read_rules(sf_context *context, sf_text text, sf_rules *rules) {
+  uint32_t status = sf_cache_rules(&context->seed, context->dialect, text.at, text.length, rules,
+                                   &context->refusal);
+  return (sf_status)status;
 }
 
 /* The field of a target list that a cache obeys, and its directives. */
@@ -2049,7 +2054,7 @@ typedef struct sf_choice {
  * is malformed.
  */
 SF_USE_RESULT
-static inline uint32_t sf_choose_rules(sf_context *context, const sf_text *fields,
+static inline sf_status sf_choose_rules(sf_context *context, const sf_text *fields,
                                        size_t fields_length, sf_choice *choice) {
   size_t i;
   if (context->dialect != SF_RFC9651 && context->dialect != SF_RFC8941)
@@ -2059,7 +2064,7 @@ static inline uint32_t sf_choose_rules(sf_context *context, const sf_text *field
     if (status == SF_OK)
       choice->index = i;
     if (status != SF_EMPTY && status != SF_REFUSED)
-      return status;
+      return (sf_status)status;
   }
   return SF_EMPTY;
 }
@@ -2109,7 +2114,7 @@ static inline sf_hop_list sf_hop_list_in(sf_hops hops, sf_buffer bytes) {
  * SF_BYTES_SIZE(text.length) bytes are always large enough.
  */
 SF_USE_RESULT
-static inline uint32_t sf_read_hops(sf_context *context, sf_text text, sf_hop_list *list) {
+static inline sf_status sf_read_hops(sf_context *context, sf_text text, sf_hop_list *list) {
   sf_path path = {0, 0, 0, 0, 0};
   uint32_t status = sf_cache_status_in(&context->seed, context->dialect, text.at, text.length,
                                        list->hops.at, list->hops.capacity, list->bytes.at,
@@ -2121,7 +2126,7 @@ static inline uint32_t sf_read_hops(sf_context *context, sf_text text, sf_hop_li
   list->bytes.required = is_read ? 0 : path.bytes;
   list->served = is_read && path.is_served ? list->hops.at + path.served : NULL;
   list->nameless = status == SF_NOT_A_CACHE ? path.nameless : 0;
-  return status;
+  return (sf_status)status;
 }
 
 /* Returns a part of a hop of a list: its name, why_token, key or detail, such as sf_hop_part(&list,
@@ -2169,7 +2174,7 @@ static inline sf_own_hop sf_hop_named(const char *name, sf_type type) {
  *   SF_NO_MEMORY
  */
 SF_USE_RESULT
-static inline uint32_t sf_write_hop(sf_context *context, const sf_own_hop *own, sf_buffer *out) {
+static inline sf_status sf_write_hop(sf_context *context, const sf_own_hop *own, sf_buffer *out) {
   size_t required = 0;
   uint32_t status = sf_hop_text(&context->seed, &own->hop, own->bytes.at, own->bytes.length,
                                 out->at, out->capacity, &required);
@@ -2192,7 +2197,7 @@ static inline uint32_t sf_write_hop(sf_context *context, const sf_own_hop *own, 
  *   SF_NO_MEMORY, SF_BAD_CALL
  */
 SF_USE_RESULT
-static inline uint32_t sf_append_hop(sf_context *context, sf_text text, const sf_own_hop *own,
+static inline sf_status sf_append_hop(sf_context *context, sf_text text, const sf_own_hop *own,
                                      sf_buffer *out) {
   size_t required = 0;
   uint32_t status = sf_cache_status_append(
