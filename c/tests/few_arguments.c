@@ -224,6 +224,7 @@ static void trees(void) {
   sf_set_number(sf_find_parameter(&tree, member, "x"), SF_DECIMAL, 1500);
   CHECK(sf_write_tree(&context, &tree, &out) == SF_OK);
   CHECK(is(sf_written(&out), "a=\"word\", b;x=1.5"));
+  CHECK(out.length <= SF_WRITTEN_SIZE(tree.nodes.length, tree.text.length + tree.bytes.length));
   sf_buffer empty = sf_buffer_of(NULL, 0);
   CHECK(sf_write_tree(&context, &tree, &empty) == SF_SHORT && empty.required == out.length);
   sf_set_number(member, SF_INTEGER, SF_NUMBER_MAX + 1);
