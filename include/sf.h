@@ -848,7 +848,7 @@ typedef struct sf_decision {
                                 SF_REUSE_FRESH */
   uint8_t reuse;             /* an sf_reuse */
   uint8_t by;                /* an sf_cause */
-  uint8_t allows_storing;    /* 1 if a directive permits to store it, whatever its status code (RFC
+  uint8_t allows_storing;    /* 1 if a directive permits storing it, whatever its status code (RFC
                                 9111 section 3), otherwise 0 */
   uint8_t allows_authorized; /* 1 if a directive permits a shared cache to store it, though the
                                 request had Authorization (3.5), otherwise 0 */

@@ -130,7 +130,7 @@ pub struct Decision {
     pub reuse: Reuse,
     /// The directive that decided; `None` if there is none.
     pub by: Option<Cause>,
-    /// Whether a directive permits to store it, whatever its status code (RFC 9111 section 3).
+    /// Whether a directive permits storing it, whatever its status code (RFC 9111 section 3).
     pub allows_storing: bool,
     /// Whether a directive permits a shared cache to store it, though the request had
     /// `Authorization` (section 3.5).
@@ -212,7 +212,7 @@ fn cause_of(by: u8) -> Option<Cause> {
 
 impl Decision {
     /// Whether the response may be stored, as far as the directives say: it is not
-    /// [`Reuse::NotStored`], and if no directive sets a lifetime, one permits to store it.
+    /// [`Reuse::NotStored`], and if no directive sets a lifetime, one permits storing it.
     ///
     /// ```
     /// use sf::{Cache, CacheRules, Response};
