@@ -1431,9 +1431,10 @@ static inline sf_status sf_write_canonical(sf_context *context, sf_kind kind, sf
 SF_USE_RESULT
 static inline sf_status sf_equal_texts(sf_context *context, sf_kind kind, sf_text first,
                                       sf_text second, uint32_t *are_equal) {
-  *are_equal = 0;
+  uint32_t equal = 0;
   uint32_t status = sf_equal(&context->seed, context->dialect, (uint32_t)kind, first.at,
-                             first.length, second.at, second.length, are_equal, &context->refusal);
+                             first.length, second.at, second.length, &equal, &context->refusal);
+  *are_equal = equal;
   return (sf_status)status;
 }
 
