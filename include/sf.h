@@ -687,7 +687,8 @@ uint32_t sf_cache_control(const sf_seed *seed, const void *text, size_t text_len
 typedef struct sf_rules {
   sf_policy policy;
   uint8_t invalid_max_age;  /* 1 if max-age is present, but is not an Integer of at least 0: the
-                               response is stale (RFC 9111 section 4.2.1); otherwise 0 */
+                               response is stale (RFC 9111 section 4.2.1), unless it is a shared
+                               cache that has s-maxage; otherwise 0 */
   uint8_t invalid_s_maxage; /* the same for s-maxage, in a shared cache */
   uint8_t proxy_revalidate; /* 1 if the directive is present and not ?0, otherwise 0 */
   uint8_t must_understand;  /* the same for must-understand */
@@ -758,8 +759,10 @@ typedef enum sf_cache {
  * has no other lifetime, and its status code is not understood. */
 typedef struct sf_response {
   uint64_t age;          /* its age in seconds (RFC 9111 section 4.2.3) */
-  uint64_t lifetime;     /* the seconds from Date to Expires (4.2.1), or of a heuristic (4.2.2),
-                            which count if no directive sets a lifetime; 0 if there are none */
+  uint64_t lifetime;     /* the seconds from Date to Expires (4.2.1), unless a targeted field
+                            decides, by which Expires is ignored (RFC 9213 section 2.2), or of a
+                            heuristic, if one may apply (4.2.2); they count if no directive sets a
+                            lifetime; 0 if there are none */
   uint8_t has_lifetime;  /* 1 if there is such a lifetime, otherwise 0 */
   uint8_t is_understood; /* 1 if the cache understands the status code and implements its
                             requirements, otherwise 0: must-understand forbids to store the response
@@ -772,7 +775,9 @@ typedef enum sf_reuse {
   SF_REUSE_FRESH = 42,       /* it may be stored, and is used without validation */
   SF_REUSE_STALE = 43,       /* it may be stored; it is used without validation only if the cache is
                                 disconnected, or if the client or the origin permits it (4.2.4) */
-  SF_REUSE_REVALIDATE = 44,  /* it may be stored; it is never used without validation */
+  SF_REUSE_REVALIDATE = 44,  /* it may be stored, by SF_BY_NO_CACHE only if its status code, Expires
+                                or allows_storing permits it (3); it is never used without
+                                validation: if that fails, the answer is an error (5.2.2.2) */
   SF_REUSE_UNSPECIFIED = 45  /* no directive sets a lifetime: it may be stored if its status code or
                                 allows_storing permits it, and a heuristic may apply (4.2.2) */
 } sf_reuse;
@@ -849,9 +854,10 @@ typedef struct sf_decision {
   uint8_t reuse;             /* an sf_reuse */
   uint8_t by;                /* an sf_cause */
   uint8_t allows_storing;    /* 1 if a directive permits storing it, whatever its status code (RFC
-                                9111 section 3), otherwise 0 */
+                                9111 section 3), otherwise 0; SF_REUSE_NOT_STORED forbids it all the
+                                same */
   uint8_t allows_authorized; /* 1 if a directive permits a shared cache to store it, though the
-                                request had Authorization (3.5), otherwise 0 */
+                                request had Authorization (3.5), otherwise 0; likewise */
 } sf_decision;
 
 /*

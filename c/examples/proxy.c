@@ -9,8 +9,9 @@
  *   by CDN-Cache-Control: fresh for 600 s (max-age)
  *   Cache-Status: ExampleCDN;fwd=uri-miss;ttl=600;stored
  *
- * With the word private it is a private cache; with understood it understands the status code. Ends
- * with status 0, or 3 if memory, the input or the output fails, or a field is too long. */
+ * With the word private it is a private cache; with understood it understands the status code. Left
+ * out: method, status code, Authorization, Vary, the time since the request (RFC 9111 sections 3, 4
+ * and 4.2.3). Status 3 if memory, the input or the output fails, or a field is too long. */
 #define _DEFAULT_SOURCE
 #include <sf.h>
 #include <stdio.h>
@@ -44,7 +45,7 @@ static void read_fields(FILE *from) {
     *colon = '\0';
     sf_text value = sf_trim(colon + 1, strcspn(colon + 1, "\r\n"));
     for (int i = 0; i < FIELDS; ++i)
-      if (fields[i][0] == line[0] && strcasecmp(fields[i] + 1, name) == 0 && value.length > 0 &&
+      if (fields[i][0] == line[0] && strcasecmp(fields[i] + 1, name) == 0 &&
           sf_add_line(&lines[i], value) != SF_OK)
         give_up("a field is too long");
   }
@@ -103,8 +104,7 @@ int main(int count, char **words) {
   own.hop.outcome = SF_FORWARDED;
   own.hop.why = SF_URI_MISS;
   own.hop.has_stored = 1;
-  own.hop.stored = decision.reuse != SF_REUSE_NOT_STORED &&
-                   (decision.reuse != SF_REUSE_UNSPECIFIED || decision.allows_storing);
+  own.hop.stored = decision.reuse != SF_REUSE_NOT_STORED && decision.allows_storing;
   own.hop.has_ttl = decision.reuse == SF_REUSE_FRESH;
   own.hop.ttl = (int64_t)decision.seconds;
   static char path[SF_APPENDED_SIZE(MOST, 16)];

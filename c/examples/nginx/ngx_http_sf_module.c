@@ -113,22 +113,34 @@ static ngx_int_t read_priority(ngx_http_request_t *r, sf_priority_flags *merged)
   return NGX_OK;
 }
 
-/* The age of a response in seconds: that of its Age field when it came (RFC 9111 section 5.1), and how
- * long it is in the cache. */
+/* The first number of an Age field (RFC 9111 section 5.1); 0 if it is none. A number that is too great
+ * stays one (section 1.2.2). */
+static uint64_t first_age(const ngx_str_t *value) {
+  uint64_t age = 0;
+  size_t at = 0;
+  for (; at < value->len && value->data[at] >= '0' && value->data[at] <= '9'; ++at)
+    if (age < UINT32_MAX)
+      age = 10 * age + (uint64_t)(value->data[at] - '0');
+  while (at < value->len && (value->data[at] == ' ' || value->data[at] == '\t'))
+    ++at;
+  return at < value->len && value->data[at] != ',' ? 0 : age;
+}
+
+/* The age of a response in seconds (RFC 9111 section 4.2.3): that of its Age field when it came, with the
+ * time since the request for it, or how long it is in the cache. */
 static uint64_t age_of(ngx_http_request_t *r) {
   static const ngx_str_t name = ngx_string("Age");
   const ngx_list_part_t *part = &r->headers_out.headers.part;
   ngx_uint_t at = 0;
   const ngx_table_elt_t *line = next_line(&name, &part, &at);
-  off_t age = line == NULL ? 0 : ngx_atoof(line->value.data, line->value.len);
-  if (age == NGX_ERROR)
-    age = 0;
+  uint64_t age = line == NULL ? 0 : first_age(&line->value);
 #if (NGX_HTTP_CACHE)
-  if (r->cached && r->cache != NULL && r->upstream->cache_status != NGX_HTTP_CACHE_REVALIDATED &&
-      ngx_time() > r->cache->date)
-    age += ngx_time() - r->cache->date;
+  if (r->cached && r->cache != NULL && r->upstream->cache_status != NGX_HTTP_CACHE_REVALIDATED)
+    return ngx_time() > r->cache->date ? age + (uint64_t)(ngx_time() - r->cache->date) : age;
 #endif
-  return (uint64_t)age;
+  if (r->upstream != NULL && r->upstream->start_time != 0)
+    age += (ngx_current_msec - r->upstream->start_time) / 1000;
+  return age;
 }
 
 /* What the first field of the target list that is well-formed and not empty decides, in a shared
@@ -252,8 +264,8 @@ static sf_own_hop hop_of(ngx_http_request_t *r, const ngx_str_t *cache) {
   case NGX_HTTP_CACHE_STALE:
   case NGX_HTTP_CACHE_UPDATING:
     hop->outcome = SF_HIT;
-    hop->has_ttl = 1;
-    hop->ttl = (int64_t)r->cache->valid_sec - (int64_t)ngx_time();
+    hop->has_ttl = r->cache->valid_sec != 0; /* it is 0 after an error of the upstream server */
+    hop->ttl = hop->has_ttl ? (int64_t)r->cache->valid_sec - (int64_t)ngx_time() : 0;
     return own;
   case NGX_HTTP_CACHE_REVALIDATED:
     status = NGX_HTTP_NOT_MODIFIED;
@@ -297,11 +309,12 @@ static ngx_int_t append_hop(ngx_http_request_t *r, const sf_own_hop *own, sf_tex
   return status == SF_OK ? NGX_OK : NGX_ERROR;
 }
 
-/* Puts this cache's hop into the field, which then has one line. */
+/* Puts this cache's hop into the field, which then has one line. A response that nginx generates itself,
+ * such as an error, has none (RFC 9211 section 2). */
 static ngx_int_t add_hop(ngx_http_request_t *r) {
   static const ngx_str_t name = ngx_string("Cache-Status");
   const sf_settings *settings = ngx_http_get_module_loc_conf(r, ngx_http_sf_module);
-  if (settings->cache.data == NULL)
+  if (settings->cache.data == NULL || r->err_status != 0)
     return NGX_OK;
   sf_own_hop own = hop_of(r, &settings->cache);
   sf_text came;
@@ -344,7 +357,10 @@ static ngx_int_t obey_target(ngx_http_request_t *r) {
   case NGX_HTTP_CACHE_HIT:
     return NGX_OK;
   default: /* it came from the upstream server, or was validated there */
-    if (reuse == SF_REUSE_FRESH)
+    /* RFC 9111 section 3.5 */
+    if (r->headers_in.authorization != NULL && !target.decision.allows_authorized)
+      upstream->cacheable = 0;
+    else if (reuse == SF_REUSE_FRESH)
       r->cache->valid_sec = ngx_time() + (time_t)target.decision.seconds;
     else
       upstream->cacheable = 0;

@@ -103,7 +103,9 @@ pub enum Reuse {
     /// It may be stored. It is stale, and used without validation only if the cache is
     /// disconnected, or if the client or the origin permits it (RFC 9111 section 4.2.4).
     Stale,
-    /// It may be stored. It is never used without validation.
+    /// It may be stored, by [`Cause::NoCache`] only if the status code, or `Expires`, or
+    /// [`CacheRules::allows_storing`] permits it (RFC 9111 section 3). It is never used without
+    /// validation: if that fails, the answer is an error (section 5.2.2.2).
     MustRevalidate,
     /// It may be stored if the status code, or `Expires`, or [`CacheRules::allows_storing`] permits
     /// it. No directive sets a lifetime, so a heuristic may apply (RFC 9111 section 4.2.2).
@@ -136,7 +138,8 @@ impl CacheRules {
 
     /// Returns what a cache decides, as [`CacheRules::decide`] does, but that `otherwise` is the
     /// lifetime, in seconds, if no directive sets one: `Expires` less `Date` (RFC 9111 section
-    /// 4.2.1), or that of a heuristic (section 4.2.2). Does not allocate.
+    /// 4.2.1), but not for a targeted field, by which `Expires` is ignored (RFC 9213 section 2.2);
+    /// or that of a heuristic, if one may apply (RFC 9111 section 4.2.2). Does not allocate.
     ///
     /// ```
     /// // public

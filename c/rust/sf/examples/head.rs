@@ -35,11 +35,14 @@ where
 /// Where the response came from (RFC 9211).
 fn source(path: &Path) -> String {
     if let Some(hop) = path.served_by().and_then(|index| path.hops().nth(index)) {
-        let ttl = hop.ttl.map(|ttl| format!(", fresh for {ttl} s more"));
+        let ttl = hop.ttl.map(|ttl| match ttl.get() {
+            0.. => format!(", fresh for {ttl} s more"),
+            ttl => format!(", stale for {} s", -ttl),
+        });
         return format!("served by {}{}", hop.name, ttl.unwrap_or_default());
     }
     match path.hops().last() {
-        None => "no cache on the path".to_string(),
+        None => "no cache is named".to_string(),
         Some(hop) => match hop.outcome {
             Outcome::Forwarded(forwarded) => format!("{} forwarded: {}", hop.name, forwarded.why),
             _ => format!("{} does not say what it did", hop.name),

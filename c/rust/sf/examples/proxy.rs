@@ -1,11 +1,12 @@
 //! A caching proxy's decisions on a request that it forwards, and on the response, by their fields
 //! on standard input: a line `> Name: value` is of the request, and `< Name: value` of the
-//! response.
+//! response. Left out: method, status code, `Authorization`, `Vary`, the time since the request.
 
 use sf::{
     Cache, Dialect, Error, Forward, Forwarded, Hop, Parser, Response, Reuse, RulesChoice, TokenRef,
 };
 use std::io::{self, BufRead};
+use std::num::IntErrorKind;
 
 /// This cache.
 const NAME: &TokenRef = TokenRef::constant("ExampleCDN");
@@ -27,19 +28,22 @@ fn main() -> Result<(), Box<dyn std::error::Error>> {
     let parser = Parser::new().with_dialect(Dialect::Rfc8941);
     let asked = parser.priority(field('>', "Priority")?);
     let answered = parser.response_priority(field('<', "Priority")?);
-    let both = asked
-        .or_else(Error::as_absent)?
-        .merged_with(answered.or_else(Error::as_absent)?);
+    let answered = answered.or_else(Error::as_absent)?;
+    let both = asked.or_else(Error::as_absent)?.merged_with(answered);
     let how = ["", ", incremental"][usize::from(both.incremental())];
     println!("urgency {}{how}", both.urgency());
 
     let targets = TARGET_LIST.map(|name| field('<', name));
     let targets: Vec<_> = targets.into_iter().collect::<Result<_, _>>()?;
     let cache = [Cache::Shared, Cache::Private][usize::from(has_word("private"))];
+    let ages = String::from_utf8(field('<', "Age")?)?;
+    // The first counts (RFC 9111 section 5.1), and one that is too great is not 0 (section 1.2.2).
+    let age: Result<u64, _> = ages.split(',').next().unwrap_or_default().trim().parse();
+    let is_too_great = matches!(&age, Err(error) if *error.kind() == IntErrorKind::PosOverflow);
     let response = Response {
-        age: String::from_utf8(field('<', "Age")?)?.parse().unwrap_or(0),
-        lifetime: None,
+        age: age.unwrap_or([0, u64::MAX][usize::from(is_too_great)]),
         is_understood: has_word("understood"),
+        ..Response::default()
     };
     let decision = match parser.select_rules(targets)? {
         RulesChoice::Fallback => None,
@@ -64,9 +68,7 @@ fn main() -> Result<(), Box<dyn std::error::Error>> {
     let stored = decision.map_or(false, |decision| decision.may_store());
     let forwarded = Forwarded::new(Forward::UriMiss).with_stored(stored);
     let mut hop = Hop::new(NAME).with_outcome(forwarded);
-    hop.ttl = decision
-        .and_then(|decision| decision.fresh_for())
-        .map(Into::into);
+    hop.ttl = decision.and_then(|it| it.fresh_for()).map(Into::into);
     // A hop that is added to malformed lines would be ignored with them: it is sent alone.
     let path = match parser.append_hop(&hop, [field('<', "Cache-Status")?]) {
         Err(Error::Refused(_)) => hop.serialize()?,

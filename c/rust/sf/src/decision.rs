@@ -50,8 +50,9 @@ pub struct CacheRules {
 pub struct Response {
     /// Its age in seconds (RFC 9111 section 4.2.3).
     pub age: u64,
-    /// The lifetime in seconds by `Expires` less `Date`, or of a heuristic, which counts if no
-    /// directive sets a lifetime (sections 4.2.1 and 4.2.2).
+    /// The lifetime in seconds by `Expires` less `Date`, or of a heuristic, if one may apply, which
+    /// counts if no directive sets a lifetime (sections 4.2.1 and 4.2.2). If a targeted field
+    /// decides, `Expires` is ignored (RFC 9213 section 2.2).
     pub lifetime: Option<u64>,
     /// Whether the cache understands the status code and implements its requirements (section
     /// 5.2.2.3).
@@ -71,7 +72,9 @@ pub enum Reuse {
     /// It may be stored. It is stale, and used without validation only if the cache is
     /// disconnected, or if the client or the origin permits it (section 4.2.4).
     Stale,
-    /// It may be stored. It is never used without validation.
+    /// It may be stored, by [`Cause::NoCache`] only if its status code, `Expires` or
+    /// [`Decision::allows_storing`] permits it (section 3). It is never used without validation: if
+    /// that fails, the answer is an error (section 5.2.2.2).
     Revalidate,
     /// No directive sets a lifetime: it may be stored if its status code or
     /// [`Decision::allows_storing`] permits it, and a heuristic may apply (section 4.2.2).
@@ -131,9 +134,10 @@ pub struct Decision {
     /// The directive that decided; `None` if there is none.
     pub by: Option<Cause>,
     /// Whether a directive permits storing it, whatever its status code (RFC 9111 section 3).
+    /// [`Reuse::NotStored`] forbids it all the same.
     pub allows_storing: bool,
     /// Whether a directive permits a shared cache to store it, though the request had
-    /// `Authorization` (section 3.5).
+    /// `Authorization` (section 3.5). [`Reuse::NotStored`] forbids it all the same.
     pub allows_authorized: bool,
 }
 
@@ -212,7 +216,8 @@ fn cause_of(by: u8) -> Option<Cause> {
 
 impl Decision {
     /// Whether the response may be stored, as far as the directives say: it is not
-    /// [`Reuse::NotStored`], and if no directive sets a lifetime, one permits storing it.
+    /// [`Reuse::NotStored`], and a directive sets a lifetime or permits storing it (RFC 9111
+    /// section 3).
     ///
     /// ```
     /// use sf::{Cache, CacheRules, Response};
@@ -221,14 +226,15 @@ impl Decision {
     ///     rules.decide(Cache::Shared, Response::default()).may_store()
     /// };
     /// assert!(may("max-age=60, no-cache") && may("public"));
-    /// assert!(!may("max-age=60, no-store") && !may("a"));
+    /// assert!(!may("max-age=60, no-store") && !may("a") && !may("no-cache"));
     /// ```
     #[must_use]
     pub fn may_store(&self) -> bool {
         match self.reuse {
             Reuse::NotStored => false,
             Reuse::Unspecified => self.allows_storing,
-            Reuse::Fresh { .. } | Reuse::Stale | Reuse::Revalidate => true,
+            Reuse::Revalidate => self.allows_storing || self.by != Some(Cause::NoCache),
+            Reuse::Fresh { .. } | Reuse::Stale => true,
         }
     }
 

@@ -760,4 +760,170 @@ pub(crate) const ROWS: &[Row] = &[
         reuse: Reuse::Fresh { seconds: 60 },
         by: Cause::MaxAge,
     },
+    // 61
+    Row {
+        head: &[
+            (b"cdn-cache-control", b"max-age=60;no-store, stale-while-revalidate=30;max-age=5"),
+        ],
+        cache: CacheKind::Shared,
+        age: 0,
+        understood: false,
+        from: From::Target(1),
+        reuse: Reuse::Fresh { seconds: 60 },
+        by: Cause::MaxAge,
+    },
+    // 62
+    Row {
+        head: &[
+            (b"cdn-cache-control", b"max-age=60, no-store=?0"),
+        ],
+        cache: CacheKind::Shared,
+        age: 0,
+        understood: false,
+        from: From::Target(1),
+        reuse: Reuse::Fresh { seconds: 60 },
+        by: Cause::MaxAge,
+    },
+    // 63
+    Row {
+        head: &[
+            (b"cdn-cache-control", b"max-age=60, no-store=0"),
+        ],
+        cache: CacheKind::Shared,
+        age: 0,
+        understood: false,
+        from: From::Target(1),
+        reuse: Reuse::NotStored,
+        by: Cause::NoStore,
+    },
+    // 64
+    Row {
+        head: &[
+            (b"cdn-cache-control", b"max-age=600"),
+            (b"cdn-cache-control", b"private"),
+        ],
+        cache: CacheKind::Shared,
+        age: 0,
+        understood: false,
+        from: From::Target(1),
+        reuse: Reuse::NotStored,
+        by: Cause::Private,
+    },
+    // 65
+    Row {
+        head: &[
+            (b"cdn-cache-control", b"no-store"),
+            (b"cdn-cache-control", b"a b"),
+            (b"cache-control", b"max-age=60"),
+        ],
+        cache: CacheKind::Shared,
+        age: 0,
+        understood: false,
+        from: From::Fallback,
+        reuse: Reuse::Fresh { seconds: 60 },
+        by: Cause::MaxAge,
+    },
+    // 66
+    Row {
+        head: &[
+            (b"cdn-cache-control", b"must-revalidate"),
+            (b"cache-control", b"max-age=60"),
+        ],
+        cache: CacheKind::Shared,
+        age: 0,
+        understood: false,
+        from: From::Target(1),
+        reuse: Reuse::Unspecified,
+        by: Cause::Nothing,
+    },
+    // 67
+    Row {
+        head: &[
+            (b"cache-control", b"max-age=60, Max-Age=\"060\""),
+        ],
+        cache: CacheKind::Private,
+        age: 0,
+        understood: false,
+        from: From::Fallback,
+        reuse: Reuse::Fresh { seconds: 60 },
+        by: Cause::MaxAge,
+    },
+    // 68
+    Row {
+        head: &[
+            (b"cache-control", b"max-age=x"),
+            (b"date", b"Thu, 01 Dec 1994 15:59:00 GMT"),
+            (b"expires", b"Thu, 01 Dec 1994 16:00:00 GMT"),
+        ],
+        cache: CacheKind::Private,
+        age: 0,
+        understood: false,
+        from: From::Fallback,
+        reuse: Reuse::Stale,
+        by: Cause::InvalidMaxAge,
+    },
+    // 69
+    Row {
+        head: &[
+            (b"cache-control", b"s-maxage=30"),
+            (b"date", b"Thu, 01 Dec 1994 15:59:00 GMT"),
+            (b"expires", b"Thu, 01 Dec 1994 16:00:00 GMT"),
+        ],
+        cache: CacheKind::Private,
+        age: 0,
+        understood: false,
+        from: From::Fallback,
+        reuse: Reuse::Fresh { seconds: 60 },
+        by: Cause::Expires,
+    },
+    // 70
+    Row {
+        head: &[
+            (b"cache-control", b"s-maxage=30"),
+            (b"date", b"Thu, 01 Dec 1994 15:59:00 GMT"),
+            (b"expires", b"Thu, 01 Dec 1994 16:00:00 GMT"),
+        ],
+        cache: CacheKind::Shared,
+        age: 30,
+        understood: false,
+        from: From::Fallback,
+        reuse: Reuse::MustRevalidate,
+        by: Cause::SMaxage,
+    },
+    // 71
+    Row {
+        head: &[
+            (b"cache-control", b"max-age=60, stale-while-revalidate=30"),
+        ],
+        cache: CacheKind::Shared,
+        age: 70,
+        understood: false,
+        from: From::Fallback,
+        reuse: Reuse::Stale,
+        by: Cause::MaxAge,
+    },
+    // 72
+    Row {
+        head: &[
+            (b"cache-control", b"max-age=60, private=set-cookie"),
+        ],
+        cache: CacheKind::Shared,
+        age: 0,
+        understood: false,
+        from: From::Fallback,
+        reuse: Reuse::NotStored,
+        by: Cause::Private,
+    },
+    // 73
+    Row {
+        head: &[
+            (b"cache-control", b"max-age=60; public"),
+        ],
+        cache: CacheKind::Shared,
+        age: 0,
+        understood: false,
+        from: From::Fallback,
+        reuse: Reuse::NotStored,
+        by: Cause::NoStore,
+    },
 ];
