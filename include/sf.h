@@ -1617,11 +1617,12 @@ static inline sf_status sf_set_text(sf_tree *tree, sf_node *node, sf_type type, 
  * of SF_WRITTEN_SIZE(tree->nodes.length, tree->text.length + tree->bytes.length) bytes is large
  * enough for a tree whose nodes share no bytes, as those of sf_read_tree do not.
  *
- *   SF_OK       the first out->length bytes of out are the text
- *   SF_SHORT    it has out->required bytes, more than the capacity
- *   SF_INVALID  the nodes do not describe a valid field; context->invalid is the index of the first
- *               node that is wrong
- *   SF_NO_MEMORY, SF_BAD_CALL
+ *   SF_OK        the first out->length bytes of out are the text
+ *   SF_SHORT     it has out->required bytes, more than the capacity
+ *   SF_INVALID   the nodes do not describe a valid field; context->invalid is the index of the
+ *                first node that is wrong
+ *   SF_BAD_CALL  no text was read into the tree
+ *   SF_NO_MEMORY
  */
 SF_USE_RESULT
 static inline sf_status sf_write_tree(sf_context *context, const sf_tree *tree, sf_buffer *out) {
