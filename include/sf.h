@@ -688,7 +688,8 @@ typedef struct sf_rules {
   sf_policy policy;
   uint8_t invalid_max_age;  /* 1 if max-age is present, but is not an Integer of at least 0: the
                                response is stale (RFC 9111 section 4.2.1), unless it is a shared
-                               cache that has s-maxage; otherwise 0 */
+                               cache that has s-maxage, and policy.max_age has no effect;
+                               otherwise 0 */
   uint8_t invalid_s_maxage; /* the same for s-maxage, in a shared cache */
   uint8_t proxy_revalidate; /* 1 if the directive is present and not ?0, otherwise 0 */
   uint8_t must_understand;  /* the same for must-understand */

@@ -318,6 +318,9 @@ static void decisions(void) {
   CHECK(sf_read_rules(&context, sf_cstr("max-age=600"), &rules) == SF_OK);
   CHECK(sf_decide(&rules, SF_SHARED_CACHE, &response, &decision) == SF_OK);
   CHECK(decision.reuse == SF_REUSE_FRESH && decision.seconds == 600);
+  rules.invalid_max_age = 1; /* beside a max-age that is valid, which then has no effect */
+  CHECK(sf_decide(&rules, SF_SHARED_CACHE, &response, &decision) == SF_OK);
+  CHECK(decision.reuse == SF_REUSE_STALE && decision.by == SF_BY_INVALID_MAX_AGE);
 
   /* each target list, and the field that counts; -1 if none does */
   static const struct {

@@ -27,6 +27,7 @@ pub struct CacheRules {
     /// The directives of a policy.
     pub policy: Policy,
     /// `max-age` is present, but is not a number of seconds: the response is stale (section 4.2.1).
+    /// [`Policy::max_age`] has no effect then.
     pub invalid_max_age: bool,
     /// `s-maxage` is present, but is not a number of seconds: in a shared cache the response is
     /// stale (section 4.2.1).

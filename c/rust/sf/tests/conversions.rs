@@ -2,9 +2,10 @@
 //! numbers and times as values.
 
 use sf::{
-    BareItem, CacheRules, Date, Decimal, Dictionary, Error, FwdStatus, GenericBareItem, InnerList,
-    Integer, Item, Key, KeyRef, List, ListEntry, Parameters, Path, Policy, Priority, Refusal,
-    ResponsePriority, Seconds, StringRef, Token, TokenRef, Urgency,
+    BareItem, Cache, CacheRules, Cause, Date, Decimal, Dictionary, Error, FwdStatus,
+    GenericBareItem, InnerList, Integer, Item, Key, KeyRef, List, ListEntry, Parameters, Path,
+    Policy, Priority, Refusal, Response, ResponsePriority, Seconds, StringRef, Token, TokenRef,
+    Urgency,
 };
 use std::fmt::{Debug, Display};
 use std::str::FromStr;
@@ -381,6 +382,12 @@ fn what_fields_say_is_read_and_written() {
                proxy-revalidate, must-understand, public";
     assert_eq!(of(written::<CacheRules>(all)), all);
     assert_eq!(written::<CacheRules>(""), Err(Error::Empty));
+    let mut rules: CacheRules = "max-age=60".parse().unwrap();
+    rules.invalid_max_age = true; // beside a valid one, which then has no effect
+    let read: CacheRules = rules.to_string().parse().unwrap();
+    let decided = |rules: CacheRules| rules.decide(Cache::Shared, Response::default());
+    assert_eq!(decided(rules), decided(read));
+    assert_eq!(decided(rules).by, Some(Cause::InvalidMaxAge));
     assert_eq!(refused::<CacheRules>("max-age=60,").offset, 11);
     assert_eq!(of(written::<Path>("a; hit,\"b\"")), "a;hit, \"b\"");
 }
