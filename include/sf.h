@@ -692,8 +692,9 @@ typedef struct sf_rules {
                                otherwise 0 */
   uint8_t invalid_s_maxage; /* the same for s-maxage, in a shared cache */
   uint8_t proxy_revalidate; /* 1 if the directive is present and not ?0, otherwise 0 */
-  uint8_t must_understand;  /* the same for must-understand */
-  uint8_t is_public;        /* the same for public */
+  uint8_t must_understand;  /* 1 if the directive is Boolean true, otherwise 0: it permits to ignore
+                               no-store */
+  uint8_t is_public;        /* 1 if public is Boolean true, otherwise 0 */
 } sf_rules;
 
 /*

@@ -231,4 +231,7 @@ static const struct decision_row {
     {73, {"", ""},
      SF_SHARED_CACHE, {UINT64_C(0), 0, 0, 0}, DECISION_FALLBACK,
      {0, SF_REUSE_NOT_STORED, SF_BY_NO_STORE, 0, 0}},
+    {74, {"", "max-age=60, no-store, must-understand=1"},
+     SF_SHARED_CACHE, {UINT64_C(0), 0, 0, 1}, 1,
+     {0, SF_REUSE_NOT_STORED, SF_BY_NO_STORE, 0, 0}},
 };

@@ -22,7 +22,7 @@ use std::fmt;
 use std::hash::RandomState;
 
 /// Lines whose joined text is at most this long are joined on the stack.
-const SHORT: usize = 1024;
+const MAX_JOINED: usize = 1024;
 
 /// Why a consumer has no answer for field lines.
 ///
@@ -73,8 +73,8 @@ impl From<UseFault> for AskFault {
 
 /// Returns what the lines mean to a consumer by RFC 9651: parses them as its kind, as
 /// [`crate::parse_from`] does, and passes the value to [`Consumer::answer`]. If lines may be asked
-/// for ahead ([`crate::AskingCost`]), one line, or at most 16 whose joined text has at most
-/// 1 KiB, are passed to [`Consumer::answer_text_in`] before. Accepted lines have the meaning of
+/// for ahead ([`crate::AskingCost`]), one line, or at most 16 whose joined text has at most 1 KiB,
+/// are first passed to [`Consumer::answer_text_in`] as one text. Accepted lines have the meaning of
 /// their canonical text as one line. Out of memory for the answer is returned only if the value has
 /// an answer.
 ///
@@ -197,8 +197,8 @@ fn ask_text<C: Consumer>(
     ask_parsed(alloc, seed, dialect, consumer, text)
 }
 
-/// The same by the value that the text spells. It is not inlined, so that a text that is read
-/// without it doesn't pay for its stack.
+/// As [`ask_text`], by the value that the text spells. It is not inlined, so that a text that is
+/// read without the value doesn't pay for its stack.
 #[inline(never)]
 fn ask_parsed<C: Consumer>(
     alloc: Global,
@@ -215,7 +215,7 @@ fn ask_parsed<C: Consumer>(
 }
 
 /// Returns what two lines and those that remain mean. They are joined on the stack if they are few
-/// and short; otherwise what was joined and those behind it are parsed one by one.
+/// and short; otherwise what was joined and the lines after it are parsed one by one.
 #[inline(never)]
 fn ask_several<'a, C: Consumer, L: FieldLines<'a>>(
     alloc: Global,
@@ -233,7 +233,7 @@ fn ask_several<'a, C: Consumer, L: FieldLines<'a>>(
     ensures allocation_free { TakesNoMemory C.KIND (join (first.now ∷ second.now ∷ L.lines others))
         → ParsedOrRefused result }
 {
-    let mut buffer = [0; SHORT];
+    let mut buffer = [0; MAX_JOINED];
     if first.len() > buffer.len() {
         let read = parse_several(alloc, seed, dialect, C::KIND, first, second, others);
         return answer_read(alloc, consumer, read);

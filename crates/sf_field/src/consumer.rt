@@ -51,7 +51,8 @@ pub trait Consumer {
         ensures { Gives (meaning self.now field.now) result };
 
     /// Returns what a text of the kind [`Consumer::KIND`] means as the only line, if that can be
-    /// read without the field; `None` claims nothing, and [`crate::ask`] then parses the text.
+    /// read without the field; `None` says nothing about the text, and [`crate::ask`] then parses
+    /// the text.
     ///
     /// ```
     /// PriorityField.answer_text(alloc, b"u=1") // Some(answer), as `answer` gives it of the field
@@ -65,9 +66,10 @@ pub trait Consumer {
     }
 
     /// Returns what a text of the kind [`Consumer::KIND`] means in a dialect as the only line, if
-    /// that can be read without the field; `None` claims nothing. Unless an implementation has its
-    /// own, it is [`Consumer::answer_text`] by RFC 9651, and `None` by RFC 8941. An implementation
-    /// may not answer for a text that the dialect refuses, as one with a Date by RFC 8941.
+    /// that can be read without the field; `None` says nothing about the text. Unless an
+    /// implementation has its own, it is [`Consumer::answer_text`] by RFC 9651, and `None` by RFC
+    /// 8941. An implementation may not answer for a text that the dialect refuses, as one with a
+    /// Date by RFC 8941.
     ///
     /// ```
     /// PriorityField.answer_text_in(alloc, Dialect::Rfc8941, b"u=1, x=@1") // None

@@ -1,4 +1,4 @@
-//! Lines that are joined in a buffer of the caller, as far as they fit.
+//! Lines that are joined in the caller's buffer, as far as they fit.
 ghost use Rattle.std.specs.Prelude.{◌≡◌, ◌+◌, ◌≤◌, ◌++◌, ◌∷◌, length, take, true, IfSome, IfNone};
 ghost use Rattle.std.specs.Option.{option_copied};
 ghost use Rattle.sf_value.specs.Grammar.Lines.{join};
@@ -16,12 +16,12 @@ pub(crate) struct Joined<'a> {
     pub(crate) next: Option<&'a [u8]>,
 }
 
-/// How many lines are joined behind the first: a field that is refused early is not joined to its end
-/// before. Few fields have more lines.
+/// At most this many lines are joined to the first, so that a long field that is refused early
+/// isn't first joined to its end. Few fields have more lines.
 const LINES: usize = 15;
 
-/// Joins two lines and those that remain in the buffer, as far as they fit, but at most 16, and only
-/// up to an empty one: unless this is within a String, the field is refused there.
+/// Joins two lines and those that remain, in the buffer, as far as they fit. It joins at most 16,
+/// and none after an empty one: unless that is within a String, the field is refused there.
 pub(crate) fn join_prefix<'a, L: FieldLines<'a>>(
     buffer: &mut [u8],
     first: &[u8],
@@ -56,8 +56,8 @@ pub(crate) fn join_prefix<'a, L: FieldLines<'a>>(
     }
 }
 
-/// Puts a comma, a space and the line after so many bytes of the buffer, and returns the number of
-/// bytes with them; `None` if the buffer is too small.
+/// Puts a comma, a space and the line after the first `used` bytes of the buffer, and returns the
+/// number of bytes with them; `None` if the buffer is too small.
 fn put_line(buffer: &mut [u8], used: usize, line: &[u8]) -> Option<usize>
     requires { used ≤ length buffer.old }
     ensures within { IfSome result (λ n. n ≤ length buffer.new) }
@@ -72,7 +72,8 @@ fn put_line(buffer: &mut [u8], used: usize, line: &[u8]) -> Option<usize>
     Some(put(buffer, behind_comma, line))
 }
 
-/// Puts bytes after so many of the buffer, and returns the number of bytes with them.
+/// Puts bytes after the first `used` bytes of the buffer, and returns the number of bytes with
+/// them.
 fn put(buffer: &mut [u8], used: usize, bytes: &[u8]) -> usize
     requires { used + length bytes.now ≤ length buffer.old }
     ensures end { result ≡ used + length bytes.now }

@@ -44,7 +44,7 @@ pub trait AskingCost {
 /// A call that takes lines asks for the first one, and once a line was parsed for the next one.
 /// After a refusal it asks for no more. Only if asking is free ([`AskingCost::asking_is_free`]),
 /// lines are asked for ahead: [`parse_from`] asks for two before it parses the first, and
-/// [`crate::ask_from`] for at most 17, but after the first for none behind an empty one.
+/// [`crate::ask_from`] for at most 17, but for none after an empty line that is not the first.
 ///
 /// ```
 /// let lines: [&[u8]; 2] = [b"a, b", b"c"];

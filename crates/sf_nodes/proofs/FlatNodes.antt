@@ -264,7 +264,7 @@ parts_small start bytes (p ∷ ws) w h =
     let text = w.0.1 in
     ((omega arith, omega arith), parts_small start bytes ws w.1 h)
 
--- items that are put at the start of a buffer leave those behind them as they were
+-- items that are put at the start of a buffer leave those after them unchanged
 pub put_others : (bytes buffer new : List ℕ) (n : ℕ) → n ≡ length bytes
     → new ≡ bytes ++ drop (length bytes) buffer → drop n new ≡ drop n buffer
 put_others bytes buffer new n e put =

@@ -20,7 +20,7 @@ slice_at_length at count bytes h =
     let enough : count ≤ length (drop at bytes) = omega (arith, length-drop at bytes) in
     length-take-le count (drop at bytes) enough
 
--- those that come are behind them
+-- those that come are after them
 pub slice_at_last : (bytes more : List ℕ)
     → slice_at (length bytes) (length more) (bytes ++ more) ≡ more
 slice_at_last bytes more =

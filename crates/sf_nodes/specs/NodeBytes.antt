@@ -1,4 +1,4 @@
--- Where the bytes of a node are that follow a text.
+-- Where the bytes of a node are, if they follow a text.
 use Rattle.std.specs.Prelude.{◌≡◌, ℕ, ◌+◌, ◌≤◌, ◌⊎◌}
 use Rattle.sf_view.specs.declared.node.Node.{Node}
 

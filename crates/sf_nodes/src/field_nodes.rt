@@ -104,7 +104,7 @@ impl<'a> FieldNodes<'a> {
     }
 }
 
-/// The nodes of a text that the scanner accepts; `None` claims nothing.
+/// The nodes of a text that the scanner accepts; `None` says nothing about the text.
 fn scan_nodes(
     alloc: Global,
     dialect: Dialect,

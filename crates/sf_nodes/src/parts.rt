@@ -137,7 +137,7 @@ impl Flat {
         requires small { start + content_size self.now < 2 ^ 32 }
         ensures same_nodes { length nodes.new ≡ length nodes.old }
         ensures same_bytes { length bytes.new ≡ length bytes.old }
-        // What is behind them in the buffers is unchanged.
+        // What comes after them in the buffers is unchanged.
         ensures other_nodes { drop (length self.now) nodes.new ≡ drop (length self.now) nodes.old }
         ensures other_bytes { drop (content_size self.now) bytes.new
             ≡ drop (content_size self.now) bytes.old }

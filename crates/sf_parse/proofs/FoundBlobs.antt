@@ -94,7 +94,7 @@ small_size (H3 x y z) = omega arith
 over_is : (n groups last : ℕ) → n ≡ 4 * groups + last → last < 4 → last ≡ n % 4
 over_is n groups last e h = omega arith
 
--- the end of a Byte Sequence: a colon, one behind =, or one behind two
+-- the end of a Byte Sequence: a colon, after no, one or two =
 pub closes_now : (over : ℕ) (text more : List ℕ) (b : ℕ) → text ≡ b ∷ more → b ≡ 58
     → (over ≡ 1 → ⊥) → ClosesBlob over text more
 closes_now over text more b e f n bytes H0 h = record { taken = 58 ∷ []; split = cc; leads = refl }

@@ -266,7 +266,7 @@ module _ (d : Dialect) where
       (value_marks ps key t x.expected x.may_end m k))
       (λ t k. g ∙ k ∙ sym (some_then (put ps key) (bare_finish t))) h)
 
-  -- a key after a semicolon, and what may be behind it
+  -- a key after a semicolon, and what may come after it
   pub keyed_goes : (ps : Pairs Bare) (text named key after : List ℕ) → Behind is_sp text named
       → named ≡ key ++ after → IsKey key
       → Goes (params_step d) (Opened ps) text after (InParamKey ps key)
@@ -367,7 +367,7 @@ module _ (d : Dialect) where
       (stop_more (member_step d) MemberEnds between closed (41 ∷ after) after x
       (goes_one (member_step d) between closed 41 after refl) h)
 
-  -- behind the closing bracket
+  -- after the closing bracket
   pub behind_stop : (after : List ℕ) (is : List Item) (x : Stop) → x.left.now ≡ after
       → x.expected ≡ 2 ^ 59 → x.may_end ≡ true
       → StopsAt (member_step d) MemberEnds (InMany (Closing is (Between []))) after x
@@ -430,7 +430,7 @@ module _ (d : Dialect) where
       (λ t m k. subst (λ z. MarksStep z (member_step d (InMany (InItem is t)))) (sym f)
       (within_marks is t x.expected x.may_end m k)) (λ t k. g) h
 
-  -- what is behind the key of a Dictionary's member
+  -- what comes after the key of a member of a Dictionary
   pub key_stop : (text key after : List ℕ) (x : Stop) → text ≡ key ++ after → IsKey key
       → StopsAt (entry_step d) EntryEnds (InKey key) after x
       → StopsIn entry_start (entry_step d) EntryEnds text x
@@ -633,7 +633,7 @@ module _ (d : Dialect) where
   ends_item t i e =
       rw (is_none (item_step d t 32) (λ u n. item_apart d t i 32 u e n refl), e) refl
 
-  -- behind a whole Item, after a space and those after it
+  -- after a whole Item and one or more spaces
   pub left_behind_item : (text more end : List ℕ) (i : Item) (whole : ℕ) (e : Refusal)
       → ReadsAs (SpellsItem d) text i (32 ∷ more) → Behind is_sp more end
       → RefusesLeft (2 ^ 32) true end (whole - length end) e

@@ -191,7 +191,7 @@ module _ {S X V : Type 0} (first : ℕ → Option S) (next : S → ℕ → Optio
       taken_so_far old chunk rest is_whole p new s
       (subst (λ y. Goes Next old chunk rest (series_of p y s)) (sym e) a)
 
-  -- a member and what is behind it
+  -- a member and what comes after it
   pub member_taken : (p q : SeriesPhase) (given new : V) (s : S) (is_whole : Bool)
       (text after rest : List ℕ) (x : X) → MayBegin none p given → IsWhole text x after
       → new ≡ with given x → IsBehindMember is_whole after q rest

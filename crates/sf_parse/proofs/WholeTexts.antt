@@ -166,7 +166,7 @@ pub item_begins : (d : Dialect) (text inside : List ℕ) → Behind is_sp text i
 item_begins d text inside b =
     stay_goes (step d) is_sp BeforeItem b.prefix inside text (space_before d) b.split b.each
 
--- no more is left behind an Item and spaces than there was
+-- what is left after an Item and spaces is no longer than the text
 pub item_left : (d : Dialect) (text inside more end : List ℕ) (i : Item) → Behind is_sp text inside
     → ReadsAs (SpellsItem d) inside i (32 ∷ more) → Behind is_sp more end
     → length end ≤ length text

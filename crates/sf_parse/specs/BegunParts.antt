@@ -1,4 +1,4 @@
--- Whole parts of a member that was begun: where the machine goes by them.
+-- Whole parts of a member that was begun, and the states to which they lead the machine.
 use Rattle.std.specs.Prelude.{◌≡◌, ℕ, List, [], ◌∷◌, ◌++◌, Some, None}
 use Rattle.sf_value.specs.Ascii.{semicolon}
 use Rattle.sf_value.specs.declared.dialect.Dialect.{Dialect}
@@ -20,7 +20,7 @@ LeadsBy d (parts.Inner is None) from left =
 LeadsBy d (parts.Inner is (Some ps)) from left =
     Goes (member_step d) (InMany (BetweenItems [])) from left (InMany (Closing is (Opened ps)))
 
--- the same of parts that know where they are
+-- the same, for parts with their place in the text
 abbrev pub IsBegun : Dialect → Begun → Type 0
 IsBegun d b = LeadsBy d b.parts b.from.now b.left.now
 

@@ -28,7 +28,8 @@ pub record StopsIn {S : Type 0} (first : ℕ → Option S) (next : S → ℕ →
   pub starts : first byte ≡ Some begun
   pub stops : StopsAt next ends begun more x
 
--- the refusal of the first byte of what is left, or of its end, where only these bytes may come
+-- the refusal at the first byte of what is left, or at the end if nothing is left, if only these bytes
+-- may come
 pub record RefusesLeft (expected : ℕ) (may_end : Bool) (left : List ℕ) (place : ℕ) (e : Refusal)
     : Type 0 where
   pub blocked : FirstIs (λ b. b < 128 → bit_at expected b ≢ 1) left

@@ -49,7 +49,7 @@ pub record PutsParam (d : Dialect) (text : List ℕ) (old new : Pairs Bare) (res
   pub reads : ReadsParam d text key value rest
   pub added : new ≡ put old key value
 
--- behind an Item of an Inner List are a space and those after it, or the closing bracket
+-- after an Item of an Inner List come one or more spaces, or the closing bracket
 abbrev pub IsBehindItem : List ℕ → BehindItems → Type 0
 IsBehindItem text (behind.Open rest) =
     (more : List ℕ) × (text ≡ space ∷ more) × Behind is_sp more rest.now

@@ -1,12 +1,12 @@
-//! What comes near the beginning of a text: it decides whether a part is read directly, or left to
-//! the levels. That only saves time, so nothing is claimed of it.
+//! Looking ahead near the beginning of a text, to decide whether a part is read directly or left to
+//! the levels. That only saves time, and no proof relies on it.
 ghost use Rattle.std.specs.Prelude.{◌≤◌, length};
 
-use crate::whole_bare::behind;
 use memchr::{memchr, memchr2, memchr3};
+use sf_value::classes::behind;
 
-/// How many bytes of a text are searched. A text that is refused early is so not searched to its end
-/// before.
+/// At most this many bytes of a text are searched, so that a long text that is refused early isn't
+/// first searched to its end.
 const NEAR: usize = 1024;
 
 /// The bytes of a text that are searched.
@@ -24,14 +24,14 @@ pub fn has(text: &[u8], byte: u8) -> bool {
     memchr(byte, head(text)).is_some()
 }
 
-/// Whether this byte may come in a text: it is near the beginning, or not all of the text was
-/// searched.
+/// Whether a text may have this byte: it has it near its beginning, or is too long to be searched
+/// to its end.
 #[inline]
 pub fn may_have(text: &[u8], byte: u8) -> bool {
     text.len() > NEAR || has(text, byte)
 }
 
-/// What is left from this byte on, if it is near the beginning of a text.
+/// The text from the first such byte on, if that is near the beginning.
 #[inline]
 pub fn from_near(text: &[u8], byte: u8) -> Option<&[u8]> {
     let place = memchr(byte, head(text))?;
@@ -39,13 +39,15 @@ pub fn from_near(text: &[u8], byte: u8) -> Option<&[u8]> {
     Some(from)
 }
 
-/// How many bytes of an Inner List, and fewer, are searched for its closing bracket.
-const SHORT: usize = 8;
+/// What follows an opening bracket is searched for the closing one only if it has at most this many
+/// bytes.
+const SEARCHED_INSIDE: usize = 8;
 
-/// Whether an Inner List may be closed in a text, after its opening bracket. Only a short text is
-/// searched: in a longer one there is enough to read before it ends.
+/// Whether an Inner List may be closed in this text, which follows its opening bracket. Only a
+/// short text is searched: in a longer one there is enough to read directly even if it isn't
+/// closed.
 pub fn may_close(inside: &[u8]) -> bool {
-    if inside.len() > SHORT {
+    if inside.len() > SEARCHED_INSIDE {
         return true;
     }
     for byte in inside {
@@ -56,12 +58,12 @@ pub fn may_close(inside: &[u8]) -> bool {
     false
 }
 
-/// How many commas, or spaces and brackets, are looked at. Behind as many Strings with one, what is
-/// looked for is not found: a text that is refused early may have many.
+/// How many commas, or spaces and brackets, are looked at. If all of these are within Strings, the
+/// search gives up: a text that is refused early may have many more.
 const STRINGS: usize = 4;
 
-/// Whether a comma comes near the beginning of a text, outside of quotes. A member of a chunk that is
-/// not followed by one is left to the levels, since it would be read again.
+/// Whether there is a comma near the beginning of a text, outside Strings. A member of a chunk is
+/// left to the levels if no comma follows it, since it would have to be read again.
 pub fn has_comma(text: &[u8]) -> bool {
     let mut rest = head(text);
     for _ in 0..STRINGS {
@@ -79,8 +81,8 @@ pub fn has_comma(text: &[u8]) -> bool {
     false
 }
 
-/// Whether a space comes near the beginning of a text, before a comma and a closing bracket, outside
-/// of quotes. An Item of a chunk that is not followed by it is left to the levels.
+/// Whether there is a space near the beginning of a text, outside Strings, and no comma or closing
+/// bracket before it. An Item of a chunk is left to the levels if no such space follows it.
 pub fn has_space(text: &[u8]) -> bool {
     let mut rest = head(text);
     for _ in 0..STRINGS {
@@ -98,8 +100,8 @@ pub fn has_space(text: &[u8]) -> bool {
     false
 }
 
-/// What is left of a text from this place on, or behind the String that the place is in. None if that
-/// is not known: the String does not end, or there is a backslash, which may be before a quote.
+/// The text from this place on or, if the place is within a String, after that String. None if that
+/// is not known: the String does not end, or there is a backslash, which may escape a quote.
 fn outside_of_quotes(text: &[u8], place: usize) -> Option<&[u8]>
     requires { place ≤ length text.now }
 {
@@ -117,7 +119,7 @@ fn outside_of_quotes(text: &[u8], place: usize) -> Option<&[u8]>
 }
 
 /// Whether there is an odd number of quotes in these bytes, and whether there is a backslash. The
-/// compiler tests them in vectors.
+/// compiler vectorises the loop.
 fn quotes(bytes: &[u8]) -> (bool, bool) {
     let mut odd = 0u8;
     let mut escapes = 0u8;

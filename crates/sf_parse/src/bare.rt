@@ -223,7 +223,7 @@ impl Level for BareReader {
     #[inline(always)]
     fn turn(&mut self, _context: &Context, byte: u8) -> Result<bool, OutOfMemory> {
         match self.kind {
-            // Its run is as long as possible.
+            // The run of a number is as long as possible, so the number can't continue.
             BareKind::Number => return Ok(false),
             BareKind::Boolean => return Ok(self.boolean.step(byte)),
             BareKind::Date => return Ok(self.date.step(byte)),

@@ -1,5 +1,6 @@
-//! Parts of a member, or of the Item of a text, that were read directly before a part that is not
-//! whole. They are kept, and its reader, or its refusal, goes on behind them.
+//! Parts of a member, or of the Item that is a text, that were read directly before a part that is
+//! not whole in the text. They are kept, so that the reader of the member, or the search for where
+//! it is refused, goes on after them instead of reading them again.
 ghost use Rattle.std.specs.Prelude.{◌≡◌, Some, None, IfSome};
 ghost use Rattle.sf_value.specs.declared.dialect.Dialect.{Dialect};
 ghost use Rattle.sf_value.specs.Grammar.Parameters.{SpellsParams};
@@ -7,9 +8,12 @@ ghost use Rattle.sf_parse.specs.BegunParts.{IsBegunAt, IsBegunParams, LeadsBy};
 ghost use Rattle.sf_parse.specs.WholeParts.{ReadsAs};
 ghost use Rattle.sf_parse.specs.declared.begun.Parts.TheVariants as parts_are;
 
-use crate::whole_bare::behind;
-use crate::whole_parts::WHOLE_PARTS;
+use sf_value::classes::behind;
 use sf_value::{Bare, Entries, Item, Sequence};
+
+/// Whole parts are looked for only in chunks of at least this many bytes. A smaller chunk seldom
+/// has a whole part and what follows it, and would take more time.
+pub const WHOLE_PARTS: usize = 64;
 
 /// The whole parts of a member.
 #[derive(Drop)]
@@ -34,7 +38,7 @@ pub struct Begun<'a> {
     pub left: &'a [u8],
 }
 
-/// The parameters that a text begins with, up to the rest, if another one is begun after them.
+/// The parameters that a text begins with, up to the rest, if a semicolon begins another one there.
 pub fn begun_params<'a>(text: &'a [u8], params: Entries<Bare>, rest: &'a [u8]) -> Option<Begun<'a>>
     ensures { IfSome result (λ b. (d : Dialect)
         → ReadsAs (SpellsParams d) text.now params rest.now → IsBegunParams d text.now b) }
@@ -48,14 +52,14 @@ pub fn begun_params<'a>(text: &'a [u8], params: Entries<Bare>, rest: &'a [u8]) -
     })
 }
 
-/// Whether a reader saves by these parameters what it costs to keep them: not if there are none, and so
-/// little is left that nothing more is read directly. Nothing is claimed of it.
+/// Whether keeping these parameters saves a reader more than it costs: not if there are none, and
+/// so little is left that nothing more is read directly. No proof relies on it.
 #[inline(always)]
 pub fn are_worth_keeping(params: &Entries<Bare>, rest: &[u8]) -> bool {
     !params.is_empty() || rest.len() >= WHOLE_PARTS
 }
 
-/// Keeps these parameters, if they are worth it. Only then this costs a call.
+/// Keeps these parameters, if they are worth it. It costs a call only then.
 #[inline(always)]
 pub fn keep_params<'a>(
     begun: &mut Option<Begun<'a>>,
@@ -73,8 +77,8 @@ pub fn keep_params<'a>(
     keep_some_params(begun, text, params, rest);
 }
 
-/// As [`keep_params`]. It is not inlined, nor are the next three: a function in which they were would
-/// clear memory for the parts, whether they are kept or not.
+/// As [`keep_params`]. It is not inlined, nor are the next three: a function that they were inlined
+/// into would clear stack for the parts even if they are not kept.
 #[inline(never)]
 fn keep_some_params<'a>(
     begun: &mut Option<Begun<'a>>,
@@ -88,8 +92,8 @@ fn keep_some_params<'a>(
     *begun = begun_params(text, params, rest);
 }
 
-/// Keeps the Items of an Inner List after its opening bracket. If there are none, and so little is left
-/// that nothing more is read directly, there is nothing to keep. Only then this costs no call.
+/// Keeps the Items of an Inner List, read after its opening bracket. If there are none, and so
+/// little is left that nothing more is read directly, it keeps nothing and costs no call.
 #[inline(always)]
 pub fn keep_items<'a>(
     begun: &mut Option<Begun<'a>>,

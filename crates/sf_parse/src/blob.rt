@@ -58,7 +58,8 @@ impl BlobPhase {
         }
     }
 
-    /// A byte that is no character: the open group is the last one, or the byte is not taken.
+    /// Takes a byte that is no character of base64 and ends the last group, or reports that it
+    /// can't come after the open group.
     fn end_group(
         &mut self,
         held: Held,
@@ -177,8 +178,8 @@ impl BlobPhase {
     }
 }
 
-/// The bytes of a whole Byte Sequence, of which this is the text after its opening colon, with its
-/// closing one; None if an allocation fails. It is not inlined: each caller would clear what it needs.
+/// Decodes a whole Byte Sequence, given as its text after the opening colon, with the closing one;
+/// None if an allocation fails. It is not inlined: each caller would clear the stack that it needs.
 #[inline(never)]
 pub fn decode(context: &Context, text: &[u8]) -> Option<ShortBytes>
     requires { EndsBlob text.now }
@@ -241,7 +242,7 @@ fn decode_groups<'a>(chunk: &'a [u8], block: &mut [u8; BLOCK]) -> (usize, &'a [u
     (count, rest)
 }
 
-/// Takes whole groups, after a whole one, with one growth of the buffer for each block.
+/// Takes whole groups, if no group is open, and lets the buffer grow once for each block.
 fn take_groups<'a>(bytes: &mut ShortBytes, chunk: &'a [u8]) -> Result<&'a [u8], OutOfMemory>
     // The bytes before the rest lead the machine from the old state to the new one.
     ensures { IfOk result (λ rest. Goes blob_step (Group bytes.old H0) chunk.now rest.now
@@ -252,7 +253,7 @@ fn take_groups<'a>(bytes: &mut ShortBytes, chunk: &'a [u8]) -> Result<&'a [u8], 
         let mut block = [0; BLOCK];
         let (count, more) = decode_groups(rest, &mut block);
         bytes.extend(&block[..count])?;
-        // A block that has room for another group is the last one.
+        // A block with space for another group is the last one.
         if count + 3 <= BLOCK || more.len() >= rest.len() {
             return Ok(more);
         }
@@ -261,7 +262,7 @@ fn take_groups<'a>(bytes: &mut ShortBytes, chunk: &'a [u8]) -> Result<&'a [u8], 
     Ok(rest)
 }
 
-/// One more character of the open group.
+/// Adds a character of this value to the open group.
 fn grow(held: Held, bytes: &mut ShortBytes, value: u8) -> Result<Held, OutOfMemory>
     // The values of the open group are below 64.
     requires held { FitsHeld held }
@@ -291,7 +292,7 @@ fn expected_pad(more: u8) -> u128
     COLON | set_if(more > 0, EQUALS)
 }
 
-/// The bytes that may follow an open group, other than characters.
+/// The bytes that may follow an open group, other than characters of base64.
 fn expected_end(held: Held) -> u128
     // The bits are those of the bytes that may come if this group is the last one.
     ensures { (bytes : List ℕ) → MarksStep result (end_step bytes (held_of held)) }

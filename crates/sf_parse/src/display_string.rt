@@ -128,8 +128,8 @@ impl ShownPlace {
         }
     }
 
-    /// Takes unescaped bytes and whole escapes, many with one growth of the buffer, and returns the
-    /// rest.
+    /// Takes unescaped bytes and whole escapes, letting the buffer grow once for many, and returns
+    /// the rest.
     pub fn take_run<'a>(
         &mut self,
         bytes: &mut ShortBytes,
@@ -289,7 +289,7 @@ fn read_escapes<'a>(
     (count, chars, rest)
 }
 
-/// Takes whole escapes, with one growth of the buffer for each block, and returns the rest.
+/// Takes whole escapes, letting the buffer grow once for each block, and returns the rest.
 fn take_escapes<'a>(
     chars: &mut Utf8State,
     bytes: &mut ShortBytes,

@@ -102,7 +102,8 @@ impl EntryReader {
                 given.set(key, member)?;
             }
             EntryPhase::InFlag => {
-                // After a failure the member need not be a flag, as this phase requires.
+                // This phase requires that the member is a flag, which need not hold after a
+                // failure.
                 self.phase = EntryPhase::InMemberValue;
                 let Some(member) = self.member.finish(context)? else {
                     self.phase = EntryPhase::InFlag;
@@ -141,7 +142,8 @@ impl Level for EntryReader {
             EntryPhase::Equals => return Ok(chunk),
             EntryPhase::InMemberValue => return self.member.take(context, chunk),
             EntryPhase::InFlag => {
-                // After a failure the member need not be a flag, as this phase requires.
+                // This phase requires that the member is a flag, which need not hold after a
+                // failure.
                 self.phase = EntryPhase::InMemberValue;
                 let rest = self.member.take(context, chunk)?;
                 self.phase = EntryPhase::InFlag;
@@ -155,7 +157,8 @@ impl Level for EntryReader {
             EntryPhase::InKey | EntryPhase::Equals => return false,
             EntryPhase::InMemberValue => return self.member.resume(context, begun),
             EntryPhase::InFlag => {
-                // While parts are put, the member need not be a flag, as this phase requires.
+                // This phase requires that the member is a flag, which need not hold while parts
+                // are put.
                 self.phase = EntryPhase::InMemberValue;
                 let resumed = self.member.resume(context, begun);
                 self.phase = EntryPhase::InFlag;
@@ -170,7 +173,8 @@ impl Level for EntryReader {
             EntryPhase::InKey | EntryPhase::Equals => return Ok(false),
             EntryPhase::InMemberValue => return self.member.push(context, byte),
             EntryPhase::InFlag => {
-                // After a failure the member need not be a flag, as this phase requires.
+                // This phase requires that the member is a flag, which need not hold after a
+                // failure.
                 self.phase = EntryPhase::InMemberValue;
                 let took = self.member.push(context, byte)?;
                 self.phase = EntryPhase::InFlag;

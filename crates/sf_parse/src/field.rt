@@ -43,8 +43,9 @@ use crate::series::{
 };
 use crate::sets::{SPACE, set_if};
 use crate::stop::{refuse_left, stop_in_item};
-use crate::whole_bare::{behind, ends, needs_reader, read_bare};
+use crate::whole_bare::{needs_reader, read_bare};
 use crate::whole_parts::{Owner, behind_spaces, read_params};
+use sf_value::classes::{behind, ends};
 use sf_value::{Bare, Dict, Entries, Item, List, Member, OutOfMemory, Sequence};
 
 /// The members of a List that are being read.
@@ -171,7 +172,7 @@ impl WholeField for DictReader {
 /// A field of one kind that is parsed from a whole text.
 pub trait WholeText: WholeField {
     /// The field of this kind that the text spells, or the exact refusal of the text. What is whole
-    /// in the text is read without a reader.
+    /// in the text is read directly, without a reader.
     fn parse(context: &Context, text: &[u8]) -> Result<Self::Whole, Refusal>
         // The text spells only this value, or this is its exact refusal; otherwise an allocation
         // failed.
@@ -278,8 +279,8 @@ impl WholeText for DictReader {
     }
 }
 
-/// Reads the text of an Item, after spaces, which begins with no leaf: a bare item that only its
-/// reader reads, or a mistake.
+/// Reads the text of an Item, after spaces, that begins with no leaf: it begins with a bare item
+/// that only its reader reads, or it is malformed.
 #[inline(never)]
 fn read_other_item(context: &Context, text: &[u8], inside: &[u8]) -> Result<Item, Refusal>
     requires { Behind is_sp text.now inside.now }
@@ -300,9 +301,9 @@ fn read_other_item(context: &Context, text: &[u8], inside: &[u8]) -> Result<Item
     refuse_or_read_item(context, text, inside)
 }
 
-/// Refuses the text of an Item, after spaces, at what is left behind the bare item that was found, its
-/// parameters and a space: only spaces may come there. The bare item is built before, as the levels do
-/// at the space: if there is no memory for it, the text is read by its reader.
+/// Refuses the text of an Item after the bare item that was found, its parameters and a space: only
+/// spaces may follow. The bare item is built first, as the levels do at the space; if there is no
+/// memory for it, the text is read by its reader.
 #[inline(never)]
 fn refuse_behind_item(
     context: &Context,
@@ -313,7 +314,7 @@ fn refuse_behind_item(
 ) -> Result<Item, Refusal>
     requires inside { Behind is_sp text.now inside.now }
     requires leaf { IsLeaf leaf }
-    // The text begins with an Item, and behind it are a space and what is left.
+    // The text begins with an Item, and after it come a space and what is left.
     requires item { (item : Item) × ReadsAs (SpellsItem context.now.dialect) inside.now item
         (space ∷ more.now) }
     ensures parses { Makes field_is.Item (Parses context.now.dialect kind_is.Item text.now) result }
@@ -341,8 +342,8 @@ fn refuse_or_read_item(context: &Context, text: &[u8], inside: &[u8]) -> Result<
     }
 }
 
-/// Reads the text of an Item, after spaces, by its reader. It is not inlined, nor are the others with
-/// a reader: a text that needs none would pay for clearing it.
+/// Reads the text of an Item, after spaces, by its reader. It is not inlined, nor are the other
+/// functions with a reader: a text that needs none would pay for clearing its stack.
 #[inline(never)]
 fn read_item_field(context: &Context, text: &[u8], inside: &[u8]) -> Result<Item, Refusal>
     requires { Behind is_sp text.now inside.now }
@@ -353,8 +354,8 @@ fn read_item_field(context: &Context, text: &[u8], inside: &[u8]) -> Result<Item
     read_rest_of_item(&mut field, context, text, inside)
 }
 
-/// Reads what is left of the text of an Item. It is not inlined: all that it calls is, and two
-/// functions call it.
+/// Reads what is left of the text of an Item. It is not inlined, since two functions call it, and
+/// all that it calls is inlined in it.
 #[inline(never)]
 fn read_rest_of_item(
     field: &mut ItemFieldReader,
@@ -371,7 +372,7 @@ fn read_rest_of_item(
     read_rest(field, context, text, left)
 }
 
-/// As [`read_item_field`], where parameters of the Item were read.
+/// As [`read_item_field`], if parameters of the Item were read.
 #[inline(never)]
 fn read_begun_item<'a>(
     context: &Context,
@@ -400,9 +401,10 @@ fn read_begun_item<'a>(
     read_rest_of_item(&mut field, context, text, left)
 }
 
-/// The refusal of the text of an Item, after spaces, in a text of this length: of a byte of the Item
-/// or behind it, or of the end. None claims nothing: the text is then read by a reader, as where a
-/// semicolon or a space is behind what was not put or built, since an allocation failed.
+/// The refusal of the text of an Item, after spaces, in a text of this length: at a byte of the
+/// Item or after it, or at the end. None says nothing about the text, which is then read by a
+/// reader. That is so if a semicolon or a space follows a part that was not put or built, since an
+/// allocation failed.
 #[inline(always)]
 fn refuse_item<'a>(
     context: &Context,

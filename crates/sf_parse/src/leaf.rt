@@ -13,9 +13,8 @@ use crate::blob::decode;
 use crate::context::Context;
 use crate::number::{Number, NumberReader};
 use crate::text::unescape;
-use crate::whole_bare::{behind, split};
 use memchr::memchr;
-use sf_value::classes::{Base64, InToken, Unescaped, long_prefix};
+use sf_value::classes::{Base64, InToken, Unescaped, behind, long_prefix, split};
 use sf_value::{Bare, Blob, ShortBytes, Text, Token, can_start_token};
 
 /// A bare item of a text. Dates and Display Strings are none of these, nor are long Byte Sequences
@@ -38,7 +37,7 @@ pub enum Leaf<'a> {
     Escaped(&'a [u8]),
 }
 
-/// The bare item that a text begins with, and the rest. None claims nothing.
+/// The bare item that a text begins with, and the rest. None says nothing about the text.
 #[inline(always)]
 pub fn find_leaf(text: &[u8]) -> Option<(Leaf<'_>, &[u8])>
     ensures leaf { IfSome result (λ r. IsLeaf r.0) }
@@ -64,30 +63,29 @@ pub fn find_leaf(text: &[u8]) -> Option<(Leaf<'_>, &[u8])>
         return Some((Leaf::Boolean(holds), rest));
     }
     if first == b':' {
-        // In parts, as in `read_bare`.
+        // Taken apart, as in `read_bare`.
         let (found, rest) = find_blob(more)?;
         return Some((Leaf::Blob(found), rest));
     }
     None
 }
 
-/// How many bytes before the first escape of a String that is found, and how many from it on to the
-/// last one.
+/// A String with escapes is found only if at most this many bytes are before the first escape, and
+/// at most this many from there to the last one.
 const NEAR_ESCAPES: usize = 32;
 
-/// Whether a String, after its opening quote, has an escape and so much more that it is not found:
-/// its reader reads it, which finds its escapes and decodes them in one pass. Nothing is claimed of
-/// it.
+/// Whether a String, after its opening quote, has an escape and is so long that it is not found:
+/// its reader finds the escapes and decodes them in one pass. No proof relies on it.
 #[inline]
 pub fn is_escaped_far(text: &[u8]) -> bool {
     let (run, stop) = long_prefix::<Unescaped>(text);
     behind(stop, b'\\').is_some() && (run.len() > NEAR_ESCAPES || stop.len() > NEAR_ESCAPES)
 }
 
-/// The String that a text begins with after its quote, and the rest. None claims nothing. Of one that
-/// is broken off or bad, no byte is looked at behind the place where it is refused, and what is open in
-/// a chunk is not looked for in the next one: so however long it is, finding it is little beside
-/// reading it.
+/// The String that a text begins with after its quote, and the rest. None says nothing about the
+/// text. If the String is cut off or malformed, no byte after the place where it is refused is
+/// looked at, and if it is open at the end of a chunk, its end is not searched in the next one. So
+/// however long it is, finding it costs little beside reading it.
 #[inline(always)]
 fn find_string(text: &[u8]) -> Option<(Leaf<'_>, &[u8])>
     ensures leaf { IfSome result (λ r. IsLeaf r.0) }
@@ -105,9 +103,9 @@ fn find_string(text: &[u8]) -> Option<(Leaf<'_>, &[u8])>
     Some((Leaf::Escaped(found), rest))
 }
 
-/// The String that a text begins with after its quote, with its closing one, and the rest. `stop` is
-/// what is left behind its first bytes that are not escaped. None claims nothing. It is not inlined,
-/// so that a String without an escape doesn't pay for it.
+/// The String that a text begins with after its quote, with its closing one, and the rest. `stop`
+/// is what is left after its first unescaped bytes. None says nothing about the text. It is not
+/// inlined, so that a String without an escape doesn't pay for it.
 #[inline(never)]
 fn find_escaped<'a>(text: &'a [u8], stop: &'a [u8]) -> Option<(&'a [u8], &'a [u8])>
     requires { IsInText text.now stop.now }
@@ -127,7 +125,7 @@ fn find_escaped<'a>(text: &'a [u8], stop: &'a [u8]) -> Option<(&'a [u8], &'a [u8
     Some(text.split_at(text.len() - end.len()))
 }
 
-/// The rest after a byte that may be escaped. None claims nothing.
+/// The rest after a byte that may be escaped. None says nothing about the text.
 #[inline(always)]
 fn behind_escaped(text: &[u8]) -> Option<&[u8]>
     ensures { IfSome result (λ rest. BeginsEscaped text.now rest.now) }
@@ -140,9 +138,10 @@ fn behind_escaped(text: &[u8]) -> Option<&[u8]>
 }
 
 /// The Byte Sequence that a text begins with after its opening colon, with its closing one, and the
-/// rest. None claims nothing. Of one that is broken off or bad, no byte is looked at behind the place
-/// where it is refused, so however long it is, finding it is little beside reading it. It is not
-/// inlined, so that what is no Byte Sequence doesn't pay for its constants.
+/// rest. None says nothing about the text. If the Byte Sequence is cut off or malformed, no byte
+/// after the place where it is refused is looked at. So however long it is, finding it costs little
+/// beside reading it. It is not inlined, so that other bare items don't pay for loading its
+/// constants.
 #[inline(never)]
 fn find_blob(text: &[u8]) -> Option<(&[u8], &[u8])>
     ensures split { IfSome result (λ r. text.now ≡ r.0.now ++ r.1.now) }
@@ -156,12 +155,11 @@ fn find_blob(text: &[u8]) -> Option<(&[u8], &[u8])>
     Some(text.split_at(text.len() - rest.len()))
 }
 
-/// How many characters of a Byte Sequence are found, and fewer.
+/// The most characters of a Byte Sequence that is found.
 const SHORT_BLOB: usize = 96;
 
 /// Whether a Byte Sequence, after its opening colon, is longer than those that are found: its
-/// reader reads it, which finds its characters and decodes them in one pass. Nothing is claimed of
-/// it.
+/// reader tests its characters and decodes them in one pass. No proof relies on it.
 #[inline]
 pub fn is_long_blob(text: &[u8]) -> bool {
     if text.len() <= SHORT_BLOB {
@@ -172,7 +170,7 @@ pub fn is_long_blob(text: &[u8]) -> bool {
 }
 
 /// The rest after the padding and the colon of a Byte Sequence whose last group has `over`
-/// characters. None claims nothing.
+/// characters. None says nothing about the text.
 #[inline(always)]
 fn behind_pads(over: usize, text: &[u8]) -> Option<&[u8]>
     requires { over < 4 }

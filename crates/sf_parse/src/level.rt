@@ -39,8 +39,8 @@ pub trait Level {
             → IsOk result };
 
     /// Takes a byte with which the part that is open can't continue, or returns false, and is
-    /// unchanged, if the level can't either. Each is inlined: a call for each turn would take a
-    /// sixth more instructions for a List of short members.
+    /// unchanged, if the level can't either. Each implementation is inlined: with a call for each
+    /// turn, a List of short members would take a sixth more instructions.
     fn turn(&mut self, context: &Context, byte: u8) -> Result<bool, OutOfMemory>
         // A byte that the part can't take leads to the next state, or it can't and the state is
         // unchanged.
@@ -70,8 +70,8 @@ pub trait Level {
     fn may_end(&self) -> bool
         ensures { result ≡ ends self.now };
 
-    /// Puts parts where the level is about to read the first of them. Where it is not, it returns
-    /// false and changes nothing.
+    /// Takes over parts that were begun, if the level is about to read the first of them; otherwise
+    /// returns false and changes nothing.
     fn resume(&mut self, context: &Context, begun: Begun<'_>) -> bool
         requires { IsBegun context.now.dialect begun }
         // The bytes of the parts lead to the new state.
@@ -165,7 +165,8 @@ pub trait Level {
         let left = begun.left;
         let (front, _) = text.split_at(text.len() - from.len());
         let rest = self.take(context, front)?;
-        // The bytes before whole parts are taken, and so are the parts; neither is proved.
+        // In fact all bytes before the parts are taken, and so are the parts, but neither is
+        // proved.
         if !rest.is_empty() {
             let (_, rest) = text.split_at(front.len() - rest.len());
             return Ok(rest);

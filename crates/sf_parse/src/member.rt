@@ -128,7 +128,8 @@ impl MemberReader {
                 self.items = items;
             }
             Parts::Inner(items, params) => {
-                // The item need not be in parameters yet, as the phase after the bracket requires.
+                // The phase after the bracket requires that the item is in parameters, which need
+                // not hold yet.
                 self.phase = MemberPhase::BetweenItems;
                 self.items = items;
                 match params {
@@ -153,7 +154,8 @@ impl MemberReader {
         match self.phase {
             MemberPhase::One | MemberPhase::BetweenItems | MemberPhase::InItem => return Ok(None),
             MemberPhase::Closing => {
-                // After a failure the item need not be in parameters, as this phase requires.
+                // This phase requires that the item is in parameters, which need not hold after a
+                // failure.
                 self.phase = MemberPhase::BetweenItems;
                 let Some(params) = self.item.finish_params(context)? else {
                     self.phase = MemberPhase::Closing;
@@ -250,14 +252,15 @@ impl Level for MemberReader {
         match self.phase {
             MemberPhase::BetweenItems => {
                 let (_, items) = short_prefix::<Space>(chunk);
-                // In parts: see `FieldState::take_run`.
+                // Taken apart: see `FieldState::take_run`.
                 let rest = add_items(context, items, &mut self.items)?;
                 return Ok(rest);
             }
             MemberPhase::One => return self.item.take(context, chunk),
             MemberPhase::InItem => return self.item.take(context, chunk),
             MemberPhase::Closing => {
-                // After a failure the item need not be in parameters, as this phase requires.
+                // This phase requires that the item is in parameters, which need not hold after a
+                // failure.
                 self.phase = MemberPhase::BetweenItems;
                 let rest = self.item.take(context, chunk)?;
                 self.phase = MemberPhase::Closing;
@@ -285,7 +288,8 @@ impl Level for MemberReader {
             MemberPhase::One => return self.item.push(context, byte),
             MemberPhase::InItem => return self.item.push(context, byte),
             MemberPhase::Closing => {
-                // After a failure the item need not be in parameters, as this phase requires.
+                // This phase requires that the item is in parameters, which need not hold after a
+                // failure.
                 self.phase = MemberPhase::BetweenItems;
                 let took = self.item.push(context, byte)?;
                 self.phase = MemberPhase::Closing;

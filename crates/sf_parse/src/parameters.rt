@@ -140,7 +140,7 @@ impl Level for ParamsReader {
         match self.phase {
             ParamsPhase::Opened => {
                 let (_, params) = short_prefix::<Space>(chunk);
-                // In parts: see `FieldState::take_run`.
+                // Taken apart: see `FieldState::take_run`.
                 let rest = add_params(context, params, &mut self.params)?;
                 return Ok(rest);
             }

@@ -23,15 +23,14 @@ ghost use Rattle.sf_parse.specs.declared.whole_parts.Found.{Found};
 ghost use Rattle.sf_parse.specs.declared.series.SeriesPhase.TheVariants as phase_is;
 
 use crate::ahead::has_comma;
-use crate::begun::{Begun, keep_params};
+use crate::begun::{Begun, WHOLE_PARTS, keep_params};
 use crate::context::Context;
 use crate::level::Level;
 use crate::refusal::Refusal;
 use crate::sets::{COMMA, OWS, SPACE, set_if};
 use crate::stop::{Stop, refuse_left};
-use crate::whole_bare::{behind, ends, split};
-use crate::whole_parts::{Found, Owner, WHOLE_PARTS, begins_param, may_begin_params, read_params};
-use sf_value::classes::{Ows, Space, short_prefix};
+use crate::whole_parts::{Found, Owner, begins_param, may_begin_params, read_params};
+use sf_value::classes::{Ows, Space, behind, ends, short_prefix, split};
 use sf_value::{Bare, Dialect, Entries, OutOfMemory, is_ows};
 use std::marker::Model;
 use std::mem;
@@ -82,10 +81,12 @@ pub trait SeriesMember<G>: Level {
         // If nothing was added, the reader is unchanged.
         ensures kept { IfOk result (λ ended. ended ≡ false → self.new ≡ self.old) };
 
-    /// Whether the text may begin with a whole member. It only saves time: nothing is claimed of it.
+    /// Whether the text may begin with a whole member. It is a hint that saves time; no proof
+    /// relies on it.
     fn may_begin(text: &[u8], is_whole: bool) -> bool;
 
-    /// A member that the text begins with, up to its parameters, and the rest. None claims nothing.
+    /// A member that the text begins with, up to its parameters, and the rest. None says nothing
+    /// about the text.
     fn find(text: &[u8]) -> Option<(Found<'_>, &[u8])>
         ensures found { IfSome result (λ r. is_found r.0) }
         // With the parameters that the rest begins with it is a whole member, in both dialects.
@@ -106,12 +107,12 @@ pub trait SeriesMember<G>: Level {
             → given.new ≡ with_found given.old (found.entry, params)) }
         ensures same { IfOk result (λ took. took ≡ false → given.new ≡ given.old) };
 
-    /// Whether a whole text, or a chunk, in which none was found may begin with a whole member. It only
-    /// saves time: nothing is claimed of it.
+    /// Whether a whole text, or a chunk, in which none was found may begin with a whole member. It
+    /// is a hint that saves time; no proof relies on it.
     fn may_read(text: &[u8], is_whole: bool) -> bool;
 
-    /// A whole member that the text begins with, and the rest. None claims nothing; the whole parts of
-    /// the member may be kept.
+    /// A whole member that the text begins with, and the rest. None says nothing about the text;
+    /// the whole parts of the member may be kept.
     fn read<'a>(
         context: &Context,
         text: &'a [u8],
@@ -130,8 +131,8 @@ pub trait SeriesMember<G>: Level {
     fn add(given: &mut G, member: Self::Whole) -> Result<(), OutOfMemory>
         ensures { OnOk result (given.new ≡ with given.old member) };
 
-    /// Where a text that a member begins stops, behind the parts that were kept of it. None claims
-    /// nothing.
+    /// Where a text that begins with a member stops, searched after the parts of it that were kept.
+    /// None says nothing about the text.
     fn stop<'a>(context: &Context, text: &'a [u8], begun: &Option<Begun<'a>>) -> Option<Stop<'a>>
         requires { IfSome begun.now (IsBegunBeside context.now.dialect text.now) }
         ensures { IfSome result (StopsIn (first context.now.dialect)
@@ -198,7 +199,8 @@ impl<P: SeriesMember<G>, G: Drop> SeriesReader<P, G> {
     }
 
     /// Takes whole members where one may begin, and the parts of the next one that are whole, and
-    /// returns the rest. It is not inlined: a chunk without whole members would pay for clearing it.
+    /// returns the rest. It is not inlined: a chunk without whole members would pay for clearing
+    /// its stack.
     #[inline(never)]
     fn take_members<'a>(
         &mut self,
@@ -216,7 +218,7 @@ impl<P: SeriesMember<G>, G: Drop> SeriesReader<P, G> {
         match self.phase {
             SeriesPhase::InMember => return self.member.take_by_bytes(context, chunk),
             SeriesPhase::Gap => return Ok(chunk),
-            // Whatever the reader holds, nothing was given before the first member.
+            // Before the first member no value was given, whatever the reader holds.
             SeriesPhase::Begin => self.given = P::none(context),
             SeriesPhase::Comma => {}
         }
@@ -472,8 +474,8 @@ fn expected_between<P: SeriesMember<G>, G>(dialect: Dialect, phase: SeriesPhase)
     }
 }
 
-/// The refusal of what is left of a text where no member is open: of a byte that may not come, or of
-/// the end after a comma. None claims nothing.
+/// The refusal of what is left of a text where no member is open: at a byte that is not allowed, or
+/// at the end after a comma. None says nothing about the text.
 #[inline(always)]
 pub fn refuse_between<P: SeriesMember<G>, G>(
     dialect: Dialect,
@@ -489,8 +491,8 @@ pub fn refuse_between<P: SeriesMember<G>, G>(
     refuse_left(left, expected, may_end_between(phase), place)
 }
 
-/// The refusal of what is left of a text of this length where a member may begin: of a byte of the
-/// member or behind it, or of the end. None claims nothing.
+/// The refusal of what is left of a text of this length where a member may begin: at a byte of the
+/// member or after it, or at the end. None says nothing about the text.
 #[inline(never)]
 pub fn refuse_member<'a, P: SeriesMember<G>, G>(
     context: &Context,
@@ -543,8 +545,8 @@ pub fn are_all(phase: SeriesPhase, rest: &[u8]) -> bool
     ends(rest) && may_end_between(phase)
 }
 
-/// Adds whole members that what is left of a whole text begins with, each with the comma or the white
-/// space behind it, and the last one; and returns the rest.
+/// Adds the whole members that what is left of a whole text begins with, each with the comma or the
+/// white space after it, of which the last may have neither; and returns the rest.
 #[inline(always)]
 pub fn add_members<'a, P: SeriesMember<G>, G>(
     context: &Context,
@@ -577,16 +579,16 @@ pub fn add_members<'a, P: SeriesMember<G>, G>(
     add_each_member::<P, G>(context, text, true, phase, given, begun)
 }
 
-/// Whether whole members are looked for in a chunk: only if the first one may be whole. It only
-/// saves time: nothing is claimed of it.
+/// Whether whole members are looked for in a chunk: only if the first one may be whole. It is a
+/// hint that saves time; no proof relies on it.
 #[inline(always)]
 fn may_add<P: SeriesMember<G>, G>(chunk: &[u8]) -> bool {
     chunk.len() >= WHOLE_PARTS && P::may_begin(chunk, false) && has_end::<P, G>(chunk)
 }
 
-/// Whether the first member of a chunk may be whole in it. A comma is looked for only where what
-/// follows what is found directly, a bare item and a parameter, may follow it: so a chunk that is
-/// refused there is not searched. Nothing is claimed of it.
+/// Whether the first member of a chunk may be whole in it. The chunk is searched for a comma only
+/// if what comes after the bare item that is found, and after a parameter that is found next, is
+/// allowed there, so that a chunk that is refused there isn't searched. No proof relies on it.
 #[inline(never)]
 fn has_end<P: SeriesMember<G>, G>(chunk: &[u8]) -> bool {
     match P::find(chunk) {
@@ -599,15 +601,16 @@ fn has_end<P: SeriesMember<G>, G>(chunk: &[u8]) -> bool {
     }
 }
 
-/// Whether a member may be whole in this text: in a chunk only if a comma is near. Otherwise its reader
-/// reads it, since it would be read again. It only saves time: nothing is claimed of it.
+/// Whether a member may be whole in this text: in a chunk only if a comma is near. Otherwise it is
+/// left to its reader, since it would have to be read again. It is a hint that saves time; no proof
+/// relies on it.
 #[inline(always)]
 fn may_be_whole(is_whole: bool, text: &[u8]) -> bool {
     is_whole || has_comma(text)
 }
 
-/// As [`add_members`], also in a chunk: [`add_members`] only tests whether there may be a member, since
-/// a call clears its stack.
+/// As [`add_members`], also for a chunk: [`add_members`] itself only tests whether there may be a
+/// member, since a call clears its stack.
 #[inline(never)]
 fn add_each_member<'a, P: SeriesMember<G>, G>(
     context: &Context,
@@ -685,9 +688,10 @@ fn goes_on(phase: SeriesPhase, text: &[u8], left: &[u8]) -> bool
     matches!(phase, SeriesPhase::Comma) && left.len() < text.len()
 }
 
-/// Adds a member that a text begins with and that was found, with the parameters after it and what is
-/// behind a member, and returns the rest; all of the text if they are not whole: then the parameters
-/// that are may be kept. It is not inlined: a call clears its stack.
+/// Adds the member that a text begins with and that was found, with the parameters after it and the
+/// comma or white space after those, and returns the rest. If they are not whole, it returns all of
+/// the text, and may keep the parameters that are whole. It is not inlined: a call clears its
+/// stack.
 #[inline(never)]
 fn add_with_params<'a, P: SeriesMember<G>, G>(
     context: &Context,
@@ -735,9 +739,9 @@ fn add_with_params<'a, P: SeriesMember<G>, G>(
     Ok(more)
 }
 
-/// Adds a whole member of any type that a text begins with, with what is behind a member, and returns
-/// the rest; all of the text if there is none: then the whole parts of the member may be kept. It is
-/// not inlined: a call clears its stack.
+/// Adds the whole member of any type that a text begins with, with the comma or white space after
+/// it, and returns the rest. If the member is not whole, it returns all of the text, and may keep
+/// the whole parts of the member. It is not inlined: a call clears its stack.
 #[inline(never)]
 fn add_read_member<'a, P: SeriesMember<G>, G>(
     context: &Context,
@@ -776,8 +780,8 @@ fn add_read_member<'a, P: SeriesMember<G>, G>(
     Ok(more)
 }
 
-/// The phase after a member and the rest: after white space and a comma, with the white space after
-/// it; or after white space alone, of which there may be none at the end of a whole text.
+/// The phase after a member, and the rest: after white space, a comma and white space; or after
+/// white space alone, of which there may be none only at the end of a whole text.
 #[inline(always)]
 fn behind_member(text: &[u8], is_whole: bool) -> Option<(SeriesPhase, &[u8])>
     ensures { IfSome result (λ r. IsBehindMember is_whole text.now r.0 r.1.now) }

@@ -18,10 +18,11 @@ use crate::member::MemberReader;
 use crate::series::SeriesMember;
 use crate::sets::KEY_START;
 use crate::stop::{Stop, stop_in_entry, stop_in_member};
-use crate::whole_bare::{behind, may_begin_bare, split};
+use crate::whole_bare::may_begin_bare;
 use crate::whole_parts::{
     Found, Owner, find_named, may_begin_part, may_begin_value, read_entry, read_member,
 };
+use sf_value::classes::{behind, split};
 use sf_value::{Bare, Dialect, Entries, Item, Key, Member, OutOfMemory, Sequence, can_start_key};
 
 /// A whole member of a Dictionary.
@@ -31,8 +32,8 @@ pub struct Entry {
     member: Member,
 }
 
-/// Whether a member of a List that begins with no leaf may be read directly. In a chunk a bare item
-/// costs less by the levels, which have its reader at hand.
+/// Whether a member of a List that begins with no leaf may be read directly. In a chunk, reading a
+/// bare item by the levels costs less, since they have its reader at hand.
 #[inline(always)]
 fn may_read_member(text: &[u8], is_whole: bool) -> bool {
     if is_whole {
@@ -41,8 +42,7 @@ fn may_read_member(text: &[u8], is_whole: bool) -> bool {
     behind(text, b'(').is_some()
 }
 
-/// Whether the first member of a text may be one that begins with no leaf. Nothing is claimed of
-/// it.
+/// Whether the first member of a text may be one that begins with no leaf. No proof relies on it.
 #[inline(always)]
 fn may_begin_other(text: &[u8], is_whole: bool) -> bool {
     match split(text) {

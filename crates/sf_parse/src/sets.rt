@@ -56,7 +56,7 @@ pub const KEY_START: u128 = LOWER | 1 << b'*';
 
 pub const KEY: u128 = KEY_START | DIGITS | 1 << b'_' | MINUS | POINT;
 
-/// What may come behind a key, of which it may be a part.
+/// The bytes that may come after a byte of a key: another one, an equals sign or a semicolon.
 pub const BEHIND_KEY: u128 = KEY | EQUALS | SEMICOLON;
 
 /// The first byte of a token (section 3.3.4).

@@ -59,9 +59,10 @@ impl FieldState {
         self.take_run(context, chunk)
     }
 
-    /// The same, by the levels that take runs. It is inlined, and the rest taken out of each result, as
-    /// in `take_part` of the levels: a result that is passed on as a whole is loaded from memory while
-    /// its parts are still being stored there one by one, and waits for them.
+    /// As [`FieldState::take`], by the levels, which take runs. It is inlined, and the rest is
+    /// taken out of each result, as in `take_part` of the levels: a result that is passed on as a
+    /// whole is loaded from memory while its parts are still being stored there one by one, and
+    /// waits for them.
     #[inline(always)]
     fn take_run<'a>(&mut self, context: &Context, chunk: &'a [u8]) -> Result<&'a [u8], OutOfMemory>
         // The bytes before the rest lead to the new state, which can't take the first of the rest.

@@ -1,10 +1,11 @@
-//! Where a text stops that spells no field, for the refusal of a text of which direct reading did
-//! not take all. It is found behind the whole parts that were kept of a member or an Item, or
-//! behind whole parameters that are put once more, or the Items of an Inner List that was not read
-//! before: directly in a bare item that takes no memory, and by its reader in another one. What is
-//! behind another whole part is left to the levels. What they would allocate up to there was
-//! allocated, or is here, so that a text is refused as out of memory where they refuse it so; this
-//! order is tested, not proved.
+//! Where a text stops: the place at which it is refused, and what may come there. It is looked for
+//! if direct reading did not take all of a text, so that the levels need not read the text again.
+//! The search goes on after the whole parts that were kept of a member or of an Item, after whole
+//! parameters, which are put once more, or after the Items of an Inner List that was not read
+//! before. A bare item that needs no allocation is searched directly, another one by its reader.
+//! After other whole parts, the search is left to the levels. What the levels would allocate before
+//! the place was allocated, or is allocated here, so that a text is refused as out of memory if
+//! they would refuse it so; this is tested, not proved.
 ghost use Rattle.std.specs.Prelude.{◌≡◌, ◌∷◌, ◌++◌, List, [], is_some, IfSome};
 ghost use Rattle.sf_value.specs.Ascii.{quote};
 ghost use Rattle.sf_value.specs.declared.dialect.Dialect.{Dialect};
@@ -30,12 +31,11 @@ use crate::member::MemberReader;
 use crate::number::NumberReader;
 use crate::refusal::Refusal;
 use crate::sets::{BEHIND_KEY, CLOSE, KEY_START, SEMICOLON, SPACE, TOKEN, VISIBLE, set_if};
-use crate::whole_bare::{behind, split};
 use crate::whole_parts::{BehindItems, Owner, behind_spaces, find_key, put_each_param, read_items};
-use sf_value::classes::{InToken, Unescaped, long_prefix};
+use sf_value::classes::{InToken, Unescaped, behind, long_prefix, split};
 use sf_value::{Entries, Sequence, ShortBytes, can_start_token};
 
-/// The most bytes of a bare item or a key that take no memory.
+/// The most bytes of a bare item or a key that need no allocation.
 const IN_PLACE: usize = 16;
 
 /// A place in a text, and what may come there.
@@ -49,7 +49,8 @@ pub struct Stop<'a> {
     pub may_end: bool,
 }
 
-/// The refusal of the first byte of what is left, or of its end, unless it may come.
+/// The refusal at the first byte of what is left, or at the end if nothing is left; None if that
+/// byte, or the end, is allowed.
 #[inline(always)]
 pub fn refuse_left(left: &[u8], expected: u128, may_end: bool, place: usize) -> Option<Refusal>
     ensures { IfSome result (RefusesLeft expected may_end left.now place) }
@@ -75,7 +76,8 @@ pub fn refuse_left(left: &[u8], expected: u128, may_end: bool, place: usize) -> 
     })
 }
 
-/// Where a bare item stops. None claims nothing. What takes no memory needs no reader.
+/// Where a bare item stops. None says nothing about the text. A bare item that needs no allocation
+/// needs no reader.
 #[inline(always)]
 fn stop_in_bare<'a>(context: &Context, text: &'a [u8]) -> Option<Stop<'a>>
     ensures { IfSome result (StopsIn (bare_start context.now.dialect) bare_step
@@ -99,13 +101,13 @@ fn stop_in_bare<'a>(context: &Context, text: &'a [u8]) -> Option<Stop<'a>>
     stop_by_reader(context, first, more)
 }
 
-/// Whether a bare item that is no number may begin with this byte. Nothing is claimed of it.
+/// Whether a bare item that is no number may begin with this byte. No proof relies on it.
 #[inline(always)]
 fn may_begin_rest(first: u8) -> bool {
     matches!(first, b'"' | b'?' | b':' | b'@' | b'%') || can_start_token(first)
 }
 
-/// Where a number stops. None claims nothing.
+/// Where a number stops. None says nothing about the text.
 #[inline(always)]
 fn stop_in_number(first: u8, more: &[u8]) -> Option<Stop<'_>>
     ensures { IfSome result (λ stop. (d : Dialect) → StopsIn (bare_start d) bare_step
@@ -123,7 +125,7 @@ fn stop_in_number(first: u8, more: &[u8]) -> Option<Stop<'_>>
     })
 }
 
-/// Where a Token stops. None claims nothing.
+/// Where a Token stops. None says nothing about the text.
 #[inline(always)]
 fn stop_in_token(first: u8, more: &[u8]) -> Option<Stop<'_>>
     ensures { IfSome result (λ stop. (d : Dialect) → StopsIn (bare_start d) bare_step
@@ -143,7 +145,8 @@ fn stop_in_token(first: u8, more: &[u8]) -> Option<Stop<'_>>
     })
 }
 
-/// Where a String without an escape stops, after its opening quote. None claims nothing.
+/// Where a String without an escape stops, after its opening quote. None says nothing about the
+/// text.
 #[inline(always)]
 fn stop_in_string(more: &[u8]) -> Option<Stop<'_>>
     ensures { IfSome result (λ stop. (d : Dialect) → StopsIn (bare_start d) bare_step
@@ -167,7 +170,7 @@ fn stop_in_string(more: &[u8]) -> Option<Stop<'_>>
     })
 }
 
-/// The same, by the reader of bare items.
+/// Where a bare item stops, found by its reader.
 #[inline(never)]
 fn stop_by_reader<'a>(context: &Context, first: u8, more: &'a [u8]) -> Option<Stop<'a>>
     ensures { IfSome result (StopsIn (bare_start context.now.dialect) bare_step
@@ -187,7 +190,7 @@ fn stop_by_reader<'a>(context: &Context, first: u8, more: &'a [u8]) -> Option<St
     })
 }
 
-/// Where parameters stop, after their first semicolon. None claims nothing.
+/// Where parameters stop, after their first semicolon. None says nothing about the text.
 #[inline(always)]
 fn stop_in_params<'a>(
     context: &Context,
@@ -212,8 +215,8 @@ fn stop_in_params<'a>(
     Some(stop_in_param(context, text))
 }
 
-/// The same of an Item in an Inner List, of which none are kept: the whole ones are put once more, as
-/// the levels do, which ask for the same memory.
+/// As [`stop_in_params`], for an Item of an Inner List, of which no parameters are kept: the whole
+/// ones are put once more, with the allocations that the levels would make.
 #[inline(never)]
 fn stop_in_new_params<'a>(context: &Context, text: &'a [u8]) -> Option<Stop<'a>>
     ensures { IfSome result (StopsAt (params_step context.now.dialect)
@@ -226,7 +229,7 @@ fn stop_in_new_params<'a>(context: &Context, text: &'a [u8]) -> Option<Stop<'a>>
     Some(stop_in_param(context, left))
 }
 
-/// The bytes of a key, and the rest; None if there is no memory for the key.
+/// The bytes of a key, and the rest; None if there is no key, or no memory for it.
 #[inline(always)]
 fn find_held_key<'a>(context: &Context, text: &'a [u8]) -> Option<(&'a [u8], &'a [u8])>
     ensures split { IfSome result (λ r. text.now ≡ r.0.now ++ r.1.now) }
@@ -274,7 +277,7 @@ fn stop_in_param<'a>(context: &Context, text: &'a [u8]) -> Stop<'a>
     }
 }
 
-/// Where an Item stops. None claims nothing.
+/// Where an Item stops. None says nothing about the text.
 #[inline(always)]
 pub fn stop_in_item<'a>(
     context: &Context,
@@ -325,7 +328,7 @@ fn stop_in_inner<'a>(context: &Context, inside: &'a [u8], begun: &Option<Begun<'
     stop_between_items(context, behind_spaces(inside))
 }
 
-/// The same, where none were looked for.
+/// As [`stop_in_inner`], if no Items were looked for before.
 #[inline(never)]
 fn stop_in_new_items<'a>(context: &Context, inside: &'a [u8]) -> Stop<'a>
     ensures { StopsAt (member_step context.now.dialect) (λ s. is_some (member_finish s))
@@ -342,7 +345,7 @@ fn stop_in_new_items<'a>(context: &Context, inside: &'a [u8]) -> Stop<'a>
     stop_between_items(context, left)
 }
 
-/// Where an Inner List stops, where an Item of it may begin.
+/// Where an Inner List stops, from a place on where an Item of it may begin.
 #[inline(always)]
 fn stop_between_items<'a>(context: &Context, rest: &'a [u8]) -> Stop<'a>
     ensures { (is : List Item) → StopsAt (member_step context.now.dialect)
@@ -381,7 +384,7 @@ fn stop_behind_items<'a>(context: &Context, after: &'a [u8]) -> Stop<'a>
     stop_in_param(context, more)
 }
 
-/// Where a member of a List stops. None claims nothing.
+/// Where a member of a List stops. None says nothing about the text.
 #[inline(always)]
 pub fn stop_in_member<'a>(
     context: &Context,
@@ -398,7 +401,7 @@ pub fn stop_in_member<'a>(
     stop_in_item(context, text, Owner::Member, begun)
 }
 
-/// Where a member of a Dictionary stops. None claims nothing.
+/// Where a member of a Dictionary stops. None says nothing about the text.
 #[inline(always)]
 pub fn stop_in_entry<'a>(
     context: &Context,

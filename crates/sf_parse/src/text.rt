@@ -67,7 +67,7 @@ impl TextPhase {
         }
     }
 
-    /// Takes the bytes that are not escaped, with one growth of the buffer, and returns the rest.
+    /// Takes the bytes that are not escaped, letting the buffer grow once, and returns the rest.
     #[inline(always)]
     pub fn take_run<'a>(
         self,
@@ -113,8 +113,8 @@ impl TextPhase {
     }
 }
 
-/// The bytes of a whole String, of which this is the text after its opening quote, with its closing
-/// one; None if an allocation fails. It is not inlined: each caller would clear what it needs.
+/// Unescapes a whole String, given as its text after the opening quote, with the closing one; None
+/// if an allocation fails. It is not inlined: each caller would clear the stack that it needs.
 #[inline(never)]
 pub fn unescape(context: &Context, text: &[u8]) -> Option<ShortBytes>
     requires { EndsText text.now }

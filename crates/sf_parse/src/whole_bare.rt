@@ -1,6 +1,7 @@
 //! Bare items that are whole in a text, read without a state between two calls (RFC 9651 section
-//! 4.2.3.1). None claims nothing: the text is then refused, or read by [`crate::bare`].
-ghost use Rattle.std.specs.Prelude.{◌≡◌, ◌≢◌, [], ◌∷◌, IfSome, true, false};
+//! 4.2.3.1). A function that returns None says nothing about the text, which is then refused, or
+//! read by [`crate::bare`].
+ghost use Rattle.std.specs.Prelude.{◌∷◌, IfSome};
 ghost use Rattle.sf_value.specs.Grammar.BareItems.{SpellsBare};
 ghost use Rattle.sf_parse.specs.WholeParts.{ReadsAs};
 
@@ -9,56 +10,27 @@ use crate::bare::BareReader;
 use crate::context::Context;
 use crate::leaf::{is_escaped_far, is_long_blob};
 use crate::level::Level;
+use sf_value::classes::split;
 use sf_value::{Bare, can_start_token};
 
-/// The first byte, and the rest.
-#[inline(always)]
-pub fn split(text: &[u8]) -> Option<(u8, &[u8])>
-    ensures { IfSome result (λ r. text.now ≡ r.0 ∷ r.1.now) }
-{
-    match text {
-        [first, rest @ ..] => Some((*first, rest)),
-        [] => None,
-    }
-}
-
-/// The rest after this byte.
-#[inline(always)]
-pub fn behind(text: &[u8], byte: u8) -> Option<&[u8]>
-    ensures { IfSome result (λ rest. text.now ≡ byte ∷ rest.now) }
-{
-    match split(text) {
-        Some((first, rest)) if first == byte => Some(rest),
-        _ => None,
-    }
-}
-
-/// Whether nothing is left.
-#[inline(always)]
-pub fn ends(text: &[u8]) -> bool
-    ensures all { result ≡ true → text.now ≡ [] }
-    ensures some { result ≡ false → text.now ≢ [] }
-{
-    text.is_empty()
-}
-
-/// A bare item that its reader reads, where no leaf is found, and the rest: a Date, a Display
-/// String, or a long String with an escape or Byte Sequence.
+/// A bare item that is no leaf, read by its reader, and the rest: a Date, a Display String, a long
+/// String with an escape, or a long Byte Sequence.
 #[inline(always)]
 pub fn read_bare<'a>(context: &Context, text: &'a [u8]) -> Option<(Bare, &'a [u8])>
     ensures { IfSome result (λ r. ReadsAs (SpellsBare context.now.dialect) text.now r.0 r.1.now) }
 {
     let (first, more) = split(text)?;
     if let b'@' | b'%' | b'"' | b':' = first {
-        // In parts: the compiler keeps these in registers, and the result as a whole in memory.
+        // Taken apart: the compiler keeps the parts in registers, but the result as a whole in
+        // memory.
         let (bare, rest) = read_other(context, first, more)?;
         return Some((bare, rest));
     }
     None
 }
 
-/// Whether the text, in which no leaf was found, may begin with a whole bare item, which its reader
-/// reads. It is not inlined, so that what is found doesn't pay for it. Nothing is claimed of it.
+/// Whether a text that begins with no leaf may begin with a whole bare item, which only its reader
+/// reads. It is not inlined, so that leaves don't pay for it. No proof relies on it.
 #[inline(never)]
 pub fn needs_reader(text: &[u8]) -> bool {
     match split(text) {
@@ -80,8 +52,8 @@ fn ends_display(text: &[u8]) -> bool {
     inside.last().copied() == Some(b'"') || may_have(inside, b'"')
 }
 
-/// Whether the text may begin with a bare item that needs no reader. It only saves time: nothing is
-/// claimed of it.
+/// Whether the text may begin with a bare item that needs no reader. It is a hint that saves time;
+/// no proof relies on it.
 #[inline(always)]
 pub fn may_begin_bare(text: &[u8]) -> bool {
     match split(text) {
@@ -91,7 +63,7 @@ pub fn may_begin_bare(text: &[u8]) -> bool {
     }
 }
 
-/// The bare item that begins with this byte, by its reader, and the rest.
+/// The bare item that begins with this byte, read by its reader, and the rest.
 #[inline(never)]
 fn read_other<'a>(context: &Context, first: u8, more: &'a [u8]) -> Option<(Bare, &'a [u8])>
     ensures { IfSome result (λ r. ReadsAs (SpellsBare context.now.dialect) (first ∷ more.now) r.0

@@ -1,5 +1,6 @@
 //! Parts of a field that are whole in a text, read without a state between two calls, and built
-//! where they belong. None claims nothing: the text is then refused, or read by the levels.
+//! where they are stored. A function that returns None says nothing about the text, which is then
+//! refused, or read by the levels.
 ghost use Rattle.std.specs.Prelude.{◌≡◌, ◌++◌, ◌∷◌, ℕ, List, [], true, false, None};
 ghost use Rattle.std.specs.Prelude.{IfSome, IfNone, IfOk, OnErr};
 ghost use Rattle.sf_value.specs.Ascii.{open_bracket};
@@ -23,18 +24,14 @@ ghost use Rattle.sf_parse.specs.WholeParts.{found_member};
 ghost use Rattle.sf_parse.specs.BegunParts.{IsBegunAt, IsBegunIn};
 
 use crate::ahead::{from_near, has_space, may_close};
-use crate::begun::{Begun, keep_closed, keep_inner, keep_items, keep_params};
+use crate::begun::{Begun, WHOLE_PARTS, keep_closed, keep_inner, keep_items, keep_params};
 use crate::context::Context;
 use crate::leaf::{Leaf, find_leaf, make};
-use crate::whole_bare::{behind, needs_reader, read_bare, split};
-use sf_value::classes::{InKey, Space, short_prefix};
+use crate::whole_bare::{needs_reader, read_bare};
+use sf_value::classes::{InKey, Space, behind, short_prefix, split};
 use sf_value::{
     Bare, Entries, Inner, Item, Key, Member, OutOfMemory, Sequence, ShortBytes, can_start_key,
 };
-
-/// The fewest bytes of a chunk in which whole parts are looked for. In fewer there is seldom one with
-/// what follows it, and looking for it would cost small chunks.
-pub const WHOLE_PARTS: usize = 64;
 
 /// The rest after spaces.
 #[inline(always)]
@@ -68,7 +65,7 @@ pub struct Found<'a> {
     pub leaf: Leaf<'a>,
 }
 
-/// A key and its value, a bare item, and the rest. None claims nothing.
+/// A key and its value, a bare item, and the rest. None says nothing about the text.
 #[inline(always)]
 pub fn find_named(text: &[u8]) -> Option<(Found<'_>, &[u8])>
     ensures key { IfSome result (λ r. IsKey r.0.key.now) }
@@ -90,8 +87,8 @@ pub fn find_named(text: &[u8]) -> Option<(Found<'_>, &[u8])>
     Some((Found { key, leaf }, rest))
 }
 
-/// Whether the text may begin with an Inner List or a bare item that only its reader reads. It only
-/// saves time: nothing is claimed of it.
+/// Whether the text may begin with an Inner List or a bare item that only its reader reads. It is a
+/// hint that saves time; no proof relies on it.
 #[inline(always)]
 pub fn may_begin_part(text: &[u8]) -> bool {
     match split(text) {
@@ -101,7 +98,8 @@ pub fn may_begin_part(text: &[u8]) -> bool {
     }
 }
 
-/// The same of the value of a key. It only saves time: nothing is claimed of it.
+/// As [`may_begin_part`], for the value of a key that the text begins with. It is a hint that saves
+/// time; no proof relies on it.
 #[inline(always)]
 pub fn may_begin_value(text: &[u8]) -> bool {
     let Some((_, after)) = find_key(text) else {
@@ -113,7 +111,7 @@ pub fn may_begin_value(text: &[u8]) -> bool {
     }
 }
 
-/// Whether the text may begin with parameters. It only saves time: nothing is claimed of it.
+/// Whether the text may begin with parameters. It is a hint that saves time; no proof relies on it.
 #[inline(always)]
 pub fn may_begin_params(text: &[u8]) -> bool {
     let Some(more) = behind(text, b';') else {
@@ -125,9 +123,9 @@ pub fn may_begin_params(text: &[u8]) -> bool {
     }
 }
 
-/// Whether the text, in which no parameter was found, may begin with a whole one, whose value its
-/// reader reads. It is not inlined, so that a loop of found ones doesn't pay for it. Nothing is
-/// claimed of it.
+/// Whether a text in which no parameter was found may begin with a whole one, whose value only its
+/// reader reads. It is not inlined, so that a loop over parameters that are found doesn't pay for
+/// it. No proof relies on it.
 #[inline(never)]
 fn may_read_param(text: &[u8]) -> bool {
     let Some(from) = from_near(text, b'=') else {
@@ -139,8 +137,8 @@ fn may_read_param(text: &[u8]) -> bool {
     }
 }
 
-/// Whether a text of a chunk, behind a bare item, may begin with a whole parameter: what follows
-/// one that is found may follow it. It only saves time: nothing is claimed of it.
+/// Whether the text of a chunk after a bare item may begin with a whole parameter. If one is found,
+/// what follows it must be allowed there. It is a hint that saves time; no proof relies on it.
 #[inline(never)]
 pub fn begins_param(text: &[u8]) -> bool {
     let Some(more) = behind(text, b';') else {
@@ -176,8 +174,8 @@ impl Owner {
     }
 }
 
-/// Whether an accepted text may go on like this after what may have parameters, or after one of
-/// these. It only saves time: nothing is claimed of it.
+/// Whether an accepted text may go on with this one after something that can have parameters, or
+/// after one of its parameters. It is a hint that saves time; no proof relies on it.
 #[inline(always)]
 fn may_follow(owner: Owner, text: &[u8]) -> bool {
     match split(text) {
@@ -202,7 +200,7 @@ pub fn read_key<'a>(context: &Context, text: &'a [u8]) -> Option<(Key, &'a [u8])
     Some((Key::from_bytes(bytes), rest))
 }
 
-/// A parameter after its semicolon, where none was found: the bytes of its key, its value, which only
+/// A parameter that was not found, after its semicolon: the bytes of its key, its value, which only
 /// its reader reads, and the rest.
 #[inline(always)]
 fn read_param<'a>(context: &Context, text: &'a [u8]) -> Option<(&'a [u8], Bare, &'a [u8])>
@@ -216,8 +214,8 @@ fn read_param<'a>(context: &Context, text: &'a [u8]) -> Option<(&'a [u8], Bare, 
     Some((key, value, rest))
 }
 
-/// Puts whole parameters, the first after its semicolon, each with the semicolon after it, and returns
-/// the rest.
+/// Puts the whole parameters that a text begins with, after the first semicolon, each with the
+/// semicolon after it, and returns the rest.
 #[inline(always)]
 pub fn add_params<'a>(
     context: &Context,
@@ -234,9 +232,9 @@ pub fn add_params<'a>(
     put_each_param(context, text, false, params)
 }
 
-/// As [`add_params`], of a chunk or of a whole text: [`add_params`] only tests the length, since a
-/// call clears its stack. In a chunk a parameter that was not found is left to the levels, which have
-/// the reader of its value at hand.
+/// As [`add_params`], for a chunk or a whole text: [`add_params`] itself only tests the length,
+/// since a call clears its stack. In a chunk a parameter that was not found is left to the levels,
+/// which have the reader of its value at hand.
 #[inline(never)]
 pub fn put_each_param<'a>(
     context: &Context,
@@ -272,8 +270,9 @@ pub fn put_each_param<'a>(
     Ok(rest)
 }
 
-/// Puts a parameter that was not found, with the semicolon after it, and returns the rest; all of the
-/// text if it is not whole. It is not inlined, so that a loop of found ones clears less of its stack.
+/// Puts a parameter that was not found, with the semicolon after it, and returns the rest; all of
+/// the text if it is not whole. It is not inlined, so that a loop over parameters that are found
+/// clears less stack.
 #[inline(never)]
 fn put_any_param<'a>(
     context: &Context,
@@ -318,7 +317,8 @@ fn put_leaf(
 }
 
 /// Puts the whole parameters that a text begins with, and returns the rest, which begins with a
-/// semicolon if another one is not whole. Only a text that begins with one costs a call.
+/// semicolon if the next parameter is not whole. It costs a call only if the text begins with a
+/// semicolon.
 #[inline(always)]
 pub fn read_params<'a>(
     context: &Context,
@@ -384,7 +384,7 @@ fn put_param<'a>(
     Some(rest)
 }
 
-/// As [`put_param`], where none was found.
+/// As [`put_param`], for a parameter that was not found.
 #[inline(never)]
 fn put_read_param<'a>(
     context: &Context,
@@ -427,7 +427,7 @@ fn read_item<'a>(context: &Context, text: &'a [u8]) -> Option<(Item, &'a [u8])>
     Some(item_before(context, bare, after))
 }
 
-/// The same, where no leaf was found.
+/// As [`read_item`], for a text that begins with no leaf.
 #[inline(always)]
 fn read_other_item<'a>(context: &Context, text: &'a [u8]) -> Option<(Item, &'a [u8])>
     ensures { IfSome result (λ r. ReadsAs (SpellsItem context.now.dialect) text.now r.0 r.1.now) }
@@ -465,8 +465,8 @@ pub fn add_items<'a>(
     push_each_item(context, text, items)
 }
 
-/// As [`add_items`], which only tests the length: a call clears its stack. An Item that begins with no
-/// leaf is left to the levels, which have the reader of its bare item at hand.
+/// As [`add_items`], which itself only tests the length, since a call clears its stack. An Item
+/// that begins with no leaf is left to the levels, which have the reader of its bare item at hand.
 #[inline(never)]
 fn push_each_item<'a>(
     context: &Context,
@@ -502,8 +502,9 @@ fn push_each_item<'a>(
     Ok(rest)
 }
 
-/// Adds an Item with parameters, with the space after it, and returns the rest; all of the text if it
-/// is not whole. It is not inlined, so that a loop of those without clears less of its stack.
+/// Adds an Item with parameters, with the space after it, and returns the rest; all of the text if
+/// it is not whole. It is not inlined, so that a loop over Items without parameters clears less
+/// stack.
 #[inline(never)]
 fn push_any_item<'a>(
     context: &Context,
@@ -549,7 +550,7 @@ fn push_leaf(
     Ok(true)
 }
 
-/// What is behind Items of an Inner List.
+/// What comes after Items of an Inner List.
 #[derive(Clone, Copy)]
 pub enum BehindItems<'a> {
     /// The rest, where another Item may begin: after the opening bracket or a space.
@@ -582,7 +583,7 @@ pub fn read_items<'a>(
     }
 }
 
-/// What is behind an Item of an Inner List: a space and the spaces after it, or the bracket.
+/// What comes after an Item of an Inner List: at least one space, or the closing bracket.
 #[inline(always)]
 fn behind_item(text: &[u8]) -> Option<BehindItems<'_>>
     ensures { IfSome result (IsBehindItem text.now) }
@@ -594,8 +595,8 @@ fn behind_item(text: &[u8]) -> Option<BehindItems<'_>>
     }
 }
 
-/// Adds the Item that a text begins with, and returns what is behind it. If it is not whole, or an
-/// allocation fails, it changes nothing.
+/// Adds the Item that a text begins with, and returns what comes after it. If it is not whole, or
+/// an allocation fails, it changes nothing.
 #[inline(always)]
 fn push_item<'a>(
     context: &Context,
@@ -619,7 +620,7 @@ fn push_item<'a>(
     Some(end)
 }
 
-/// Adds an Item that was found, with the parameters after it, and returns what is behind them.
+/// Adds an Item that was found, with the parameters after it, and returns what comes after them.
 #[inline(never)]
 fn push_with_params<'a>(
     context: &Context,
@@ -641,7 +642,7 @@ fn push_with_params<'a>(
     Some(end)
 }
 
-/// As [`push_item`], where no leaf was found.
+/// As [`push_item`], for a text that begins with no leaf.
 #[inline(never)]
 fn push_read_item<'a>(
     context: &Context,

@@ -164,6 +164,9 @@ fn permissions(rt: HostRuntime) {
         (b"s-maxage=x", true, false, true),
         (b"private", false, true, false),
         (b"public", true, true, true),
+        (b"public=?0", false, false, false),
+        (b"public=1", false, false, false),
+        (b"public=(a)", false, false, false),
         (b"must-revalidate", false, false, true),
     ] {
         let rules = rules_of(&rt, &seed, line);

@@ -5,7 +5,7 @@ ghost use Rattle.sf_tool.specs.Reading.{ReadsToEnd, StopsFor};
 use sf_value::Source;
 use std::alloc::Global;
 
-/// The greatest number of bytes of one pull.
+/// The size of the buffer for what is read: one pull returns at most 256 KiB.
 const BLOCK: usize = 262_144;
 
 /// Why a source was not read to its end.

@@ -1,21 +1,36 @@
 -- The rules of a Dictionary whose members were read from a text one after another.
-use Rattle.std.proofs.Common.{◌≡◌, ◌≢◌, ℕ, Bool, List, [], ◌∷◌, Option, Some, None, refl, sym, ap}
+use Rattle.std.proofs.Common.{◌≡◌, ◌≢◌, ℕ, Bool, false, List, [], ◌∷◌, Option, Some, None, refl, sym, ap}
 use Rattle.std.proofs.Common.{◌∙◌, subst, fold, codes}
 use Rattle.std.specs.Prelude.{unwrap_or, is_none}
+use Rattle.sf_value.specs.Lookups.{as_boolean}
+use Rattle.sf_value.specs.declared.value.Bare.{Bare}
+use Rattle.sf_value.specs.declared.value.Bare.TheVariants.{Boolean}
 use Rattle.sf_value.specs.declared.value.Dict.{Dict}
 use Rattle.sf_value.specs.declared.value.Field.{Field}
 use Rattle.sf_value.specs.declared.value.Field.TheVariants as field
 use Rattle.sf_value.specs.declared.value.Member.{Member}
+use Rattle.sf_value.specs.declared.value.Member.TheVariants as member
 use Rattle.sf_value.specs.Grammar.Pairs.{Pairs, settle}
 use Rattle.sf_value.specs.Grammar.Fields.{dict_of}
+use Rattle.sf_view.specs.Cursors.{boolean_in}
 use Rattle.sf_view.specs.Overwriting.{overwritten_by}
 use Rattle.sf_view.proofs.Overwriting.{overwritten-settle}
 use Rattle.sf_use.specs.declared.caching.CacheRules.{CacheRules}
 use Rattle.sf_use.specs.declared.targeted.Policy.{Policy}
 use Rattle.sf_use.specs.Scanning.{with_directive}
 use Rattle.sf_use.specs.Targeted.{is_set, nothing, policy}
-use Rattle.sf_use.specs.TargetedRules.{MayOfferRules, is_invalid, rules, with_rule}
+use Rattle.sf_use.specs.TargetedRules.{MayOfferRules, is_invalid, is_true, permits, rules}
+use Rattle.sf_use.specs.TargetedRules.{with_rule}
 use Rattle.sf_use.proofs.Scanning.{all_directives, settled_dict}
+
+permitted_by : (x : Bare) → unwrap_or (as_boolean x) false ≡ is_true x
+permitted_by (Boolean b) = refl
+permitted_by x = refl
+
+-- what a member that was read permits
+pub permits_is : (m : Member) → unwrap_or (boolean_in m) false ≡ permits (Some m)
+permits_is (member.Inner l) = refl
+permits_is (member.Item i) = permitted_by i.bare
 
 -- the parts of rules
 rule_parts : (r : CacheRules) (ps : Pairs Member)
@@ -25,8 +40,8 @@ rule_parts : (r : CacheRules) (ps : Pairs Member)
       invalid_max_age = overwritten_by is_invalid (codes "max-age") r.invalid_max_age ps;
       invalid_s_maxage = overwritten_by is_invalid (codes "s-maxage") r.invalid_s_maxage ps;
       proxy_revalidate = overwritten_by is_set (codes "proxy-revalidate") r.proxy_revalidate ps;
-      must_understand = overwritten_by is_set (codes "must-understand") r.must_understand ps;
-      is_public = overwritten_by is_set (codes "public") r.is_public ps;
+      must_understand = overwritten_by permits (codes "must-understand") r.must_understand ps;
+      is_public = overwritten_by permits (codes "public") r.is_public ps;
     }
 rule_parts r [] = refl
 rule_parts r (p ∷ ps) = rule_parts (with_rule r p) ps
@@ -52,8 +67,8 @@ all_rules ps =
     (overwritten-settle is_invalid (codes "max-age") ps)
     (overwritten-settle is_invalid (codes "s-maxage") ps)
     (overwritten-settle is_set (codes "proxy-revalidate") ps)
-    (overwritten-settle is_set (codes "must-understand") ps)
-    (overwritten-settle is_set (codes "public") ps)
+    (overwritten-settle permits (codes "must-understand") ps)
+    (overwritten-settle permits (codes "public") ps)
 
 -- the rules after one more member, of which there may have been none
 abbrev pub with_first_rule : Option CacheRules → List ℕ × Member → Option CacheRules

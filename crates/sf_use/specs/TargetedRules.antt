@@ -1,14 +1,17 @@
 -- The directives of a targeted field for the decision of a cache (RFC 9213 section 2.1), and of the
 -- field of a target list that it obeys (section 2.2).
-use Rattle.std.specs.Prelude.{◌≡◌, ◌≢◌, ℕ, Bool, ◌&&◌, List as Seq, [], All, take, slice_get, codes}
+use Rattle.std.specs.Prelude.{◌≡◌, ◌≢◌, ℕ, Bool, false, ◌&&◌, List as Seq, [], All, take, slice_get, codes}
 use Rattle.std.specs.Prelude.{Option, Some, None, is_some, is_none, if◌then◌else◌, unwrap_or}
 use Rattle.std.specs.Str.{bytes_eq}
 use Rattle.sf_value.specs.declared.dialect.Dialect.{Dialect}
 use Rattle.sf_value.specs.declared.dialect.Dialect.TheVariants.{Rfc9651}
+use Rattle.sf_value.specs.declared.value.Bare.{Bare}
+use Rattle.sf_value.specs.declared.value.Bare.TheVariants.{Boolean}
 use Rattle.sf_value.specs.declared.value.Dict.{Dict}
 use Rattle.sf_value.specs.declared.value.Field.{Field}
 use Rattle.sf_value.specs.declared.value.Field.TheVariants as field
 use Rattle.sf_value.specs.declared.value.Member.{Member}
+use Rattle.sf_value.specs.declared.value.Member.TheVariants as member
 use Rattle.sf_value.specs.Grammar.Pairs.{value_at}
 use Rattle.sf_field.specs.Headers.{Headers}
 use Rattle.sf_view.specs.Overwriting.{overwritten}
@@ -27,6 +30,16 @@ use Rattle.sf_use.specs.TargetedChoice.{IsChosenIn, IsOfferIn, UsableIn}
 abbrev pub is_invalid : Option Member → Bool
 is_invalid m = is_some m && is_none (delta_seconds m)
 
+-- a directive that permits something is set only by Boolean true: a value of another type is not
+-- consumed (RFC 9213 section 2.1)
+abbrev pub is_true : Bare → Bool
+is_true (Boolean b) = b
+is_true x = false
+
+abbrev pub permits : Option Member → Bool
+permits (Some (member.Item i)) = is_true i.bare
+permits m = false
+
 -- the rules of a Dictionary: its policy, and what that leaves out
 abbrev pub rules : Dict → CacheRules
 rules d = record {
@@ -34,8 +47,8 @@ rules d = record {
   invalid_max_age = is_invalid (value_at (codes "max-age") d.members);
   invalid_s_maxage = is_invalid (value_at (codes "s-maxage") d.members);
   proxy_revalidate = is_set (value_at (codes "proxy-revalidate") d.members);
-  must_understand = is_set (value_at (codes "must-understand") d.members);
-  is_public = is_set (value_at (codes "public") d.members);
+  must_understand = permits (value_at (codes "must-understand") d.members);
+  is_public = permits (value_at (codes "public") d.members);
 }
 
 -- the rules of a field; a field that is no Dictionary is never passed, and would have none
@@ -78,8 +91,8 @@ with_rule r p = record {
   invalid_max_age = overwritten is_invalid (codes "max-age") r.invalid_max_age p;
   invalid_s_maxage = overwritten is_invalid (codes "s-maxage") r.invalid_s_maxage p;
   proxy_revalidate = overwritten is_set (codes "proxy-revalidate") r.proxy_revalidate p;
-  must_understand = overwritten is_set (codes "must-understand") r.must_understand p;
-  is_public = overwritten is_set (codes "public") r.is_public p;
+  must_understand = overwritten permits (codes "must-understand") r.must_understand p;
+  is_public = overwritten permits (codes "public") r.is_public p;
 }
 
 -- the choice with the policy alone

@@ -36,7 +36,8 @@ pub struct CacheRules {
     pub invalid_s_maxage: bool,
     /// `proxy-revalidate`: a shared cache doesn't use a stale response before it is validated.
     pub proxy_revalidate: bool,
-    /// `must-understand`: only a cache that understands the status code stores the response.
+    /// `must-understand`: only a cache that understands the status code stores the response, and
+    /// it ignores `no-store`.
     pub must_understand: bool,
     /// `public`: the response may be stored, even if nothing else permits it.
     pub is_public: bool,

@@ -8,7 +8,8 @@ ghost use Rattle.sf_use.specs.Targeted.{is_set as member_sets};
 ghost use Rattle.sf_use.specs.TargetedChoice.{IsReached, IsReachedIn};
 ghost use Rattle.sf_use.specs.TargetedRules.{IsRulesChosen, IsRulesChosenIn, IsRulesOfferIn};
 ghost use Rattle.sf_use.specs.TargetedRules.{MayOfferRules, is_invalid as is_invalid_member};
-ghost use Rattle.sf_use.specs.TargetedRules.{rules as rules_of, with_rule};
+ghost use Rattle.sf_use.specs.TargetedRules.{permits as member_permits, rules as rules_of};
+ghost use Rattle.sf_use.specs.TargetedRules.{with_rule};
 ghost use Rattle.sf_use.specs.declared.targeted_rules.RulesChoice.TheVariants.{Fallback};
 ghost use Rattle.sf_value.specs.declared.dialect.Dialect.{Dialect as Which};
 ghost use Rattle.sf_value.specs.declared.value.Member.{Member as MemberValue};
@@ -63,7 +64,8 @@ pub(crate) const NO_RULE: CacheRules = CacheRules {
 impl CacheRules {
     /// Returns the directives of a Dictionary, as [`Policy::from_dict`] does. `max-age` and
     /// `s-maxage` are invalid if they are present and not an Integer that is not negative (RFC 9111
-    /// section 4.2.1). Does not allocate.
+    /// section 4.2.1). `public` and `must-understand`, which permit to store, are set only by
+    /// Boolean true (RFC 9213 section 2.1). Does not allocate.
     ///
     /// ```
     /// // s-maxage=1.5, max-age=600
@@ -78,8 +80,8 @@ impl CacheRules {
             invalid_max_age: is_invalid(dict.get(b"max-age")),
             invalid_s_maxage: is_invalid(dict.get(b"s-maxage")),
             proxy_revalidate: sets(dict.get(b"proxy-revalidate")),
-            must_understand: sets(dict.get(b"must-understand")),
-            is_public: sets(dict.get(b"public")),
+            must_understand: permits(dict.get(b"must-understand")),
+            is_public: permits(dict.get(b"public")),
         }
     }
 
@@ -267,8 +269,8 @@ fn rules_with(rules: CacheRules, member: EntryView) -> CacheRules
         invalid_max_age: invalid_with(rules.invalid_max_age, member, b"max-age"),
         invalid_s_maxage: invalid_with(rules.invalid_s_maxage, member, b"s-maxage"),
         proxy_revalidate: set_with(rules.proxy_revalidate, member, b"proxy-revalidate"),
-        must_understand: set_with(rules.must_understand, member, b"must-understand"),
-        is_public: set_with(rules.is_public, member, b"public"),
+        must_understand: permits_with(rules.must_understand, member, b"must-understand"),
+        is_public: permits_with(rules.is_public, member, b"public"),
     }
 }
 
@@ -284,6 +286,18 @@ fn set_with(was_set: bool, member: EntryView, key: &[u8]) -> bool
     was_set
 }
 
+/// Returns whether the directive of a key permits what it stands for, after one more member.
+#[inline]
+fn permits_with(was_permitted: bool, member: EntryView, key: &[u8]) -> bool
+    ensures { (d : Which) (m : MemberValue) → ShowsMember d member.entry.bare m
+        → result ≡ overwritten member_permits key.now was_permitted (member.entry.key.now, m) }
+{
+    if key == member.key {
+        return member.as_boolean().unwrap_or(false);
+    }
+    was_permitted
+}
+
 /// Returns whether the directive of a key is invalid, after one more member.
 #[inline]
 fn invalid_with(was_invalid: bool, member: EntryView, key: &[u8]) -> bool
@@ -294,6 +308,16 @@ fn invalid_with(was_invalid: bool, member: EntryView, key: &[u8]) -> bool
         return seconds_of(member.as_integer()).is_none();
     }
     was_invalid
+}
+
+/// Returns whether a member is an Item of Boolean true.
+fn permits(member: Option<&Member>) -> bool
+    ensures { result ≡ member_permits (option_copied member.entry) }
+{
+    match member {
+        Some(Member::Item(item)) => item.bare.as_boolean().unwrap_or(false),
+        _ => false,
+    }
 }
 
 /// Returns whether a member is present, but no number of seconds.

@@ -27,7 +27,7 @@ every_from_length p (b ∷ bs) h = by (p b) refl (every_from_length p bs)
 pub every_from_place : (p : ℕ → Bool) (bs : List ℕ) → bad_place p bs ≡ None → Every p bs
 every_from_place p bs h = every_from_length p bs (grind (arith, nat_tests))
 
--- the search goes on behind bytes that pass
+-- the search goes on after bytes that pass
 position_behind : (p : ℕ → Bool) (run rest : List ℕ) → Every p run
     → position_or_len (λ b. not (p b)) (run ++ rest)
     ≡ length run + position_or_len (λ b. not (p b)) rest
@@ -36,9 +36,9 @@ position_behind p (b ∷ run) rest h =
     let more = position_behind p run rest h.1 in
     rw h.0 (omega (arith, more))
 
-pub bad_behind : (p : ℕ → Bool) (run rest : List ℕ) → Every p run
+pub bad_after_run : (p : ℕ → Bool) (run rest : List ℕ) → Every p run
     → bad_place p (run ++ rest) ≡ option_map (λ i. length run + i) (bad_place p rest)
-bad_behind p run rest h =
+bad_after_run p run rest h =
     let place = position_behind p run rest h in
     let long = length-append run rest in
     grind (arith, nat_tests)

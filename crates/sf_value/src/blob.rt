@@ -31,7 +31,7 @@ impl Blob {
     /// Up to 16 bytes do not allocate.
     pub fn new(alloc: Global, bytes: &[u8]) -> Result<Blob, OutOfMemory>
         ensures blob { IfOk result (λ blob. blob ≡ bytes.now) }
-        // At most 16 bytes are not refused as out of memory.
+        // With at most 16 bytes it is never out of memory.
         ensures in_place { FitsInPlace bytes.now → IsOk result }
     {
         Ok(Blob {
@@ -51,7 +51,7 @@ impl Blob {
     /// bytes do not allocate.
     pub fn copy(&self, alloc: Global) -> Result<Blob, OutOfMemory>
         ensures copied { IfOk result (λ copy. copy ≡ self.now) }
-        // At most 16 bytes are not refused as out of memory.
+        // With at most 16 bytes it is never out of memory.
         ensures in_place { FitsInPlace self.now → IsOk result }
     {
         Blob::new(alloc, self.as_bytes())

@@ -13,9 +13,9 @@ use std::marker::Model;
 /// The number of bytes that are stored in place.
 pub(crate) const IN_PLACE: usize = 16;
 
-/// Bytes that are collected: up to 16 are in the value itself and do not allocate; more are on the
-/// heap. Keys, strings, tokens, byte sequences and display strings are stored as these. Contracts
-/// see the list of the bytes.
+/// A growing buffer of bytes: up to 16 are stored in the value itself, without an allocation, and
+/// more on the heap. Keys, strings, tokens, byte sequences and display strings are stored in one.
+/// Contracts see the list of the bytes.
 ///
 /// ```
 /// let mut bytes = ShortBytes::new(alloc);
@@ -63,7 +63,7 @@ impl ShortBytes {
     #[inline]
     pub fn from_slice(alloc: Global, bytes: &[u8]) -> Result<ShortBytes, OutOfMemory>
         ensures bytes { IfOk result (λ short. short ≡ bytes.now) }
-        // At most 16 bytes are not refused as out of memory.
+        // With at most 16 bytes it is never out of memory.
         ensures in_place { FitsInPlace bytes.now → IsOk result }
     {
         Ok(ShortBytes {
@@ -77,7 +77,7 @@ impl ShortBytes {
     pub fn push(&mut self, byte: u8) -> Result<(), OutOfMemory>
         ensures bytes { MatchResult result (λ _. self.new ≡ self.old ++ byte ∷ [])
             (λ _. self.new ≡ self.old) }
-        // At most 16 bytes are not refused as out of memory.
+        // With at most 16 bytes it is never out of memory.
         ensures in_place { FitsInPlace (self.old ++ byte ∷ []) → IsOk result }
     {
         self.bytes.push(byte)?;
@@ -90,7 +90,7 @@ impl ShortBytes {
     pub fn extend(&mut self, run: &[u8]) -> Result<(), OutOfMemory>
         ensures bytes { MatchResult result (λ _. self.new ≡ self.old ++ run.now)
             (λ _. self.new ≡ self.old) }
-        // At most 16 bytes are not refused as out of memory.
+        // With at most 16 bytes it is never out of memory.
         ensures in_place { FitsInPlace (self.old ++ run.now) → IsOk result }
     {
         self.bytes.extend_from_slice(run)?;

@@ -1,12 +1,12 @@
-//! How much capacity copies have.
+//! The capacity of copies.
 ghost use Rattle.std.specs.Prelude.{◌≤◌};
 ghost use Rattle.sf_value.specs.Capacities.{HasGrown};
 
 /// The capacity of a vector after the first addition.
 const FIRST: usize = 4;
 
-/// The capacity for a copy of so many values: that which as many additions one by one would have
-/// given. So what is added to a copy is moved as rarely as what is added to its source.
+/// The capacity for a copy of this many values: the same that adding them one by one would give, so
+/// that adding to a copy reallocates no more often than adding to its source.
 #[inline]
 pub(crate) fn capacity_for(len: usize) -> usize
     ensures enough { len ≤ result }
@@ -17,7 +17,7 @@ pub(crate) fn capacity_for(len: usize) -> usize
     }
     match len.max(FIRST).checked_next_power_of_two() {
         Some(capacity) => capacity,
-        // No memory has as many.
+        // No memory can hold this many.
         None => len,
     }
 }

@@ -1,6 +1,7 @@
-//! Classes of bytes (RFC 9651 section 3), and the runs of them that a text begins with. A class is
-//! a type; each is tested here, once, for values, parsers and writers.
-ghost use Rattle.std.specs.Prelude.{◌≡◌, ◌≤◌, ◌*◌, ◌++◌, ℕ, Bool, true, length, take};
+//! Classes of bytes (RFC 9651 section 3), and what a text begins with: runs of them, and single
+//! bytes. A class is a type; each is tested here, once, for values, parsers and writers.
+ghost use Rattle.std.specs.Prelude.{◌≡◌, ◌≢◌, ◌≤◌, ◌*◌, ◌++◌, [], ◌∷◌, ℕ, Bool, true, false};
+ghost use Rattle.std.specs.Prelude.{length, take, IfSome};
 ghost use Rattle.sf_value.specs.Grammar.Words.{Every};
 ghost use Rattle.sf_value.specs.Grammar.Classes.{is_in_key, is_in_token, is_key_start, is_sp};
 ghost use Rattle.sf_value.specs.Grammar.Classes.{is_ows as is_ows_byte, is_token_start};
@@ -33,7 +34,7 @@ const BASE64: u8 = 32;
 /// The flag of the bytes of a display string that are written without an escape.
 const UNENCODED: u8 = 64;
 
-/// The number of bytes behind the first 16 from which on more are tested at a time.
+/// After the first 16 bytes and this many more, 32 bytes are tested at a time instead of 16.
 const NEAR: usize = 48;
 
 /// The flags of each byte.
@@ -207,7 +208,7 @@ fn first_lanes<C: LaneClass>(text: &[u8]) -> usize
 #[inline(always)]
 fn are_lanes<C: LaneClass>(text: &[u8]) -> bool
     requires { LANES ≤ length text.now }
-    // Then all of these bytes are of the class.
+    // If true, all of these bytes are of the class.
     ensures { result ≡ true → Every C.test (take LANES text.now) }
 {
     C::outside(u8x16::from_slice(text)) == 0
@@ -217,7 +218,7 @@ fn are_lanes<C: LaneClass>(text: &[u8]) -> bool
 #[inline(always)]
 fn are_pair<C: LaneClass>(text: &[u8]) -> bool
     requires { 2 * LANES ≤ length text.now }
-    // Then all of these bytes are of the class.
+    // If true, all of these bytes are of the class.
     ensures { result ≡ true → Every C.test (take (2 * LANES) text.now) }
 {
     // Not `&&`: the compiler makes one test of both.
@@ -246,7 +247,7 @@ fn lanes_run<C: LaneClass>(text: &[u8]) -> usize
     run
 }
 
-/// The same, 32 at a time.
+/// As [`lanes_run`], but 32 bytes at a time.
 #[inline(never)]
 fn far_run<C: LaneClass>(text: &[u8]) -> usize
     ensures within { result ≤ length text.now }
@@ -260,8 +261,9 @@ fn far_run<C: LaneClass>(text: &[u8]) -> usize
     run + lanes_run::<C>(&text[run..])
 }
 
-/// The number of bytes of the class that the text begins with. One that is long already is likely to
-/// go on. It is not inlined, so that a short run doesn't pay for its constants.
+/// The number of bytes of the class that the text begins with. A run that is long already is likely
+/// to go on, and is then tested 32 bytes at a time. It is not inlined, so that a short run doesn't
+/// pay for loading its constants.
 #[inline(never)]
 fn long_run<C: LaneClass>(text: &[u8]) -> usize
     ensures within { result ≤ length text.now }
@@ -278,8 +280,8 @@ fn long_run<C: LaneClass>(text: &[u8]) -> usize
     NEAR + far_run::<C>(&text[NEAR..])
 }
 
-/// The bytes of the class that the text begins with, and the rest, tested 16 and more at a time,
-/// unless the text is shorter. It does not allocate.
+/// The bytes of the class that the text begins with, and the rest. Bytes are tested 16 or more at a
+/// time, unless the text is shorter than 16. It does not allocate.
 #[inline(always)]
 pub fn long_prefix<C: LaneClass>(text: &[u8]) -> (&[u8], &[u8])
     // Together they are the text.
@@ -297,7 +299,7 @@ pub fn long_prefix<C: LaneClass>(text: &[u8]) -> (&[u8], &[u8])
     text.split_at(run)
 }
 
-/// The same for runs that are mostly short. It does not allocate.
+/// As [`long_prefix`], but byte by byte, for runs that are mostly short. It does not allocate.
 #[inline]
 pub fn short_prefix<C: ByteClass>(text: &[u8]) -> (&[u8], &[u8])
     // Together they are the text.
@@ -310,6 +312,37 @@ pub fn short_prefix<C: ByteClass>(text: &[u8]) -> (&[u8], &[u8])
         run += 1;
     }
     text.split_at(run)
+}
+
+/// The first byte, and the rest; `None` if there is none. It does not allocate.
+#[inline(always)]
+pub fn split(text: &[u8]) -> Option<(u8, &[u8])>
+    ensures { IfSome result (λ r. text.now ≡ r.0 ∷ r.1.now) }
+{
+    match text {
+        [first, rest @ ..] => Some((*first, rest)),
+        [] => None,
+    }
+}
+
+/// The rest after this byte; `None` if the text does not begin with it. It does not allocate.
+#[inline(always)]
+pub fn behind(text: &[u8], byte: u8) -> Option<&[u8]>
+    ensures { IfSome result (λ rest. text.now ≡ byte ∷ rest.now) }
+{
+    match split(text) {
+        Some((first, rest)) if first == byte => Some(rest),
+        _ => None,
+    }
+}
+
+/// Whether nothing is left. It does not allocate.
+#[inline(always)]
+pub fn ends(text: &[u8]) -> bool
+    ensures all { result ≡ true → text.now ≡ [] }
+    ensures some { result ≡ false → text.now ≢ [] }
+{
+    text.is_empty()
 }
 
 /// Whether a key may begin with this byte: `a` to `z` and `*` (RFC 9651 section 3.1.2). It does not

@@ -36,7 +36,7 @@ impl Shown {
     #[tactic(auto, using(crate::proofs::Utf8Table::from_utf8))]
     pub fn new(alloc: Global, text: &str) -> Result<Shown, OutOfMemory>
         ensures shown { IfOk result (λ shown. shown ≡ text.now) }
-        // At most 16 bytes are not refused as out of memory.
+        // With at most 16 bytes it is never out of memory.
         ensures in_place { FitsInPlace text.now → IsOk result }
     {
         Ok(Shown {
@@ -57,7 +57,7 @@ impl Shown {
     /// bytes do not allocate.
     pub fn copy(&self, alloc: Global) -> Result<Shown, OutOfMemory>
         ensures copied { IfOk result (λ copy. copy ≡ self.now) }
-        // At most 16 bytes are not refused as out of memory.
+        // With at most 16 bytes it is never out of memory.
         ensures in_place { FitsInPlace self.now → IsOk result }
     {
         Ok(Shown {

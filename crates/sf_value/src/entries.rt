@@ -95,8 +95,8 @@ impl<V> Model for IntoIter<V> {
 }
 
 impl<V> Entries<V> {
-    /// No entries. It does not allocate. The seed is that of the hashes of keys; if attackers
-    /// choose the keys, take one that they can't predict.
+    /// No entries. It does not allocate. The seed is for the hashes of keys; if attackers choose
+    /// the keys, pass one that they can't predict.
     pub fn new(alloc: Global, seed: &RandomState) -> Entries<V>
         ensures { result ≡ [] }
     {
@@ -108,7 +108,7 @@ impl<V> Entries<V> {
     /// The number of entries. It does not allocate.
     pub fn len(&self) -> usize
         ensures len { result ≡ length self.now }
-        // Each key is one, and none occurs twice.
+        // Each key is valid, and none occurs twice.
         ensures entries { AreEntries self.now }
     {
         self.store.len()
@@ -273,10 +273,10 @@ impl<V: Drop> Entries<V> {
         self.store.set(key, value)
     }
 
-    /// Puts a value at the key with these bytes, which are known to be one, as [`Entries::set`]
-    /// does. It takes less time, since most new keys are made in their place. A key of more than 16
-    /// bytes is allocated, also if it is present, but is then not missed if that fails. It is for
-    /// parsers, which test each byte as they read it.
+    /// Puts a value at the key with these bytes, which must be valid, as [`Entries::set`] does. It
+    /// takes less time, since most new keys are made in place. A key of more than 16 bytes is
+    /// allocated even if it is present; if that allocation fails, the value of a key that is
+    /// present is still replaced. It is for parsers, which test each byte as they read it.
     ///
     /// ```
     /// entries.set_named(alloc, b"q", Bare::Integer(Int::new(1)?))?;
@@ -412,7 +412,7 @@ impl<V: Part> Part for Entries<V> {
         true
     }
 
-    // Inlined for no entries, which most Items have: they need no call.
+    // Inlined, so that entries that are empty, as the parameters of most Items are, cost no call.
     #[inline(always)]
     fn copy(&self, alloc: Global, seed: &RandomState) -> Result<Entries<V>, OutOfMemory> {
         if let Store::Fresh(_, _) = &self.store {

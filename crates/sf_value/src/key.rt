@@ -41,7 +41,7 @@ impl Key {
         // It has these bytes; the fault is no bytes, the first bad one, or no memory for a key.
         ensures exact { MatchResult result (λ key. key ≡ bytes.now) (IsKeyFault bytes.now) }
         ensures key { IfOk result (λ key. IsKey key) }
-        // At most 16 bytes are not refused as out of memory.
+        // With at most 16 bytes it is never out of memory.
         ensures in_place { FitsInPlace bytes.now → IfErr result IsOfBytes }
     {
         Ok(Key {
@@ -49,8 +49,8 @@ impl Key {
         })
     }
 
-    /// The key of these bytes, which are known to be one. It does not allocate. It is for parsers,
-    /// which test each byte as they read it.
+    /// The key of these bytes, which must be valid. It does not allocate. It is for parsers, which
+    /// test each byte as they read it.
     #[inline]
     pub fn from_bytes(bytes: ShortBytes) -> Key
         requires { IsKey bytes }
@@ -64,7 +64,7 @@ impl Key {
     pub fn first(alloc: Global, byte: u8) -> Result<Key, OutOfMemory>
         requires { is_key_start byte ≡ true }
         ensures key { IfOk result (λ key. key ≡ byte ∷ []) }
-        // One byte is not refused as out of memory.
+        // With one byte it is never out of memory.
         ensures in_place { IsOk result }
     {
         let mut bytes = ShortBytes::new(alloc);
@@ -76,7 +76,7 @@ impl Key {
     /// allocate.
     pub fn copy(&self, alloc: Global) -> Result<Key, OutOfMemory>
         ensures copied { IfOk result (λ copy. copy ≡ self.now) }
-        // At most 16 bytes are not refused as out of memory.
+        // With at most 16 bytes it is never out of memory.
         ensures in_place { FitsInPlace self.now → IsOk result }
     {
         Ok(Key {

@@ -36,7 +36,7 @@ pub trait Part: PartialEq + Drop {
     /// at most 16 bytes, an Item of one of these without parameters, and no entries.
     fn copy(&self, alloc: Global, seed: &RandomState) -> Result<Self, OutOfMemory>
         ensures copied { IfOk result (λ copy. copy ≡ self.now) }
-        // What is in place is not refused as out of memory.
+        // A copy of what is in place is never out of memory.
         ensures in_place { in_place self.now → IsOk result };
 
     // `==` holds for equal parts, and for no others.
@@ -85,8 +85,9 @@ impl Part for Bare {
         }
     }
 
-    // The bytes are copied at one place for all types that have some, since a function clears all its
-    // stack at its entry: four results would be there, each to be moved.
+    // The bytes are copied at one place for all types that have some: a function clears all its
+    // stack on entry, and with a copy for each type there would be four results on it, each to be
+    // moved.
     #[tactic(auto, using(crate::proofs::BareInPlaces::few_bytes))]
     fn copy(&self, alloc: Global, _seed: &RandomState) -> Result<Bare, OutOfMemory> {
         match self {
@@ -112,7 +113,7 @@ impl Part for Item {
     }
 
     // Inlined, since a copy that is returned is moved once more. The parameters are copied first:
-    // there are mostly none, and no bare item is then kept across a call.
+    // mostly there are none, and so no bare item has to be kept across a call.
     #[inline(always)]
     fn copy(&self, alloc: Global, seed: &RandomState) -> Result<Item, OutOfMemory> {
         let params = self.params.copy(alloc, seed)?;
@@ -189,16 +190,16 @@ pub fn same(a: &Field, b: &Field) -> bool
     }
 }
 
-/// Another field, equal to its source. The seed is that of its entries. It fails only if an
-/// allocation fails. A number, a Boolean, a Date or at most 16 bytes without parameters, and a List
-/// or a Dictionary without members, do not allocate.
+/// A copy, equal to its source. The seed is for the hashes of its entries' keys. It fails only if
+/// an allocation fails. A number, a Boolean, a Date or at most 16 bytes without parameters, and a
+/// List or a Dictionary without members, do not allocate.
 ///
 /// ```
 /// let twin = copy(alloc, &seed, &field)?;
 /// ```
 pub fn copy(alloc: Global, seed: &RandomState, field: &Field) -> Result<Field, OutOfMemory>
     ensures copied { IfOk result (λ copy. copy ≡ field.now) }
-    // What is in place is not refused as out of memory.
+    // A copy of what is in place is never out of memory.
     ensures in_place { FieldInPlace field.now → IsOk result }
 {
     match field {
@@ -226,8 +227,8 @@ fn bytes_of(bare: &Bare) -> &[u8]
     }
 }
 
-/// The same bare item again, with its bytes. [`Part::copy`] has no number, Boolean or Date here, which
-/// the match has to name all the same.
+/// The same bare item, with these bytes. [`Part::copy`] passes no number, Boolean or Date, but the
+/// match has to name them.
 #[inline(always)]
 fn with_bytes(bare: &Bare, bytes: ShortBytes) -> Bare
     requires { bytes ≡ bytes_in bare.now }

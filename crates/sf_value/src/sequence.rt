@@ -275,7 +275,7 @@ impl<T: Part> Part for Sequence<T> {
 fn copies<T: Part>(sources: &[T], alloc: Global, seed: &RandomState) -> Result<Vec<T>, OutOfMemory>
     ensures copied { IfOk result (λ copies. copies.items ≡ sources.now) }
     ensures room { IfOk result (λ copies. HasGrown (length sources.now) (vec_capacity copies)) }
-    // No values are not refused as out of memory.
+    // Without values it is never out of memory.
     ensures none { sources.now ≡ [] → IsOk result }
 {
     let mut items = Vec::with_capacity(alloc, capacity_for(sources.len()))?;

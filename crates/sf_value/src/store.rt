@@ -32,15 +32,15 @@ use std::hash::RandomState;
 use std::{mem, slice, vec};
 
 /// The largest number of entries in a vector.
-const FEW: usize = 8;
+const MAX_SLOTS: usize = 8;
 
 /// One of a few entries.
 #[derive(Debug, Drop)]
 pub(crate) struct Slot<V> {
     pub(crate) key: Key,
     pub(crate) value: V,
-    /// The seed of the map that replaces the vector when there are more than a few. It is in the
-    /// memory of the vector, so that entries are no larger than one.
+    /// The seed of the map that replaces the vector when there are more entries. It is stored in
+    /// the memory of the vector, so that a `Store` is no larger than a vector.
     seed: RandomState,
 }
 
@@ -167,7 +167,7 @@ impl<V: Drop> Store<V> {
 
     /// Puts a value at a key, as `Entries::put` does. Only a new key allocates.
     pub(crate) fn put(&mut self, key: Key, value: V) -> Result<Option<V>, (Key, V)>
-        // Each key is one, and none occurs twice.
+        // Each key is valid, and none occurs twice.
         requires entries { AreEntries (stored self.old) }
         // There is a seed: a vector has a slot, which has it.
         requires seed { HasSeed self.old }
@@ -197,7 +197,7 @@ impl<V: Drop> Store<V> {
                 if let Some(place) = place_of(slots, key.as_bytes()) {
                     return Ok(Some(mem::replace(&mut slots[place].value, value)));
                 }
-                if slots.len() < FEW {
+                if slots.len() < MAX_SLOTS {
                     let seed = slots[0].seed;
                     push(slots, Slot { key, value, seed })?;
                     return Ok(None);
@@ -213,11 +213,12 @@ impl<V: Drop> Store<V> {
         }
     }
 
-    /// Puts a value at a key, as `Entries::set` does. Only a new key allocates. The rarer ways are
-    /// not inlined: a function clears all its stack at its entry, so each way has its own.
+    /// Puts a value at a key, as `Entries::set` does. Only a new key allocates. The rarer cases are
+    /// functions that are not inlined: a function clears all its stack on entry, so each case pays
+    /// only for its own.
     #[inline(never)]
     pub(crate) fn set(&mut self, key: Key, value: V) -> Result<(), OutOfMemory>
-        // Each key is one, and none occurs twice.
+        // Each key is valid, and none occurs twice.
         requires entries { AreEntries (stored self.old) }
         // There is a seed: a vector has a slot, which has it.
         requires seed { HasSeed self.old }
@@ -246,7 +247,7 @@ impl<V: Drop> Store<V> {
                     overwrite(&mut slots[place], value);
                     return Ok(());
                 }
-                if slots.len() < FEW {
+                if slots.len() < MAX_SLOTS {
                     let seed = slots[0].seed;
                     add(slots, Slot { key, value, seed })?;
                     return Ok(());
@@ -257,7 +258,7 @@ impl<V: Drop> Store<V> {
         }
     }
 
-    /// The same, for entries that are replaced by a map. It is not inlined, nor is `table::set`: a
+    /// As `set`, but the vector is replaced by a map. It is not inlined, nor is `table::set`: a
     /// call for a few entries would pay for their registers and their stack.
     #[inline(never)]
     fn set_in_map(&mut self, key: Key, value: V) -> Result<(), OutOfMemory>
@@ -276,8 +277,9 @@ impl<V: Drop> Store<V> {
         }
     }
 
-    /// Puts a value at the key with these bytes, as `Entries::set_named` does. It is inlined for the
-    /// common ways, in which neither the key nor the slot is moved: a short key, first or among a few.
+    /// Puts a value at the key with these bytes, as `Entries::set_named` does. It is inlined for
+    /// the common cases, in which neither the key nor the slot is moved: a short key that is the
+    /// first, or among a few.
     #[inline(always)]
     pub(crate) fn set_named(
         &mut self,
@@ -286,7 +288,7 @@ impl<V: Drop> Store<V> {
         value: V,
     ) -> Result<(), OutOfMemory>
         requires key { IsKey key.now }
-        // Each key is one, and none occurs twice.
+        // Each key is valid, and none occurs twice.
         requires entries { AreEntries (stored self.old) }
         // There is a seed: a vector has a slot, which has it.
         requires seed { HasSeed self.old }
@@ -308,7 +310,7 @@ impl<V: Drop> Store<V> {
         }
         let seed = self.seed();
         let at = self.reserve(key)?;
-        if at >= FEW {
+        if at >= MAX_SLOTS {
             return self.set_made(alloc, key, value);
         }
         // There is no other outcome: it is a vector, and a short key does not allocate.
@@ -330,7 +332,7 @@ impl<V: Drop> Store<V> {
         Ok(())
     }
 
-    /// The seed of the map that there is not yet.
+    /// The seed for a map, if there is none yet.
     #[inline(always)]
     fn seed(&self) -> RandomState
         requires { HasSlotSeed self.now }
@@ -342,15 +344,16 @@ impl<V: Drop> Store<V> {
         }
     }
 
-    /// The place of a key among a few: where it is or, if it is new, where it goes, for which there is
-    /// then room. It is `FEW` if the key has no place there.
+    /// The index of a key in the vector: where it is or, if it is new, where it is to be put, with
+    /// capacity reserved for it. It is `MAX_SLOTS` if the key is new and the vector is full, or if
+    /// the entries are in a map.
     #[inline(never)]
     fn reserve(&mut self, key: &[u8]) -> Result<usize, OutOfMemory>
         requires { HasSeed self.old }
         ensures same { stored self.new ≡ stored self.old }
-        ensures place { IfOk result (λ place. place < FEW → HasPlace key.now place self.new) }
-        // Without a place there is a seed as before.
-        ensures other { IfOk result (λ place. FEW ≤ place → HasSeed self.new) }
+        ensures place { IfOk result (λ place. place < MAX_SLOTS → HasPlace key.now place self.new) }
+        // Without an index, there is a seed as before.
+        ensures other { IfOk result (λ place. MAX_SLOTS ≤ place → HasSeed self.new) }
         ensures seed { OnErr result (HasSeed self.new) }
         // It fails only if the key is new.
         ensures absent { OnErr result (value_at key.now (stored self.old) ≡ None) }
@@ -365,18 +368,19 @@ impl<V: Drop> Store<V> {
                 if let Some(present) = place_of(slots, key) {
                     return Ok(present);
                 }
-                if slots.len() >= FEW {
-                    return Ok(FEW);
+                if slots.len() >= MAX_SLOTS {
+                    return Ok(MAX_SLOTS);
                 }
                 slots.reserve(1)?;
                 return Ok(slots.len());
             }
-            Store::Many(_) => return Ok(FEW),
+            Store::Many(_) => return Ok(MAX_SLOTS),
         }
     }
 
-    /// Makes room for the first entry, in the vector that replaces no entries. The vector grows where
-    /// it stays: moved at once after that, it would be loaded while it is still being stored.
+    /// Makes an empty vector with capacity for the first entry. The vector is stored first and
+    /// grows there: if it were moved right after growing, it would be loaded while it is still
+    /// being stored.
     #[inline(always)]
     fn reserve_first(&mut self, alloc: Global, seed: RandomState) -> Result<(), OutOfMemory>
         requires { stored self.old ≡ [] }
@@ -395,8 +399,8 @@ impl<V: Drop> Store<V> {
         Ok(())
     }
 
-    /// The same as `set_named`, for a long key, or one more than a few: the key is made before its
-    /// place is known.
+    /// As `set_named`, for a long key, or if the vector is full: it first makes the key, whether or
+    /// not it is present.
     #[inline(never)]
     fn set_made(&mut self, alloc: Global, key: &[u8], value: V) -> Result<(), OutOfMemory>
         requires key { IsKey key.now }
@@ -415,7 +419,8 @@ impl<V: Drop> Store<V> {
         self.set(Key::from_bytes(bytes), value)
     }
 
-    /// The same where there is no memory for the key: it fails if the key is new.
+    /// As `set_named`, if there is no memory for the key: it replaces the value of a key that is
+    /// present, and fails if the key is new.
     #[inline(never)]
     fn overwrite(&mut self, key: &[u8], value: V) -> Result<(), OutOfMemory>
         requires key { IsKey key.now }
@@ -443,7 +448,7 @@ impl<V: Drop> Store<V> {
 
     /// Removes the key with these bytes, and returns its value. The others keep their order.
     pub(crate) fn remove(&mut self, key: &[u8]) -> Option<V>
-        // Each key is one, and none occurs twice.
+        // Each key is valid, and none occurs twice.
         requires entries { AreEntries (stored self.old) }
         // There is a seed: a vector has a slot, which has it.
         requires seed { HasSeed self.old }
@@ -475,18 +480,18 @@ impl<V: Drop> Store<V> {
 }
 
 impl<V: Part> Store<V> {
-    /// Other entries, equal to these, with another seed, in memory as if they had been put one by one.
+    /// A copy with another seed, with the capacity that putting the entries one by one would give.
     /// It is not inlined: a copy of no entries would pay for its stack.
     #[inline(never)]
     pub(crate) fn copy(&self, alloc: Global, seed: &RandomState) -> Result<Store<V>, OutOfMemory>
-        // Each key is one, and none occurs twice.
+        // Each key is valid, and none occurs twice.
         requires entries { AreEntries (stored self.now) }
         requires seed { HasSeed self.now }
         ensures seed { IfOk result HasSeed }
         ensures given { IfOk result (IsSeedOf seed.now) }
         ensures room { IfOk result HasGrownRoom }
         ensures copied { IfOk result (λ copy. stored copy ≡ stored self.now) }
-        // No entries are not refused as out of memory.
+        // Without entries it is never out of memory.
         ensures none { stored self.now ≡ [] → IsOk result }
     {
         match self {
@@ -496,7 +501,7 @@ impl<V: Part> Store<V> {
                 if map.is_empty() {
                     return Ok(Store::Fresh(alloc, *seed));
                 }
-                if map.len() <= FEW {
+                if map.len() <= MAX_SLOTS {
                     return Ok(Store::Few(copy_left(map, alloc, seed)?));
                 }
                 return Ok(Store::Many(copy_many(map, alloc, seed)?));
@@ -523,7 +528,7 @@ fn copy_few<V: Part>(
     Ok(copies)
 }
 
-/// Copies of the few entries that were left in a map, in a vector.
+/// Copies of the entries of a map in which only a few are left, in a vector.
 #[inline(never)]
 fn copy_left<V: Part>(
     map: &Many<V>,
@@ -541,8 +546,9 @@ fn copy_left<V: Part>(
     Ok(copies)
 }
 
-/// Adds a copy of an entry to a few, which have room for it. A short key is not moved as a result,
-/// and is made before the value, since its bytes, just written, could not be read without a wait.
+/// Adds a copy of an entry to a vector that has capacity for it. A short key is made here, and not
+/// moved out of a result. It is made before the value: if its bytes were read right after they are
+/// written, the read would wait.
 #[inline(always)]
 fn push_copy<V: Part>(
     copies: &mut Vec<Slot<V>>,
@@ -573,7 +579,7 @@ fn push_copy<V: Part>(
     Ok(())
 }
 
-/// The same for a long key, which is allocated.
+/// As [`push_copy`], for a long key, which is allocated.
 #[inline(never)]
 fn push_long_copy<V: Part>(
     copies: &mut Vec<Slot<V>>,
@@ -598,8 +604,8 @@ fn push_long_copy<V: Part>(
     Ok(())
 }
 
-/// Copies of the entries of a map, in one that has capacity for them. It is no larger than one that
-/// grew, since maps grow to what they are made with at first.
+/// Copies of the entries of a map, in a map that is made with capacity for them. It is no larger
+/// than a map that grew to as many entries.
 #[inline(never)]
 fn copy_many<V: Part>(
     map: &Many<V>,
@@ -658,7 +664,7 @@ fn insert<V: Drop>(map: &mut Many<V>, key: Key, value: V)
     };
 }
 
-/// A map of these entries, which leave the vector. If an allocation fails, they stay in it.
+/// Moves the entries from the vector to a map. If an allocation fails, they stay in the vector.
 fn grown<V: Drop>(slots: &mut Vec<Slot<V>>) -> Result<Box<Many<V>>, OutOfMemory>
     requires some { 0 < vec_len slots.old }
     // No key occurs twice.

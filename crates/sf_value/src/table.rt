@@ -1,4 +1,4 @@
-//! Entries in a table by hashes, if they are more than a few.
+//! Entries in a hash table, if there are more than a few.
 ghost use Rattle.std.specs.Prelude.{◌≡◌, [], ◌∷◌, ◌++◌, None, IfOk, IfErr, OnOk, OnErr};
 ghost use Rattle.sf_value.specs.Grammar.Pairs.{settle, value_at};
 ghost use Rattle.sf_value.specs.Grammar.Tokens.{IsKey};
@@ -17,7 +17,7 @@ pub(crate) type Many<V> = IndexMap<Key, V, RandomState>;
 
 /// Puts a value at a key, as `Entries::put` does. Only a new key allocates.
 pub(crate) fn put<V>(map: &mut Many<V>, key: Key, value: V) -> Result<Option<V>, (Key, V)>
-    // Each key is one, and none occurs twice.
+    // Each key is valid, and none occurs twice.
     requires { AreEntries map.old.entries }
     // This still holds.
     ensures entries { AreEntries map.new.entries }
@@ -41,7 +41,7 @@ pub(crate) fn put<V>(map: &mut Many<V>, key: Key, value: V) -> Result<Option<V>,
 /// Puts a value at a key, as `Entries::set` does, without the result of `put`.
 #[inline(never)]
 pub(crate) fn set<V: Drop>(map: &mut Many<V>, key: Key, value: V) -> Result<(), OutOfMemory>
-    // Each key is one, and none occurs twice.
+    // Each key is valid, and none occurs twice.
     requires { AreEntries map.old.entries }
     // This still holds.
     ensures entries { AreEntries map.new.entries }
@@ -60,7 +60,7 @@ pub(crate) fn set<V: Drop>(map: &mut Many<V>, key: Key, value: V) -> Result<(), 
 }
 
 /// Puts a value at the key with these bytes, as `Entries::set_named` does. The key is made before
-/// it is looked for, since a look-up of its own would hash it once more.
+/// it is looked up, since a separate look-up would hash it once more.
 #[inline(never)]
 pub(crate) fn set_named<V: Drop>(
     map: &mut Many<V>,
@@ -69,7 +69,7 @@ pub(crate) fn set_named<V: Drop>(
     value: V,
 ) -> Result<(), OutOfMemory>
     requires key { IsKey key.now }
-    // Each key is one, and none occurs twice.
+    // Each key is valid, and none occurs twice.
     requires entries { AreEntries map.old.entries }
     // This still holds.
     ensures entries { AreEntries map.new.entries }
@@ -89,7 +89,7 @@ pub(crate) fn set_named<V: Drop>(
     }
 }
 
-/// The same where there is no memory for the key: it fails if the key is new.
+/// As [`set_named`], if there is no memory for the key: it fails if the key is new.
 #[inline(never)]
 pub(crate) fn overwrite<V: Drop>(map: &mut Many<V>, key: &[u8], value: V) -> Result<(), OutOfMemory>
     requires key { IsKey key.now }

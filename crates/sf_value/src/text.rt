@@ -9,7 +9,7 @@ ghost use Rattle.sf_value.specs.InPlace.{FitsInPlace};
 use crate::bytes::ShortBytes;
 use crate::classes::Visible;
 use crate::fault::{OutOfMemory, TextFault};
-use crate::word::bad_byte_behind;
+use crate::word::bad_byte_after_run;
 use std::alloc::Global;
 use std::marker::Model;
 
@@ -42,10 +42,10 @@ impl Text {
         // It has these bytes; the fault is the first bad one, or no memory for a string.
         ensures exact { MatchResult result (λ text. text ≡ bytes.now) (IsStringFault bytes.now) }
         ensures text { IfOk result (λ text. Every is_visible_byte text) }
-        // At most 16 bytes are not refused as out of memory.
+        // With at most 16 bytes it is never out of memory.
         ensures in_place { FitsInPlace bytes.now → IfErr result IsOfBytes }
     {
-        if let Some(place) = bad_byte_behind::<Visible>(bytes) {
+        if let Some(place) = bad_byte_after_run::<Visible>(bytes) {
             return Err(TextFault::BadByte { place });
         }
         Ok(Text {
@@ -53,8 +53,8 @@ impl Text {
         })
     }
 
-    /// The string of these bytes, which are known to be one. It does not allocate. It is for
-    /// parsers, which test each byte as they read it.
+    /// The string of these bytes, which must be valid. It does not allocate. It is for parsers,
+    /// which test each byte as they read it.
     #[inline]
     pub fn from_bytes(bytes: ShortBytes) -> Text
         requires { Every is_visible_byte bytes }
@@ -67,7 +67,7 @@ impl Text {
     /// not allocate.
     pub fn copy(&self, alloc: Global) -> Result<Text, OutOfMemory>
         ensures copied { IfOk result (λ copy. copy ≡ self.now) }
-        // At most 16 bytes are not refused as out of memory.
+        // With at most 16 bytes it is never out of memory.
         ensures in_place { FitsInPlace self.now → IsOk result }
     {
         Ok(Text {

@@ -41,7 +41,7 @@ impl Token {
         // It has these bytes; the fault is no bytes, the first bad one, or no memory for a token.
         ensures exact { MatchResult result (λ token. token ≡ bytes.now) (IsTokenFault bytes.now) }
         ensures token { IfOk result (λ token. IsToken token) }
-        // At most 16 bytes are not refused as out of memory.
+        // With at most 16 bytes it is never out of memory.
         ensures in_place { FitsInPlace bytes.now → IfErr result IsOfBytes }
     {
         Ok(Token {
@@ -49,8 +49,8 @@ impl Token {
         })
     }
 
-    /// The token of these bytes, which are known to be one. It does not allocate. It is for
-    /// parsers, which test each byte as they read it.
+    /// The token of these bytes, which must be valid. It does not allocate. It is for parsers,
+    /// which test each byte as they read it.
     #[inline]
     pub fn from_bytes(bytes: ShortBytes) -> Token
         requires { IsToken bytes }
@@ -63,7 +63,7 @@ impl Token {
     /// not allocate.
     pub fn copy(&self, alloc: Global) -> Result<Token, OutOfMemory>
         ensures copied { IfOk result (λ copy. copy ≡ self.now) }
-        // At most 16 bytes are not refused as out of memory.
+        // With at most 16 bytes it is never out of memory.
         ensures in_place { FitsInPlace self.now → IsOk result }
     {
         Ok(Token {

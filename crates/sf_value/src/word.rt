@@ -18,11 +18,11 @@ pub(crate) fn word_bytes<S: ByteClass, C: ByteClass>(
     alloc: Global,
     bytes: &[u8],
 ) -> Result<ShortBytes, TextFault>
-    // These bytes; or the cause: no bytes, the first bad one, or a word and no memory for it.
+    // It has these bytes; the fault is no bytes, the first bad one, or no memory for a word.
     ensures exact { MatchResult result (λ word. word ≡ bytes.now)
         (IsWordFault S.test C.test bytes.now) }
     ensures word { IfOk result (λ word. IsWord S.test C.test word) }
-    // At most 16 bytes are not refused as out of memory.
+    // With at most 16 bytes it is never out of memory.
     ensures in_place { FitsInPlace bytes.now → IfErr result IsOfBytes }
 {
     if bytes.is_empty() {
@@ -41,9 +41,9 @@ pub(crate) fn bad_byte<C: ByteClass>(bytes: &[u8]) -> Option<usize>
     bytes.iter().position(|b| !C::has(*b))
 }
 
-/// The same, of bytes that are mostly of the class: they are tested many at a time.
-#[tactic(auto, using(crate::proofs::Words::bad_behind))]
-pub(crate) fn bad_byte_behind<C: LaneClass>(bytes: &[u8]) -> Option<usize>
+/// As [`bad_byte`], but many bytes at a time, for bytes that are mostly of the class.
+#[tactic(auto, using(crate::proofs::Words::bad_after_run))]
+pub(crate) fn bad_byte_after_run<C: LaneClass>(bytes: &[u8]) -> Option<usize>
     ensures { result ≡ bad_place C.test bytes.now }
 {
     let (run, rest) = long_prefix::<C>(bytes);
@@ -51,8 +51,8 @@ pub(crate) fn bad_byte_behind<C: LaneClass>(bytes: &[u8]) -> Option<usize>
     Some(run.len() + place)
 }
 
-/// The place of the first byte that is not allowed in a word there; `None` also if there are no
-/// bytes.
+/// The place of the first byte that is not allowed at its place in a word; `None` also if there are
+/// no bytes.
 fn bad_byte_of_word<S: ByteClass, C: ByteClass>(bytes: &[u8]) -> Option<usize>
     ensures { result ≡ bad_word_place S.test C.test bytes.now }
 {

@@ -12,7 +12,7 @@ use Rattle.sf_value.specs.Grammar.Items.{SpellsItem}
 use Rattle.sf_value.specs.Grammar.InnerLists.{SpellsItems, inner}
 use Rattle.sf_value.specs.Grammar.Fields.{flag}
 use Rattle.sf_value.proofs.Runs.{every_append}
-use Rattle.sf_view.specs.declared.bare.Part.{Part}
+use Rattle.sf_view.specs.declared.bare_part.Part.{Part}
 use Rattle.sf_view.specs.declared.item.KeyPlace.{KeyPlace}
 use Rattle.sf_view.specs.declared.node.Node.{Node}
 use Rattle.sf_view.specs.declared.node_types.NodeType.TheVariants as type_is

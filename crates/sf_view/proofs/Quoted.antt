@@ -9,7 +9,7 @@ use Rattle.sf_value.specs.Grammar.Words.{Every}
 use Rattle.sf_value.specs.Grammar.Utf8.{Utf8, Start, Within, WellFormed, utf8_step}
 use Rattle.sf_value.specs.Grammar.DisplayStrings.{hex, is_unencoded, EncodedBytes}
 use Rattle.sf_value.proofs.Utf8Table.{in_range}
-use Rattle.sf_view.specs.declared.bare.Part.{Part}
+use Rattle.sf_view.specs.declared.bare_part.Part.{Part}
 use Rattle.sf_view.specs.declared.node_types.NodeType.TheVariants as type_is
 use Rattle.sf_value.specs.declared.utf8.Utf8State.{Utf8State}
 use Rattle.sf_view.specs.Scans.{ScansBare}

@@ -13,7 +13,7 @@ use Rattle.sf_value.specs.Grammar.Parameters.{SpellsRaw}
 use Rattle.sf_value.specs.Grammar.Items.{SpellsItem, item}
 use Rattle.sf_value.specs.Grammar.InnerLists.{SpellsInner, inner}
 use Rattle.sf_value.specs.Grammar.Fields.{flag}
-use Rattle.sf_view.specs.declared.bare.Part.{Part}
+use Rattle.sf_view.specs.declared.bare_part.Part.{Part}
 use Rattle.sf_view.specs.declared.view.BareView.{BareView}
 use Rattle.sf_view.specs.declared.view.BareView.TheVariants as view_is
 use Rattle.sf_view.specs.Scans.{Behind, ScansBare, PartDescribes}

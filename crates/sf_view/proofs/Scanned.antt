@@ -13,7 +13,7 @@ use Rattle.sf_value.specs.Grammar.Strings.{escaped, is_escaped}
 use Rattle.sf_value.specs.Grammar.BareItems.{SpellsBare}
 use Rattle.sf_value.proofs.Runs.{every_append}
 use Rattle.sf_value.proofs.Words.{every_map}
-use Rattle.sf_view.specs.declared.bare.Part.{Part}
+use Rattle.sf_view.specs.declared.bare_part.Part.{Part}
 use Rattle.sf_view.specs.declared.node_types.NodeType.TheVariants as type_is
 use Rattle.sf_view.specs.View.{slice_at, type_of, number_of, DescribesText}
 use Rattle.sf_value.specs.declared.dialect.Dialect.TheVariants.{Rfc9651}

@@ -23,7 +23,7 @@ use Rattle.sf_value.specs.declared.value.Member.{Member}
 use Rattle.sf_value.specs.Grammar.Items.{SpellsItem}
 use Rattle.sf_value.specs.Grammar.InnerLists.{SpellsItems, SpellsMember}
 use Rattle.sf_value.specs.Grammar.Fields.{SpellsEntry}
-use Rattle.sf_view.specs.declared.bare.Part.{Part}
+use Rattle.sf_view.specs.declared.bare_part.Part.{Part}
 use Rattle.sf_view.specs.declared.item.KeyPlace.{KeyPlace}
 use Rattle.sf_view.specs.declared.keys.Marks.{Marks}
 use Rattle.sf_view.specs.declared.node.Node.{Node}

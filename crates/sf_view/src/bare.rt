@@ -1,9 +1,10 @@
 //! Bare items.
-ghost use Rattle.std.specs.Prelude.{◌≡◌, ◌++◌, ◌∷◌, ◌≤◌, ◌<◌, ◌+◌, ◌-◌, ◌*◌, ◌^◌, length, IfSome, false, true, pos};
+ghost use Rattle.std.specs.Prelude.{◌≡◌, ◌++◌, ◌∷◌, ◌≤◌, ◌<◌, ◌+◌, ◌-◌, ◌*◌, ◌^◌, length, IfSome, false, true};
 ghost use Rattle.sf_value.specs.declared.dialect.Dialect.{Dialect as Which};
 ghost use Rattle.sf_value.specs.Grammar.Numbers.{sign, signed};
 ghost use Rattle.sf_view.specs.Scans.{ScansDigits, ScansFraction, ScansNumber, ScansDate, ScansBare, Closes};
 
+use crate::bare_part::{Part, bytes_of};
 use crate::classes::{InBase64, InToken, Unescaped, behind, is_token_start, long_prefix, split};
 use crate::display_string::scan_shown;
 use crate::node_types::NodeType;
@@ -11,16 +12,6 @@ use sf_value::Dialect;
 
 /// The most digits of a Decimal before its point (RFC 9651 section 3.3.2).
 const WHOLE_DIGITS: usize = 12;
-
-/// What a scanner read of a bare item.
-#[derive(Clone, Copy, Drop)]
-pub(crate) struct Part {
-    pub number: i64,
-    pub at: u32,
-    pub length: u32,
-    pub node_type: NodeType,
-    pub coded: bool,
-}
 
 /// A bare item that is a number.
 #[inline]
@@ -40,34 +31,7 @@ fn number_of(node_type: NodeType, number: i64) -> Part
     }
 }
 
-/// A bare item of bytes: the first `size` bytes of this text, which ends a source of `whole` bytes.
-#[inline]
-pub(crate) fn bytes_of(
-    whole: usize,
-    node_type: NodeType,
-    coded: bool,
-    text: &[u8],
-    size: usize,
-) -> Part
-    requires small { whole < 2 ^ 32 }
-    requires within { length text.now ≤ whole }
-    requires prefix { size ≤ length text.now }
-    ensures node_type { result.node_type ≡ node_type }
-    ensures number { result.number ≡ pos 0 }
-    ensures at { result.at + length text.now ≡ whole }
-    ensures size { result.length ≡ size }
-    ensures coded { result.coded ≡ coded }
-{
-    Part {
-        number: 0,
-        at: (whole - text.len()) as u32,
-        length: size as u32,
-        node_type,
-        coded,
-    }
-}
-
-/// The digits, at most 15, that the text begins with: their value, their number, and the rest.
+/// The digits, at most 15, that the text begins with: their value, how many they are, and the rest.
 #[inline(always)]
 #[tactic(auto, using(sf_parse::proofs::Numerals::digit_fits, sf_parse::proofs::Numerals::short, sf_parse::proofs::Numerals::next_digit))]
 fn digits(text: &[u8]) -> (u64, usize, &[u8])
@@ -306,7 +270,8 @@ fn scan_other(dialect: Dialect, whole: usize, text: &[u8]) -> Option<(Part, &[u8
     }
 }
 
-/// A bare item at the start of the text, which ends a source of `whole` bytes, and the rest.
+/// A bare item at the start of the text, which is the end of a source of `whole` bytes, and the
+/// rest.
 #[inline(always)]
 fn scan_bare(dialect: Dialect, whole: usize, text: &[u8]) -> Option<(Part, &[u8])>
     requires small { whole < 2 ^ 32 }
@@ -324,12 +289,12 @@ fn scan_bare(dialect: Dialect, whole: usize, text: &[u8]) -> Option<(Part, &[u8]
         b'?' | b':' | b'@' | b'%' => {}
         _ => return scan_token(whole, text),
     }
-    // In parts: the compiler keeps these in registers, and the result as a whole in memory.
+    // Taken apart: the compiler keeps the parts in registers, but the result as a whole in memory.
     let (part, rest) = scan_other(dialect, whole, text)?;
     Some((part, rest))
 }
 
-/// The same as [`scan_bare`], but tests for a number first.
+/// As [`scan_bare`], but tests for a number first.
 #[inline(always)]
 pub(crate) fn scan_value(dialect: Dialect, whole: usize, text: &[u8]) -> Option<(Part, &[u8])>
     requires small { whole < 2 ^ 32 }

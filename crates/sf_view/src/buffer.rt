@@ -9,9 +9,9 @@ const BLOCK: usize = 32;
 /// The number of bytes that are counted together: small enough that the count fits in a byte.
 const CHUNK: usize = 128;
 
-/// Returns a buffer with enough nodes for [`crate::View::scan`] of this text. Their number is
-/// counted by the bytes that are before a node, so it is close to that of the nodes of the text. No
-/// clause says that they are enough: if they were not, the scan would return
+/// Returns a buffer with enough nodes for [`crate::View::scan`] of this text. Their number is that
+/// of the bytes that can be right before a part with a node, so it is close to the number of nodes
+/// of the text. No clause says that they are enough: if they were not, the scan would return
 /// [`crate::Unviewed::ShortBuffer`]. It fails only if an allocation fails.
 ///
 /// ```
@@ -44,8 +44,7 @@ pub(crate) fn most_nodes(text: &[u8]) -> usize {
         .saturating_add(1)
 }
 
-/// The number of times that the byte is in the text. The compiler adds up a chunk in vectors of
-/// bytes.
+/// The number of times that the byte is in the text. The compiler vectorises the count of a chunk.
 fn occurrences(text: &[u8], byte: u8) -> usize {
     let mut count = 0usize;
     for chunk in text.chunks(CHUNK) {

@@ -171,8 +171,8 @@ pub(crate) fn fill(start: Coding, text: &[u8], buffer: &mut [u8]) -> Option<usiz
     }
 }
 
-/// What was decoded into a buffer: how many bytes, and how the rest of the text spells those after
-/// them, of which there are none if they are whole.
+/// The number of bytes that were decoded into a buffer, and the coding and the text of those after
+/// them. If `whole` is true, none come after them.
 #[derive(Clone, Copy, Drop)]
 pub(crate) struct Filled<'a> {
     pub count: usize,
@@ -181,7 +181,7 @@ pub(crate) struct Filled<'a> {
     pub whole: bool,
 }
 
-/// Decodes as many bytes into the buffer as it has room for.
+/// Decodes as many bytes as fit in the buffer.
 #[inline]
 pub(crate) fn fill_part<'a>(start: Coding, text: &'a [u8], buffer: &mut [u8]) -> Filled<'a>
     requires some { 1 ≤ length buffer.old }
@@ -218,8 +218,8 @@ pub(crate) fn fill_part<'a>(start: Coding, text: &'a [u8], buffer: &mut [u8]) ->
     }
 }
 
-/// The bytes that the text begins with and spells as themselves, and the rest: none in base64 and of
-/// bytes as they are, where each byte is taken by itself.
+/// The unescaped bytes that the text of a String or a Display String begins with, and the rest; of
+/// other texts it takes none, so that [`take_byte`] takes each byte.
 #[inline]
 #[tactic(auto, using(crate::proofs::Decoding::plain_run, crate::proofs::Decoding::unencoded_run))]
 pub(crate) fn take_run(coding: Coding, rest: &[u8]) -> (&[u8], &[u8])

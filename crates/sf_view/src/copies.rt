@@ -460,8 +460,8 @@ fn decoded(alloc: Global, slice: Slice) -> Result<ShortBytes, OutOfMemory>
     collect(alloc, start.coding, start.rest)
 }
 
-/// The number of bytes that are decoded one by one before a run of bytes that are spelled as themselves
-/// is looked for again.
+/// The number of bytes that are decoded one by one before a run of unescaped bytes is looked for
+/// again.
 const BLOCK: usize = 16;
 
 /// The bytes that a text spells.

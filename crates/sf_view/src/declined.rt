@@ -10,8 +10,8 @@ use sf_value::{Dialect, Field, Kind};
 use std::alloc::Global;
 use std::hash::RandomState;
 
-/// A text of at most this many bytes is parsed from its beginning.
-const SHORT: usize = 128;
+/// A text of at most this many bytes is parsed whole: no member of it is skipped.
+const PARSED_WHOLE: usize = 128;
 
 /// Parses a text that a scanner declined, with the result of [`parse_text_in`]. If a List or a
 /// Dictionary of more than 128 bytes is refused, only the member that is refused and the one before
@@ -39,7 +39,7 @@ pub fn parse_declined(
 }
 
 /// The refusal of a long List or Dictionary, if it is refused after a whole member and a comma;
-/// `None` claims nothing.
+/// `None` says nothing about the text.
 fn refusal_of(
     alloc: Global,
     seed: &RandomState,
@@ -49,7 +49,7 @@ fn refusal_of(
 ) -> Option<Refusal>
     ensures { IfSome result (λ e. Parses dialect kind text.now (Err e)) }
 {
-    if text.len() <= SHORT {
+    if text.len() <= PARSED_WHOLE {
         return None;
     }
     let tail = last_member(dialect, kind, text)?;
@@ -74,7 +74,7 @@ fn refusal_of(
     }
 }
 
-/// The text from its last whole member on that has a comma after it; `None` if it has no such
+/// The text from the last whole member on that has a comma after it; `None` if there is no such
 /// member.
 fn last_member(dialect: Dialect, kind: Kind, text: &[u8]) -> Option<&[u8]>
     ensures { IfSome result (λ tail. Resumes dialect kind text.now tail.now) }
@@ -88,7 +88,7 @@ fn last_member(dialect: Dialect, kind: Kind, text: &[u8]) -> Option<&[u8]>
     Some(last)
 }
 
-/// The text from the next member on, after a member and a comma.
+/// The text after a member and a comma: from the next member on.
 #[inline]
 fn behind_member(dialect: Dialect, kind: Kind, text: &[u8]) -> Option<&[u8]>
     ensures { IfSome result (λ rest. PassesMember dialect kind text.now rest.now) }

@@ -7,6 +7,7 @@ ghost use Rattle.sf_value.specs.declared.value.Kind.TheVariants as kind_is;
 ghost use Rattle.sf_view.specs.Accepts.{Accepts, IsListed, AreEntries};
 ghost use Rattle.sf_view.specs.Scans.{ScansMember, ScansEntry, DistinguishKeys};
 ghost use Rattle.sf_view.specs.Settling.{HasParts};
+ghost use Rattle.sf_view.specs.Views.{IsViewed};
 
 use crate::buffer::most_nodes;
 use crate::classes::{behind, behind_spaces, behind_white, ends};
@@ -15,24 +16,25 @@ use crate::keys::Marks;
 use crate::node::Node;
 use crate::series::whole_item;
 use crate::settling::settled_nodes;
+use crate::view::View;
 use sf_value::{Dialect, Kind, OutOfMemory};
 use std::alloc::Global;
 
 /// The number of nodes that a scan begins with, if the text may need so many.
 const FIRST: usize = 4096;
 
-/// How many times as many nodes there are when nodes were added. What is read again, since a member had
-/// too few, is then at most a third of what is kept.
+/// The buffer grows to this many times its nodes. What is read again, since there were too few
+/// nodes for a member, is then at most a third of what is kept.
 const FACTOR: usize = 4;
 
 /// The number of nodes that are added together.
 const BLOCK: usize = 32;
 
-/// The most times that nodes are added: more than a text of 4 GiB needs.
+/// Nodes are added at most this many times, which is more than a text of 4 GiB needs.
 const ADDITIONS: usize = 32;
 
-/// Whether nodes may have been too few, so that one of the last three was written: only an Inner List
-/// and an Item in it are written after the nodes of their parts.
+/// Whether there may have been too few nodes. One of the last three was then written, since only
+/// the nodes of an Inner List and of an Item in it are written after those of their parts.
 fn are_used_up(nodes: &[Node]) -> bool {
     let (_, last) = nodes.split_at(nodes.len().saturating_sub(3));
     let mut used = last.len() < 3;
@@ -42,7 +44,7 @@ fn are_used_up(nodes: &[Node]) -> bool {
     used
 }
 
-/// Adds nodes: four times as many are then there, but no more than the text may need.
+/// Adds nodes, so that there are four times as many, but no more than the text may need.
 fn lengthen(nodes: &mut Vec<Node>, most: usize) -> Result<(), OutOfMemory>
     ensures longer { IfOk result (λ _. length nodes.old.items ≤ length nodes.new.items) }
     ensures kept { IfOk result
@@ -58,7 +60,7 @@ fn lengthen(nodes: &mut Vec<Node>, most: usize) -> Result<(), OutOfMemory>
     Ok(())
 }
 
-/// An Item. It is read anew with more nodes.
+/// The nodes of an Item. If there were too few, it is read again with more.
 fn grown_item(
     dialect: Dialect,
     text: &[u8],
@@ -81,7 +83,8 @@ fn grown_item(
     Ok(None)
 }
 
-/// A member after the first `count` nodes, which stay as they are, whether there is a member or not.
+/// Reads a member, whose nodes go after the first `count`. These stay as they are, whether or not
+/// there is a member.
 #[inline(always)]
 fn member_behind<'a>(
     dialect: Dialect,
@@ -107,7 +110,7 @@ fn member_behind<'a>(
     })
 }
 
-/// The same of a member of a Dictionary, and the mark of its key.
+/// As [`member_behind`], for a member of a Dictionary; also returns the mark of its key.
 #[inline(always)]
 fn entry_behind<'a>(
     dialect: Dialect,
@@ -133,8 +136,9 @@ fn entry_behind<'a>(
     Some((behind, mark))
 }
 
-/// The members of a List from this place on, after so many nodes: the number of all nodes, or the
-/// place and the number before the member that cannot be read, or has too few nodes.
+/// Reads the members of a List from this place on, after this many nodes. Returns the number of all
+/// nodes, or the place and the number of nodes before the member that is malformed or for which
+/// there are too few nodes.
 fn list_from<'a>(
     dialect: Dialect,
     text: &'a [u8],
@@ -165,7 +169,8 @@ fn list_from<'a>(
     }
 }
 
-/// A List. It is read on, from the member that had too few nodes.
+/// The nodes of a List. If there were too few, reading goes on with more, from the member that
+/// needed them.
 fn grown_list(
     dialect: Dialect,
     text: &[u8],
@@ -196,8 +201,8 @@ fn grown_list(
     Ok(None)
 }
 
-/// Where a scan of a Dictionary is: the rest of the text, the number of nodes before it, the marks of
-/// the keys that these have, and whether they were settled.
+/// Where a scan of a Dictionary is: the rest of the text, the number of nodes before it, the marks
+/// of the keys of these nodes, and whether the nodes were settled.
 #[derive(Clone, Copy, Drop)]
 struct DictScan<'a> {
     rest: &'a [u8],
@@ -206,7 +211,8 @@ struct DictScan<'a> {
     settled: bool,
 }
 
-/// Whether the keys of these nodes differ, and no members were settled, which repeated a key.
+/// Whether no members were settled, and the keys of these nodes differ. If members were settled, a
+/// key was repeated.
 #[inline]
 fn are_apart(settled: bool, marks: Marks, text: &[u8], nodes: &[Node]) -> bool
     ensures { IsTrue result → DistinguishKeys marks text.now nodes.now }
@@ -217,9 +223,10 @@ fn are_apart(settled: bool, marks: Marks, text: &[u8], nodes: &[Node]) -> bool
     marks.differ(text, nodes)
 }
 
-/// The members of a Dictionary from this place on: the number of all nodes, or the place before the
-/// member that cannot be read, or has too few nodes. If a key is repeated or, rarely, there are too
-/// many keys to find out, the flag is set, and the nodes describe members in which keys are repeated.
+/// Reads the members of a Dictionary from this place on. Returns the number of all nodes, or the
+/// place before the member that is malformed or for which there are too few nodes. If a key is
+/// repeated or, rarely, there are too many keys to find out, `repeated` is set, and keys may be
+/// repeated in the members that the nodes describe.
 #[inline]
 fn dict_from<'a>(
     dialect: Dialect,
@@ -273,9 +280,9 @@ fn dict_from<'a>(
     }
 }
 
-/// Settles the members that were read, if they are many and at most half of them stay: then the nodes
-/// are bounded by the number of different keys. `unsettled` is the length of the text behind the members
-/// of which this was tried before.
+/// Settles the members that were read, if they are many and at most half of them stay: then the
+/// nodes are bounded by the number of different keys. `unsettled` is the length of the text after
+/// the members for which this was tried before.
 fn condense<'a>(
     alloc: Global,
     text: &'a [u8],
@@ -309,8 +316,9 @@ fn condense<'a>(
     }
 }
 
-/// A Dictionary, as a List. If a key is repeated or, rarely, there are too many keys to find out, the
-/// flag is set, and the nodes describe members in which keys are repeated.
+/// The nodes of a Dictionary, read as [`grown_list`] reads a List. If a key is repeated or, rarely,
+/// there are too many keys to find out, `repeated` is set, and keys may be repeated in the members
+/// that the nodes describe.
 fn grown_dict(
     alloc: Global,
     dialect: Dialect,
@@ -348,10 +356,10 @@ fn grown_dict(
     Ok(None)
 }
 
-/// Writes a node for each part of the text to the buffer, to which nodes are added as they are needed,
-/// and returns their number; `None` claims nothing. If a key of a Dictionary is repeated, or there are
-/// too many keys to find out, the flag is set, and the nodes describe members in which keys are
-/// repeated.
+/// Writes a node for each part of the text to the buffer, to which nodes are added as they are
+/// needed, and returns their number; `None` says nothing about the text. If a key of a Dictionary
+/// is repeated, or there are too many keys to find out, `repeated` is set, and keys may be repeated
+/// in the members that the nodes describe.
 pub(crate) fn grown_parts(
     alloc: Global,
     dialect: Dialect,
@@ -373,4 +381,67 @@ pub(crate) fn grown_parts(
         Kind::List => return grown_list(dialect, text, most, nodes),
         Kind::Dict => return grown_dict(alloc, dialect, text, most, repeated, nodes),
     }
+}
+
+/// Scans a whole text as a field of this kind, as [`View::scan`] does, but also if a key is
+/// repeated in a Dictionary, or there are many keys: then the nodes are those of the members that
+/// stay if a later value of a key overwrites an earlier one and takes its place (RFC 9651 section
+/// 4.2.2). Nodes are added to the buffer as they are needed, so it may be empty; the number of them
+/// is bounded by what was read of the text and, if a key is repeated, by the number of different
+/// keys. It returns `None` if the text is malformed, a key of parameters is repeated, an allocation
+/// failed or, rarely, there are many keys with one hash. `None` says nothing about the text.
+///
+/// ```
+/// let mut nodes = Vec::new(alloc);
+/// let view = scan_settled(alloc, Dialect::Rfc9651, Kind::Dict, b"u=1, i, u=2", &mut nodes)?;
+/// view_text(alloc, &view, Kind::Dict)? // u=2, i
+/// ```
+pub fn scan_settled<'a>(
+    alloc: Global,
+    dialect: Dialect,
+    kind: Kind,
+    text: &'a [u8],
+    nodes: &'a mut Vec<Node>,
+) -> Option<View<'a>>
+    // The text spells a field, and no other, and the nodes of the view describe it.
+    ensures { IfSome result (λ v. IsViewed dialect kind text.now v) }
+{
+    let mut repeated = false;
+    match scan_or_settle(alloc, dialect, kind, &mut repeated, text, nodes) {
+        Ok(view) => return view,
+        Err(_) => return None,
+    }
+}
+
+/// As [`scan_settled`]; `repeated` is set if the nodes had to be settled. It fails only if an
+/// allocation of nodes fails.
+pub(crate) fn scan_or_settle<'a>(
+    alloc: Global,
+    dialect: Dialect,
+    kind: Kind,
+    repeated: &mut bool,
+    text: &'a [u8],
+    nodes: &'a mut Vec<Node>,
+) -> Result<Option<View<'a>>, OutOfMemory>
+    requires unset { repeated.old ≡ false }
+    ensures { IfOk result (λ found. IfSome found (λ v. IsViewed dialect kind text.now v)) }
+{
+    let Some(count) = grown_parts(alloc, dialect, kind, repeated, text, nodes)? else {
+        return Ok(None);
+    };
+    if *repeated {
+        let (raw, _) = nodes.as_slice().split_at(count);
+        let Some(settled) = settled_nodes(alloc, text, text.len(), raw, false) else {
+            return Ok(None);
+        };
+        *nodes = settled;
+        return Ok(Some(View {
+            text,
+            nodes: nodes.as_slice(),
+        }));
+    }
+    Ok(Some(View {
+        text,
+        nodes: &nodes.as_slice()[..count],
+    }))
 }

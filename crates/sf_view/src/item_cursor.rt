@@ -76,7 +76,7 @@ impl<'a> ItemCursor<'a> {
     }
 
     /// Reads the bare item of the next member: `Some(None)` after the last one, and `None` if the
-    /// cursor declines the text, of which nothing is then claimed.
+    /// cursor declines the text, of which nothing is then known.
     #[inline(always)]
     pub fn next(&self) -> Option<Option<ItemView<'a>>>
         // An Item with this bare item and the parameters that remain comes before the members that

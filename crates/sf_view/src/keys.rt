@@ -15,13 +15,13 @@ pub(crate) struct Marks {
 }
 
 impl Marks {
-    /// Those of no keys.
+    /// The marks of no keys.
     pub(crate) const NONE: Marks = Marks { bits: 0 };
 
-    /// Those of keys of which nothing is known.
+    /// The marks of keys of which nothing is known.
     pub(crate) const ALL: Marks = Marks { bits: u64::MAX };
 
-    /// Those of the keys and of one more, with this mark.
+    /// The marks of the keys and of one more key, which has this mark.
     #[inline]
     pub(crate) fn with(self, mark: u32) -> Marks
         ensures { (ks : List (List ℕ)) (k : List ℕ) → mark ≡ mark_of k
@@ -149,7 +149,7 @@ fn hash(key: &[u8]) -> u64
     value
 }
 
-/// The tag of a key, which a table holds instead of the key.
+/// The tag of a key, which is in a table in place of the key.
 #[inline]
 pub(crate) fn tag(key: &[u8]) -> u32
     ensures { result ≡ tag_of key.now }
@@ -215,7 +215,7 @@ fn by_small_table(source: &[u8], nodes: &[Node]) -> bool
     all_enter(&mut table, source, nodes)
 }
 
-/// The same by a larger table.
+/// Whether the keys differ, by a larger table.
 #[inline(never)]
 fn by_middle_table(source: &[u8], nodes: &[Node]) -> bool
     ensures { IsTrue result → AreApart source.now nodes.now }
@@ -224,7 +224,7 @@ fn by_middle_table(source: &[u8], nodes: &[Node]) -> bool
     all_enter(&mut table, source, nodes)
 }
 
-/// The same by a table for up to about three thousand keys.
+/// Whether the keys differ, by a table for up to about three thousand keys.
 #[inline(never)]
 fn by_large_table(source: &[u8], nodes: &[Node]) -> bool
     ensures { IsTrue result → AreApart source.now nodes.now }
@@ -233,7 +233,7 @@ fn by_large_table(source: &[u8], nodes: &[Node]) -> bool
     all_enter(&mut table, source, nodes)
 }
 
-/// The same by the largest table, for up to about twelve thousand keys.
+/// Whether the keys differ, by the largest table, for up to about twelve thousand keys.
 #[inline(never)]
 fn by_largest_table(source: &[u8], nodes: &[Node]) -> bool
     ensures { IsTrue result → AreApart source.now nodes.now }
@@ -242,8 +242,8 @@ fn by_largest_table(source: &[u8], nodes: &[Node]) -> bool
     all_enter(&mut table, source, nodes)
 }
 
-/// The same by a table. It is not inlined, nor are the others: a function reserves stack for all
-/// its tables on entry.
+/// Whether the keys differ, by a table. It is not inlined, nor are the functions for each size: a
+/// function reserves stack for all its tables on entry.
 #[inline(never)]
 fn by_table(source: &[u8], nodes: &[Node]) -> bool
     ensures { IsTrue result → AreApart source.now nodes.now }

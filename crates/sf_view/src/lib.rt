@@ -3,6 +3,7 @@
 #![tactic(auto)]
 
 mod bare;
+mod bare_part;
 mod bare_view;
 mod buffer;
 mod building;
@@ -33,12 +34,12 @@ pub use building::{NoField, field_of};
 pub use bytes::Bytes;
 pub use cursor::{DictCursor, EntryView, accepts};
 pub use declined::parse_declined;
+pub use growing::scan_settled;
 pub use item_cursor::{ItemCursor, ItemView, ParamCursor, ParamView};
 pub use lookup::entry;
 pub use node::Node;
 pub use node_types::{NodeType, Role};
 pub use normal::{canonical_text, normalise, settled_text, view_text};
 pub use series::scan_text;
-pub use settling::scan_settled;
 pub use view::{BareView, Slice, Unviewed, View};
 pub use writing::{put_bare_view, put_view, write_view};

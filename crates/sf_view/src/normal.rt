@@ -11,10 +11,10 @@ ghost use Rattle.sf_view.specs.CanonicalParts.{IsCanonicalOf};
 ghost use Rattle.sf_view.specs.Settling.{IsRaw};
 
 use crate::declined::parse_declined;
-use crate::growing::grown_parts;
+use crate::growing::{grown_parts, scan_or_settle};
 use crate::node::Node;
 use crate::series::scan_parts;
-use crate::settling::{FEW, scan_or_settle, settle_few};
+use crate::settling::{STACK_NODES, settle_few};
 use crate::view::{Unviewed, View};
 use crate::writing::write_view;
 use sf_parse::Refusal;
@@ -92,7 +92,7 @@ pub fn canonical_text(
     ensures { IfOk result
         (λ found. IfSome found (λ c. IsCanonicalOf dialect kind text.now c.items)) }
 {
-    let mut few = [Node::NONE; FEW];
+    let mut few = [Node::NONE; STACK_NODES];
     match View::scan(dialect, kind, text, &mut few) {
         Ok(view) => return Ok(Some(view_text(alloc, &view, kind)?)),
         Err(Unviewed::ShortBuffer) => return by_many_nodes(alloc, dialect, kind, text),
@@ -143,10 +143,10 @@ pub fn settled_text(
     ensures { IfOk result
         (λ found. IfSome found (λ c. IsCanonicalOf dialect kind text.now c.items)) }
 {
-    let mut few = [Node::NONE; FEW];
+    let mut few = [Node::NONE; STACK_NODES];
     let mut repeated = false;
     let Some(count) = scan_parts(dialect, kind, &mut repeated, text, &mut few) else {
-        if text.len() <= FEW || text.len() > 0xffff_ffff {
+        if text.len() <= STACK_NODES || text.len() > 0xffff_ffff {
             return Ok(None);
         }
         return by_settled_buffer(alloc, dialect, kind, text);
@@ -161,7 +161,7 @@ pub fn settled_text(
     Ok(Some(view_text(alloc, &view, kind)?))
 }
 
-/// The same of a Dictionary whose members these nodes describe one by one.
+/// As [`settled_text`], for a Dictionary whose members these nodes describe one by one.
 #[inline(never)]
 fn by_settled_nodes(
     alloc: Global,
@@ -174,7 +174,7 @@ fn by_settled_nodes(
     ensures { IfOk result
         (λ found. IfSome found (λ c. IsCanonicalOf dialect kind text.now c.items)) }
 {
-    let mut few = [Node::NONE; FEW];
+    let mut few = [Node::NONE; STACK_NODES];
     let Some(count) = settle_few(text, raw, &mut few) else {
         return Ok(None);
     };

@@ -49,8 +49,8 @@ fn whole_list(dialect: Dialect, text: &[u8], nodes: &mut [Node]) -> Option<usize
     }
 }
 
-/// A Dictionary. If a key is repeated or, rarely, there are too many keys to find out, the flag is
-/// set, and the nodes describe the members one by one.
+/// A Dictionary. If a key is repeated or, rarely, there are too many keys to find out, `repeated`
+/// is set, and the nodes describe the members one by one.
 #[inline]
 fn whole_dict(
     dialect: Dialect,
@@ -86,9 +86,9 @@ fn whole_dict(
     }
 }
 
-/// Writes a node for each part of the text to the buffer, and returns their number; `None` claims
-/// nothing. If a key of a Dictionary is repeated, or there are too many keys to find out, the flag
-/// is set, and the nodes describe the members one by one.
+/// Writes a node for each part of the text to the buffer, and returns their number; `None` says
+/// nothing about the text. If a key of a Dictionary is repeated, or there are too many keys to find
+/// out, `repeated` is set, and the nodes describe the members one by one.
 pub(crate) fn scan_parts(
     dialect: Dialect,
     kind: Kind,
@@ -111,7 +111,8 @@ pub(crate) fn scan_parts(
     }
 }
 
-/// Writes the nodes of the text to the buffer, and returns their number; `None` claims nothing.
+/// Writes the nodes of the text to the buffer, and returns their number; `None` says nothing about
+/// the text.
 #[inline]
 pub fn scan_text(dialect: Dialect, kind: Kind, text: &[u8], nodes: &mut [Node]) -> Option<usize>
     ensures same { length nodes.new ≡ length nodes.old }

@@ -1,42 +1,39 @@
 //! Nodes of a Dictionary in which a key is repeated: the last value is at the place of the first
 //! one (RFC 9651 section 4.2.2).
 ghost use Rattle.std.specs.Prelude.{◌≡◌, ◌≤◌, ◌<◌, ◌*◌, ◌^◌, ℕ, List as Seq, IfOk, IfSome, length};
-ghost use Rattle.std.specs.Prelude.{take, false};
+ghost use Rattle.std.specs.Prelude.{take};
 ghost use Rattle.sf_value.specs.declared.dialect.Dialect.{Dialect as Which};
 ghost use Rattle.sf_value.specs.declared.value.Member.{Member};
 ghost use Rattle.sf_value.specs.Grammar.Pairs.{Pairs, settle as settled_pairs};
 ghost use Rattle.sf_view.specs.Scans.{Puts};
 ghost use Rattle.sf_view.specs.View.{DescribesEntries};
-ghost use Rattle.sf_view.specs.Views.{IsViewed};
 ghost use Rattle.sf_view.specs.Keys.{tag_of};
 ghost use Rattle.sf_view.specs.Settling.{key_from, run_from, runs_of, RunsDescribe};
 ghost use Rattle.sf_view.specs.Settling.{IsPlace, HoldsPlace, HoldsPlaces, IsIndex};
 
-use crate::growing::grown_parts;
 use crate::item::put;
 use crate::keys::{bytes_at, tag};
 use crate::lookup::hop;
 use crate::node::Node;
-use crate::view::View;
-use sf_value::{Dialect, Kind, OutOfMemory};
 use std::alloc::Global;
 
-/// The number of members up to which each two keys are compared.
+/// If there are at most this many members, each two keys are compared.
 const PAIRWISE: usize = 8;
 
 /// The number of slots that are searched for a key.
 const PROBES: usize = 64;
 
-/// What may be searched for each node and for each 16 bytes of the text, on average, beside as many
-/// short keys of one hash as a table takes: twice what keys of different hashes need. So keys which
-/// someone chose for their hash cost little before the field is built.
+/// This many slots may be searched for each node and each 16 bytes of the text, on average: twice
+/// what keys of different hashes need. `PROBES * PROBES` more may be searched, enough for as many
+/// short keys of one hash as a table takes. If that is not enough, the field is built, so keys that
+/// someone chose for their hash cost little here.
 const SEARCHES: usize = 4;
 
-/// The number of nodes that are settled on the stack.
-pub(crate) const FEW: usize = 32;
+/// The largest number of nodes that are settled on the stack.
+pub(crate) const STACK_NODES: usize = 32;
 
-/// The number of slots for them.
-const FEW_SLOTS: usize = 64;
+/// The number of slots of the table for these nodes.
+const STACK_SLOTS: usize = 64;
 
 /// The key of the part that starts at this node; `None` if it isn't in the source.
 #[inline]
@@ -93,8 +90,8 @@ fn search_cost(key: &[u8]) -> usize
     (key.len() / 16).saturating_add(1)
 }
 
-/// The same by a table of places, in which the place of a new key is put; `None` also if none of
-/// the key's slots has it or is empty, or if no more may be searched.
+/// As [`place_among`], by a table of places, into which the place of a new key is put; `None` also
+/// if none of the key's slots has it or is empty, or if it would search more than is allowed.
 #[inline]
 fn place_by_table(
     source: &[u8],
@@ -162,7 +159,7 @@ fn place_of(
     place_by_table(source, nodes, order, table, searches, key)
 }
 
-/// What may be searched for nodes of a text of this length.
+/// How many slots may be searched for the nodes of a text of this length.
 fn searches_for(nodes: &[Node], length: usize) -> usize {
     nodes
         .len()
@@ -171,8 +168,9 @@ fn searches_for(nodes: &[Node], length: usize) -> usize {
         .saturating_add(PROBES * PROBES)
 }
 
-/// Puts the first node of each member that stays in the order of the first places of their keys,
-/// and returns the number of these members; `None` also if more had to be searched.
+/// Puts into `order` where each member that stays starts, in the order in which their keys first
+/// occur, and returns the number of these members; `None` also if it would search more than is
+/// allowed.
 fn put_order(
     source: &[u8],
     nodes: &[Node],
@@ -232,7 +230,7 @@ fn put_runs(raw: &[Node], order: &[u32], nodes: &mut [Node]) -> Option<usize>
     Some(count)
 }
 
-/// The same, if the parts are members: then the nodes describe these.
+/// As [`put_runs`], for members, which the nodes then describe.
 fn put_members(raw: &[Node], order: &[u32], nodes: &mut [Node]) -> Option<usize>
     ensures same { length nodes.new ≡ length nodes.old }
     ensures within { IfSome result (λ n. n ≤ length nodes.new) }
@@ -283,8 +281,8 @@ pub(crate) fn settle_few(source: &[u8], raw: &[Node], nodes: &mut [Node]) -> Opt
     settle_more(source, raw, nodes)
 }
 
-/// The same of more nodes than are compared each with each. It is not inlined: a function reserves
-/// stack for all its tables on entry.
+/// As [`settle_few`], for more nodes than `PAIRWISE`. It is not inlined: a function reserves stack
+/// for all its tables on entry.
 #[inline(never)]
 fn settle_more(source: &[u8], raw: &[Node], nodes: &mut [Node]) -> Option<usize>
     ensures same { length nodes.new ≡ length nodes.old }
@@ -294,8 +292,8 @@ fn settle_more(source: &[u8], raw: &[Node], nodes: &mut [Node]) -> Option<usize>
         → IfSome result (λ n. DescribesEntries d source.now (take n nodes.new)
         (settled_pairs ps)) }
 {
-    let mut order = [0u32; FEW];
-    let mut table = [0u32; FEW_SLOTS];
+    let mut order = [0u32; STACK_NODES];
+    let mut table = [0u32; STACK_SLOTS];
     settle(source, raw, &mut order, &mut table, nodes)
 }
 
@@ -314,7 +312,7 @@ fn parts(nodes: &[Node]) -> usize {
     count
 }
 
-/// The number of slots for so many keys: none if each two are compared.
+/// The number of slots for this many keys: none if each two keys are compared.
 fn slots(members: usize) -> usize
     ensures { 8 < members → members < 2 ^ 61 → 2 * members ≤ result }
 {
@@ -324,8 +322,8 @@ fn slots(members: usize) -> usize
     members.saturating_mul(2).min(1 << 62).next_power_of_two()
 }
 
-/// Settled nodes of members of `read` bytes, in memory of their own; `None` also if an allocation fails
-/// or, where only half of the members are to stay, if more do.
+/// The settled nodes of members that take `read` bytes of the text, in new memory; `None` also if
+/// an allocation fails or, with `only_half`, if more than half of the members stay.
 #[inline(never)]
 pub(crate) fn settled_nodes(
     alloc: Global,
@@ -350,67 +348,4 @@ pub(crate) fn settled_nodes(
     let count = put_members(raw, &order[..stay], nodes.as_mut_slice())?;
     nodes.truncate(count);
     Some(nodes)
-}
-
-/// Scans a whole text as a field of this kind, as [`View::scan`] does, but also if a key is
-/// repeated in a Dictionary, or there are many keys: then the nodes are those of the members that
-/// stay if a later value of a key overwrites an earlier one and takes its place (RFC 9651 section
-/// 4.2.2). Nodes are added to the buffer as they are needed, so it may be empty; the number of them
-/// is bounded by what was read of the text and, if a key is repeated, by the number of different
-/// keys. `None` if the text is malformed, a key of parameters is repeated, an allocation failed or,
-/// rarely, there are many keys with one hash; nothing is claimed then.
-///
-/// ```
-/// let mut nodes = Vec::new(alloc);
-/// let view = scan_settled(alloc, Dialect::Rfc9651, Kind::Dict, b"u=1, i, u=2", &mut nodes)?;
-/// view_text(alloc, &view, Kind::Dict)? // u=2, i
-/// ```
-pub fn scan_settled<'a>(
-    alloc: Global,
-    dialect: Dialect,
-    kind: Kind,
-    text: &'a [u8],
-    nodes: &'a mut Vec<Node>,
-) -> Option<View<'a>>
-    // The text spells a field, and no other, and the nodes of the view describe it.
-    ensures { IfSome result (λ v. IsViewed dialect kind text.now v) }
-{
-    let mut repeated = false;
-    match scan_or_settle(alloc, dialect, kind, &mut repeated, text, nodes) {
-        Ok(view) => return view,
-        Err(_) => return None,
-    }
-}
-
-/// As [`scan_settled`]; the flag is set if the nodes had to be settled. It fails only if an allocation
-/// of nodes fails.
-pub(crate) fn scan_or_settle<'a>(
-    alloc: Global,
-    dialect: Dialect,
-    kind: Kind,
-    repeated: &mut bool,
-    text: &'a [u8],
-    nodes: &'a mut Vec<Node>,
-) -> Result<Option<View<'a>>, OutOfMemory>
-    requires unset { repeated.old ≡ false }
-    ensures { IfOk result (λ found. IfSome found (λ v. IsViewed dialect kind text.now v)) }
-{
-    let Some(count) = grown_parts(alloc, dialect, kind, repeated, text, nodes)? else {
-        return Ok(None);
-    };
-    if *repeated {
-        let (raw, _) = nodes.as_slice().split_at(count);
-        let Some(settled) = settled_nodes(alloc, text, text.len(), raw, false) else {
-            return Ok(None);
-        };
-        *nodes = settled;
-        return Ok(Some(View {
-            text,
-            nodes: nodes.as_slice(),
-        }));
-    }
-    Ok(Some(View {
-        text,
-        nodes: &nodes.as_slice()[..count],
-    }))
 }

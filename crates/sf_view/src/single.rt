@@ -136,7 +136,8 @@ struct Parts<'a> {
 }
 
 impl Parts<'_> {
-    /// Whether the node has these, if it points to these bytes. Coded bytes are not compared.
+    /// Whether the node, which points to these bytes, has this type, number and bytes. Coded bytes
+    /// are not compared.
     fn are_in(&self, node: Node, bytes: &[u8]) -> bool
         ensures agree { IsTrue result
             → AgreesWith node bytes.now self.now.node_type self.now.number self.now.bytes.now }

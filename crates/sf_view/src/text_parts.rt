@@ -12,7 +12,8 @@ ghost use Rattle.sf_view.specs.View.{slice_at};
 ghost use Rattle.sf_view.specs.Views.{IsBorrowed};
 ghost use Rattle.sf_view.specs.Reads.{Reads, ReadsBare, ReadsParam, ReadsItems, ReadsMember, ReadsEntry};
 
-use crate::bare::{Part, scan_value};
+use crate::bare::scan_value;
+use crate::bare_part::Part;
 use crate::classes::{InKey, behind, behind_spaces, is_key_start, short_prefix, split};
 use crate::keys::bytes_at;
 use crate::node_types::NodeType;
@@ -95,7 +96,7 @@ pub(crate) fn read_param<'a>(
     Some((key, bare, rest))
 }
 
-/// The rest after parameters. Only a text that begins with one costs a call.
+/// The rest after parameters. It costs a call only if the text begins with a semicolon.
 #[inline(always)]
 pub(crate) fn behind_params(dialect: Dialect, text: &[u8]) -> Option<&[u8]>
     ensures { IfSome result (λ rest. Reads (SpellsRaw dialect) text.now rest.now) }

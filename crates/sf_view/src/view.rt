@@ -192,7 +192,8 @@ pub(crate) fn bare_of<'a>(node: Node, bytes: &'a [u8]) -> Option<BareView<'a>>
     }
 }
 
-/// The reason that a text has no view, if the buffer has a node for each byte of the text, or not.
+/// The reason that a text has no view. `enough` is whether the buffer has a node for each byte of
+/// the text.
 fn declined(enough: bool) -> Unviewed
     ensures { result ≡ reason enough }
 {

@@ -290,7 +290,7 @@ fn put_param<W: Sink>(param: View, before: Sent, out: &mut W) -> Sent
     put_value(&value, sent, out)
 }
 
-/// Writes parameters. Only if there are some it costs a call.
+/// Writes parameters. Without parameters it costs no call.
 #[inline(always)]
 fn put_params<W: Sink>(view: View, before: Sent, out: &mut W) -> Sent
     ensures { (d : Which) (r : Place) (ps : Pairs Value)

@@ -11,7 +11,7 @@ use Rattle.sf_value.specs.Grammar.Strings.{escaped, is_escaped, is_unescaped}
 use Rattle.sf_value.specs.Grammar.DisplayStrings.{hex, is_unencoded}
 use Rattle.sf_value.specs.Grammar.Canonical.{canon_shown}
 
--- a run that is known, and what is found behind it
+-- a known run, and what is found after it
 pub prefix_behind : (p : ℕ → Bool) (s prefix behind : List ℕ) → s ≡ prefix ++ behind
     → Every p prefix → length prefix + prefix_len p behind ≡ prefix_len p s
 prefix_behind p s prefix behind e h = known prefix h ∙ sym (ap (prefix_len p) e)
@@ -58,7 +58,7 @@ pub run_near : (p : ℕ → Bool) (s near far : List ℕ) (n len : ℕ) → IsSp
 run_near p s near far n len (_, e, f, k, _) found less =
     found ∙ prefix_within p s near far (near_far s near far n e f) (omega (arith, found, less, k))
 
--- a run that goes on behind it
+-- a run that goes on after it
 pub run_far : (p : ℕ → Bool) (s near far : List ℕ) (n len more : ℕ) → IsSplitAt s n near far
     → len ≡ prefix_len p near → n ≤ len → more ≡ prefix_len p far → n + more ≡ prefix_len p s
 run_far p s near far n len more (_, e, f, k, _) found all behind =

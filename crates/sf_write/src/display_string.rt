@@ -11,7 +11,7 @@ use crate::strings::{CHUNK, LONG, NEAR};
 use sf_value::classes::{UnencodedByte, long_prefix};
 use sf_value::{Sink, hex_digits, stands_for_itself};
 
-/// The number of bytes that have to be escaped. The compiler adds up a chunk in vectors of bytes.
+/// The number of bytes that have to be escaped. The compiler vectorises the count of a chunk.
 pub(crate) fn escaped_count(bytes: &[u8]) -> usize {
     let mut count = 0usize;
     for chunk in bytes.chunks(CHUNK) {
@@ -41,7 +41,7 @@ fn unencoded_len(bytes: &[u8]) -> usize
     unencoded.len() + more
 }
 
-/// The same behind an escape, where the next is likely to be near.
+/// As [`unencoded_len`], after an escape, where the next one is likely to be near.
 #[inline(always)]
 fn unencoded_len_behind_escape(bytes: &[u8]) -> usize
     ensures len { result ≡ prefix_len is_unencoded bytes.now }
@@ -57,7 +57,7 @@ fn unencoded_len_behind_escape(bytes: &[u8]) -> usize
     NEAR + unencoded_len(far)
 }
 
-/// The same, byte by byte.
+/// As [`unencoded_len`], byte by byte.
 fn unencoded_len_by_byte(bytes: &[u8]) -> usize
     ensures len { result ≡ prefix_len is_unencoded bytes.now }
     ensures within { result ≤ length bytes.now }

@@ -15,7 +15,8 @@ use crate::sending::{Sent, WriteFault};
 use sf_value::{Field, Item, Member, OutOfMemory, Sink, Writing};
 use std::alloc::Global;
 
-/// The length of a bare item from which on its text is measured: fewer than four share a block.
+/// If the first bare item has at least this length, the text is measured: fewer than four such bare
+/// items fit in a block.
 const LONG_ITEM: usize = 160;
 
 /// Writes the canonical text of a field, as [`write_field`] does, after what was sent before, as
@@ -94,7 +95,7 @@ fn has_no_text(field: &Field) -> bool
     }
 }
 
-/// Whether to measure a text costs less than to gather it.
+/// Whether it costs less to measure the text before it is written than to gather it in a block.
 #[inline(always)]
 fn is_measured(field: &Field) -> bool {
     match field {
@@ -110,8 +111,9 @@ fn is_measured(field: &Field) -> bool {
     }
 }
 
-/// The same of so many members with this one as their first: one or two plain Items, or Items of
-/// which few would share a block, as far as the first shows.
+/// As [`is_measured`], for this many members, of which this is the first: if they are one or two
+/// Items without parameters, or if the first is so long that only a few like it would fit in a
+/// block.
 #[inline(always)]
 fn are_measured(count: usize, first: &Member) -> bool {
     match first {
@@ -135,8 +137,8 @@ fn measured_text(alloc: Global, field: &Field) -> Result<Vec<u8>, OutOfMemory>
     }
 }
 
-/// The same, gathered in a block. It is not inlined: a function clears all its stack at its entry,
-/// and the block is large.
+/// The text of a field, gathered in a block. It is not inlined: a function clears all its stack on
+/// entry, and the block is large.
 #[inline(never)]
 fn gathered_text(alloc: Global, field: &Field) -> Result<Vec<u8>, OutOfMemory>
     ensures canon { IfOk result (λ text. text.items ≡ canon field.now) }

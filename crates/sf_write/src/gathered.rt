@@ -1,4 +1,4 @@
-//! A canonical text that is gathered in memory of its own length.
+//! A canonical text that is gathered in memory of exactly its length.
 ghost use Rattle.std.specs.Prelude.{◌≡◌, ◌++◌, [], Some, MatchResult, IfOk, true, false};
 ghost use Rattle.sf_write.specs.Gathered.{bytes_of};
 
@@ -38,7 +38,7 @@ impl Block {
         }
     }
 
-    /// Adds bytes at the end, if they fit there.
+    /// Adds bytes at the end, if they fit in the block.
     #[inline(always)]
     fn add(&mut self, bytes: &[u8]) -> bool
         ensures added { result ≡ true → self.new ≡ self.old ++ bytes.now }
@@ -69,7 +69,7 @@ impl Block {
 }
 
 /// The canonical text of a field, as far as it was written. Its last bytes are in a block on the
-/// stack, and those before in memory of the length of the text. So a text that has no more than a
+/// stack, and those before them in memory of the length of the text. So a text that fits in one
 /// block need not be measured before it is written.
 #[derive(Drop)]
 pub(crate) struct Gathered<'a> {
@@ -81,7 +81,7 @@ pub(crate) struct Gathered<'a> {
 }
 
 impl<'a> Gathered<'a> {
-    /// Nothing of the text of this field. It does not allocate.
+    /// The text of this field, of which nothing was written yet. It does not allocate.
     pub(crate) fn new(alloc: Global, field: &'a Field) -> Gathered<'a>
         ensures empty { bytes_of result ≡ [] }
         ensures failures { result.failures ≡ 0 }
@@ -95,8 +95,8 @@ impl<'a> Gathered<'a> {
         }
     }
 
-    /// The bytes, in memory of their length, if all of the text was written and its length was
-    /// computed right.
+    /// The bytes, in memory of their length, provided that all of the text was written and its
+    /// length was computed right.
     #[inline(always)]
     pub(crate) fn into_text(self) -> Result<Vec<u8>, OutOfMemory>
         ensures { IfOk result (λ text. text.items ≡ bytes_of self.entry) }
@@ -116,7 +116,7 @@ impl<'a> Gathered<'a> {
     }
 
     /// Moves the block to memory, and adds these bytes. If an allocation fails, no byte is added.
-    /// It is not inlined, since a block takes many parts of a text.
+    /// It is not inlined, since it is rare: a block takes many parts of a text.
     #[inline(never)]
     fn add_behind_block(&mut self, bytes: &[u8]) -> Result<(), OutOfMemory>
         ensures added { MatchResult result
@@ -144,7 +144,7 @@ impl Sink for Gathered<'_> {
         if self.block.add(bytes) {
             return Ok(bytes.len());
         }
-        // An empty slice fits in any block, which the proof does not know.
+        // An empty slice always fits, but the proof does not know it.
         if bytes.is_empty() {
             return Ok(0);
         }

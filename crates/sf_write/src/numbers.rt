@@ -66,8 +66,7 @@ fn put_sign<W: Sink>(is_negative: bool, before: Sent, out: &mut W) -> Sent
     }
 }
 
-/// Writes the point and the digits after it: at least one, and no zero at the end that can be left
-/// out.
+/// Writes the point and the digits after it: at least one digit, and otherwise no zero at the end.
 fn put_fraction<W: Sink>(thousandths: u64, before: Sent, out: &mut W) -> Sent
     requires { thousandths < 1000 }
     ensures { Follows W.state W.send_gives out.old out.new before result

@@ -30,7 +30,7 @@ pub(crate) fn put_value<W: Sink>(value: &Bare, before: Sent, out: &mut W) -> Sen
     put_bare(value, sent, out)
 }
 
-/// Writes parameters: for each a `;`, its key and its value. Only if there are some it costs a call.
+/// Writes parameters: for each a `;`, its key and its value. Without parameters it costs no call.
 #[inline(always)]
 pub(crate) fn put_params<W: Sink>(params: &Entries<Bare>, before: Sent, out: &mut W) -> Sent
     ensures text { Follows W.state W.send_gives out.old out.new before result

@@ -12,11 +12,11 @@ use sf_value::classes::{Unescaped, long_prefix};
 /// The number of bytes that are counted together: small enough that the count fits in a byte.
 pub(crate) const CHUNK: usize = 128;
 
-/// The number of bytes from which on they are tested many at a time.
+/// At least this many bytes are tested many at a time, fewer one by one.
 pub(crate) const LONG: usize = 16;
 
-/// The number of bytes behind an escape that are tested one by one: where there are many escapes,
-/// most runs are shorter.
+/// The number of bytes after an escape that are tested one by one: if there are many escapes, most
+/// runs between them are shorter.
 pub(crate) const NEAR: usize = 8;
 
 /// Returns whether a backslash is written before this byte: `"` and `\`.
@@ -26,7 +26,7 @@ fn needs_backslash(byte: u8) -> bool
     matches!(byte, b'"' | b'\\')
 }
 
-/// The number of bytes that need a backslash. The compiler adds up a chunk in vectors of bytes.
+/// The number of bytes that need a backslash. The compiler vectorises the count of a chunk.
 pub(crate) fn escaped_count(bytes: &[u8]) -> usize {
     let mut count = 0usize;
     for chunk in bytes.chunks(CHUNK) {
@@ -57,7 +57,7 @@ fn unescaped_len(bytes: &[u8]) -> usize
     visible.len() + more
 }
 
-/// The same behind an escape, where the next is likely to be near.
+/// As [`unescaped_len`], after an escape, where the next one is likely to be near.
 #[inline(always)]
 fn unescaped_len_behind_escape(bytes: &[u8]) -> usize
     ensures len { result ≡ prefix_len (λ b. not (is_escaped b)) bytes.now }
@@ -73,7 +73,7 @@ fn unescaped_len_behind_escape(bytes: &[u8]) -> usize
     NEAR + unescaped_len(far)
 }
 
-/// The same, byte by byte, and for bytes that no String has.
+/// As [`unescaped_len`], byte by byte, also for bytes that no String has.
 fn unescaped_len_by_byte(bytes: &[u8]) -> usize
     ensures len { result ≡ prefix_len (λ b. not (is_escaped b)) bytes.now }
     ensures within { result ≤ length bytes.now }

@@ -926,4 +926,16 @@ pub(crate) const ROWS: &[Row] = &[
         reuse: Reuse::NotStored,
         by: Cause::NoStore,
     },
+    // 74
+    Row {
+        head: &[
+            (b"cdn-cache-control", b"max-age=60, no-store, must-understand=1"),
+        ],
+        cache: CacheKind::Shared,
+        age: 0,
+        understood: true,
+        from: From::Target(1),
+        reuse: Reuse::NotStored,
+        by: Cause::NoStore,
+    },
 ];

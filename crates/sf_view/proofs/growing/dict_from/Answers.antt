@@ -12,14 +12,14 @@ pub returns-then-are_apart-clause-parts : goal.returns-then-are_apart-clause-par
 returns-then-are_apart-clause-parts c =
     parts_whole _ _ _ _ _ _ c.loop-scan.invariant.unset
     (dict_last _ _ _ _ _ _ _ _ _ _ _ _ _ c.loop-scan.invariant.so_far c.in-Some.ensures.scans
-    c.with-later_marks.ensures c.behind_white-white.ensures (c.ends.ensures c.if-ends.true)
+    c.with-later_marks.ensures c.behind_white-white.ensures (c.ends.ensures.all c.if-ends.true)
     (c.are_apart.ensures c.if-are_apart.true))
 
 pub returns-then-ends-clause-parts : goal.returns-then-ends-clause-parts
 returns-then-ends-clause-parts c =
     parts_raw _ _ _ _ _ refl c.in-Some.ensures.scans.puts.within
     (dict_raw _ _ _ _ _ _ _ _ _ _ _ _ _ c.loop-scan.invariant.so_far c.in-Some.ensures.scans
-    c.with-later_marks.ensures c.behind_white-white.ensures (c.ends.ensures c.if-ends.true))
+    c.with-later_marks.ensures c.behind_white-white.ensures (c.ends.ensures.all c.if-ends.true))
 
 pub returns-in_default-behind-clause-stopped : goal.returns-in_default-behind-clause-stopped
 returns-in_default-behind-clause-stopped c =

@@ -6,7 +6,7 @@ use Rattle.sf_view.proofs.growing.grown_list.Goals as goal
 
 pub returns-then-ends : goal.returns-then-ends
 returns-then-ends c =
-    empty_list _ _ _ _ c.behind_spaces.ensures (c.ends.ensures c.if-ends.true)
+    empty_list _ _ _ _ c.behind_spaces.ensures (c.ends.ensures.all c.if-ends.true)
 
 pub loop-init : goal.loop-init
 loop-init c =

@@ -10,7 +10,7 @@ returns-in_default-clause-stopped c =
 pub returns-then-ends-clause-accepts : goal.returns-then-ends-clause-accepts
 returns-then-ends-clause-accepts c =
     list_last _ _ _ _ _ _ _ _ _ _ _ c.loop-scan.invariant c.in-Some.ensures.scans refl refl
-    c.behind_white-white.ensures (c.ends.ensures c.if-ends.true)
+    c.behind_white-white.ensures (c.ends.ensures.all c.if-ends.true)
 
 pub returns-in_default-behind-clause-stopped : goal.returns-in_default-behind-clause-stopped
 returns-in_default-behind-clause-stopped c =

@@ -8,7 +8,7 @@ use Rattle.sf_view.proofs.series.whole_dict.Goals as goal
 pub returns-then-ends-clause-parts : goal.returns-then-ends-clause-parts
 returns-then-ends-clause-parts c =
     parts_whole _ _ _ _ _ _ c.requires.unset
-    (empty_dict _ _ _ _ c.behind_spaces-rest.ensures (c.ends.ensures c.if-ends.true))
+    (empty_dict _ _ _ _ c.behind_spaces-rest.ensures (c.ends.ensures.all c.if-ends.true))
 
 pub loop-scan-init : goal.loop-scan-init
 loop-scan-init c = record {
@@ -23,13 +23,13 @@ returns-then-differ-clause-parts c =
     parts_whole _ _ _ _ _ _ c.loop-scan.invariant.unset
     (dict_last _ _ _ _ _ _ _ _ _ _ _ _ _ c.loop-scan.invariant.so_far c.in_ok-scan.ensures.scans
     c.with-marks.ensures c.behind_white-white.ensures
-    (c.ends-in-loop-scan.ensures c.if-ends-2.true) (c.differ.ensures c.if-differ.true))
+    (c.ends-in-loop-scan.ensures.all c.if-ends-2.true) (c.differ.ensures c.if-differ.true))
 
 pub returns-then-ends-2-clause-parts : goal.returns-then-ends-2-clause-parts
 returns-then-ends-2-clause-parts c =
     parts_raw _ _ _ _ _ refl c.in_ok-scan.ensures.scans.puts.within
     (dict_raw _ _ _ _ _ _ _ _ _ _ _ _ _ c.loop-scan.invariant.so_far c.in_ok-scan.ensures.scans
-    c.with-marks.ensures c.behind_white-white.ensures (c.ends-in-loop-scan.ensures c.if-ends-2.true))
+    c.with-marks.ensures c.behind_white-white.ensures (c.ends-in-loop-scan.ensures.all c.if-ends-2.true))
 
 pub loop-scan-preserved : goal.loop-scan-preserved
 loop-scan-preserved c = record {

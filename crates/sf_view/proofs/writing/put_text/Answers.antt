@@ -21,6 +21,6 @@ returns g c = λ d t h.
     subst (λ b. DescribesText d b c.args.slice.bytes.now (Text t)) c.if-slice.false h in
     let text = unescaped_text c.args.slice.bytes.now c.long_prefix.result.0.now
     c.long_prefix.result.1.now t c.long_prefix.ensures.whole c.long_prefix.ensures.every
-    (c.ends.ensures c.if-not-ends.false) raw in
+    (c.ends.ensures.all c.if-not-ends.false) raw in
     let inside = rw text at c.put-sent-2.ensures in
     then c.put-sent.ensures (then inside c.put-2.ensures)

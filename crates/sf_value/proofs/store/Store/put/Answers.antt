@@ -55,8 +55,8 @@ returns-in_err-push-in-Few-clause-absent g c =
     let missing = searched _ k _ ss _ c.in_default.ensures c.as_bytes-in-Few.ensures.bytes c.deref.ensures.value in
     rw c.in-Few.is (if_err c.from_residual-in_err-push-in-Few.result (value_missing k ss missing))
 
-pub returns-then-len-lt-FEW-clause-entries : goal.returns-then-len-lt-FEW-clause-entries
-returns-then-len-lt-FEW-clause-entries g c =
+pub returns-then-len-lt-MAX_SLOTS-clause-entries : goal.returns-then-len-lt-MAX_SLOTS-clause-entries
+returns-then-len-lt-MAX_SLOTS-clause-entries g c =
     let k = c.args.key in
     let ss = c.in-Few.slots.items in
     let missing = searched _ k _ ss _ c.in_default.ensures c.as_bytes-in-Few.ensures.bytes c.deref.ensures.value in
@@ -64,8 +64,8 @@ returns-then-len-lt-FEW-clause-entries g c =
     stay_entries k c.args.value (slot_pairs ss) _ here c.as_bytes-in-Few.ensures.key
     (added k ss _ _ missing refl c.in_ok-push-in-Few.ensures.added)
 
-pub returns-then-len-lt-FEW-clause-new : goal.returns-then-len-lt-FEW-clause-new
-returns-then-len-lt-FEW-clause-new g c =
+pub returns-then-len-lt-MAX_SLOTS-clause-new : goal.returns-then-len-lt-MAX_SLOTS-clause-new
+returns-then-len-lt-MAX_SLOTS-clause-new g c =
     let k = c.args.key in
     let ss = c.in-Few.slots.items in
     let missing = searched _ k _ ss _ c.in_default.ensures c.as_bytes-in-Few.ensures.bytes c.deref.ensures.value in
@@ -74,8 +74,8 @@ returns-then-len-lt-FEW-clause-new g c =
     (settled k c.args.value (slot_pairs ss) _ here
     (added k ss _ _ missing refl c.in_ok-push-in-Few.ensures.added))
 
-pub returns-then-len-lt-FEW-clause-old : goal.returns-then-len-lt-FEW-clause-old
-returns-then-len-lt-FEW-clause-old g c =
+pub returns-then-len-lt-MAX_SLOTS-clause-old : goal.returns-then-len-lt-MAX_SLOTS-clause-old
+returns-then-len-lt-MAX_SLOTS-clause-old g c =
     let k = c.args.key in
     let ss = c.in-Few.slots.items in
     let missing = searched _ k _ ss _ c.in_default.ensures c.as_bytes-in-Few.ensures.bytes c.deref.ensures.value in

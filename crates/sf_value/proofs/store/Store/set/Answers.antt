@@ -36,8 +36,8 @@ returns-in-Some-clause-new g c =
     (settled k c.args.value (slot_pairs ss) _ here
     (replaced k ss c.in-Some.place slot _ _ found c.index_mut.ensures.value c.overwrite.ensures.key c.overwrite.ensures.value))
 
-pub returns-then-len-lt-FEW-clause-entries : goal.returns-then-len-lt-FEW-clause-entries
-returns-then-len-lt-FEW-clause-entries g c =
+pub returns-then-len-lt-MAX_SLOTS-clause-entries : goal.returns-then-len-lt-MAX_SLOTS-clause-entries
+returns-then-len-lt-MAX_SLOTS-clause-entries g c =
     let k = c.args.key in
     let ss = c.in-Few.slots.items in
     let missing = searched _ k _ ss _ c.in_default.ensures c.as_bytes-in-Few.ensures.bytes c.deref.ensures.value in
@@ -45,8 +45,8 @@ returns-then-len-lt-FEW-clause-entries g c =
     stay_entries k c.args.value (slot_pairs ss) _ here c.as_bytes-in-Few.ensures.key
     (added k ss _ _ missing refl c.in_ok-add-in-Few.ensures.added)
 
-pub returns-then-len-lt-FEW-clause-new : goal.returns-then-len-lt-FEW-clause-new
-returns-then-len-lt-FEW-clause-new g c =
+pub returns-then-len-lt-MAX_SLOTS-clause-new : goal.returns-then-len-lt-MAX_SLOTS-clause-new
+returns-then-len-lt-MAX_SLOTS-clause-new g c =
     let k = c.args.key in
     let ss = c.in-Few.slots.items in
     let missing = searched _ k _ ss _ c.in_default.ensures c.as_bytes-in-Few.ensures.bytes c.deref.ensures.value in

@@ -22,7 +22,7 @@ returns-then-at-len g c =
     let e = c.overwrite.new.slot in
     let before : slot_pairs ss ≡ ps = rw c.in-Few.is at c.reserve.ensures.same in
     let place : HasPlace k i (store.Few c.in-Few.slots) =
-    rw c.in-Few.is at (c.in_ok-at.ensures.place c.if-at-ge-FEW.false) in
+    rw c.in-Few.is at (c.in_ok-at.ensures.place c.if-at-ge-MAX_SLOTS.false) in
     let less : i < length ss = omega (arith, c.if-at-len.true, c.len.ensures) in
     let found = searched k k ss ss _ (sym (place.0 less)) refl refl in
     let put : slot_pairs (slice_set ss i e) ≡ insert_entry bytes_eq ps k v =
@@ -46,7 +46,7 @@ returns g c =
     let slot : Slot _ = record { key = c.from_bytes.result; value = v; seed = c.seed-seed.result } in
     let before : slot_pairs ss ≡ ps = rw c.in-Few.is at c.reserve.ensures.same in
     let place : HasPlace k i (store.Few c.in-Few.slots) =
-    rw c.in-Few.is at (c.in_ok-at.ensures.place c.if-at-ge-FEW.false) in
+    rw c.in-Few.is at (c.in_ok-at.ensures.place c.if-at-ge-MAX_SLOTS.false) in
     let last : length ss ≤ i = omega (arith, c.if-at-len.false, c.len.ensures) in
     let missing = searched k k ss ss _ (sym (place.1 last).0) refl refl in
     let new : value_at k ps ≡ None =
