@@ -20,6 +20,7 @@
  */
 #define _DEFAULT_SOURCE
 #include "tests/buffers.h"
+#include "tests/pointers.h"
 #include <sf.h>
 #include <stddef.h>
 #include <stdint.h>
@@ -148,11 +149,11 @@ static int same_bytes(const uint8_t *a, size_t a_at, const uint8_t *b, size_t b_
 }
 
 static const char *key_of(const value *v, const sf_node *node) {
-  return sf_key(node, v->text, v->text_length, v->bytes);
+  return node_key(node, v->text, v->text_length, v->bytes);
 }
 
 static const char *bytes_of(const value *v, const sf_node *node) {
-  return sf_bytes(node, v->text, v->text_length, v->bytes);
+  return node_text(node, v->text, v->text_length, v->bytes);
 }
 
 /* Whether a range of a node is within the text, or within the bytes. */
@@ -217,12 +218,13 @@ static value copy(const value *v) {
   value u = {NULL, 0, take_buffer(NULL, v->sizes.nodes * sizeof *u.nodes), take_buffer(NULL, bytes),
              {v->sizes.nodes, bytes}};
   for (int less = bytes > 0 ? 2 : 1; less >= 0; --less) {
-    sf_builder builder = sf_build(u.nodes, v->sizes.nodes - (less == 1 && v->sizes.nodes > 0),
-                                  u.bytes, bytes - (less == 2));
+    size_t nodes = v->sizes.nodes - (less == 1 && v->sizes.nodes > 0);
+    sf_builder builder =
+        sf_build(sf_nodes_of(u.nodes, nodes), sf_buffer_of(u.bytes, bytes - (less == 2)));
     for (size_t i = 0; i < v->sizes.nodes; i += v->nodes[i].size)
-      sf_put_copy(&builder, v->nodes + i, v->text, v->text_length, v->bytes);
+      put_copy(&builder, v->nodes + i, v->text, v->text_length, v->bytes);
     CHECK(builder.status == (less > 0 && v->sizes.nodes > 0 ? SF_SHORT : SF_OK));
-    CHECK(less > 0 || (builder.nodes_length == v->sizes.nodes && builder.bytes_length == bytes));
+    CHECK(less > 0 || (builder.nodes.length == v->sizes.nodes && builder.bytes.length == bytes));
   }
   return u;
 }

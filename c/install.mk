@@ -17,6 +17,8 @@ FILL = sed -e 's|@VERSION@|$(VERSION)|' -e 's|@LIBDIR@|$(LIBDIR)|' \
   -e "s|@PREFIX_FROM_CMAKE@|$$(realpath -m -s --relative-to=/$(LIBDIR)/cmake/sf /)|"
 SHARE = $(DESTDIR)$(TO)/share
 COMMANDS = $(notdir $(PROGRAMS))
+# The functions that sf(3) documents: each is a name of that page, as in `man sf_check`.
+FUNCTIONS = $(shell sed -n '/^\.SH NAME/{n;s/ .-.*//;s/,//g;p}' $(MANUALS)/sf.3)
 
 .PHONY: install uninstall
 
@@ -33,6 +35,7 @@ install: $(ARCHIVE) $(SHARED)
 ifdef MANUALS
 	install -d $(SHARE)/man/man3
 	install -m 644 $(MANUALS)/sf.3 $(SHARE)/man/man3/sf.3
+	for name in $(FUNCTIONS); do ln -sf sf.3 $(SHARE)/man/man3/$$name.3 || exit; done
 endif
 ifdef PROGRAMS
 	install -d $(DESTDIR)$(TO)/bin $(SHARE)/man/man1 $(SHARE)/bash-completion/completions \
@@ -51,7 +54,7 @@ uninstall:
 	  $(LIB)/pkgconfig/sf.pc $(LIB)/cmake/sf/sf-config.cmake $(LIB)/cmake/sf/sf-config-version.cmake
 	if [ -d $(LIB)/cmake/sf ]; then rmdir --ignore-fail-on-non-empty $(LIB)/cmake/sf; fi
 ifdef MANUALS
-	rm -f $(SHARE)/man/man3/sf.3
+	rm -f $(SHARE)/man/man3/sf.3 $(FUNCTIONS:%=$(SHARE)/man/man3/%.3)
 endif
 ifdef PROGRAMS
 	rm -f $(foreach name,$(COMMANDS),$(DESTDIR)$(TO)/bin/$(name) $(SHARE)/man/man1/$(name).1 \

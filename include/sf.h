@@ -4,6 +4,10 @@
  * targeted cache control fields (RFC 9213) and Cache-Status (RFC 9211). They are in libsf.a and
  * libsf.so.0, which require only the C library.
  *
+ * A program in C or C++ best calls the inline functions at the end, after the comment `The calls
+ * with few arguments`: with texts and buffers as structs, no two arguments can be swapped. They are
+ * over the functions of the library, which come first, and which take pointers and lengths.
+ *
  * The caller provides the buffer for each result, and never owns or frees memory of the library. If
  * a buffer is too small, the call returns SF_SHORT (SF_TOO_MANY for the nodes of sf_parse) and
  * stores the required length. What a call allocates with malloc it frees before it returns.
@@ -172,7 +176,8 @@ typedef struct sf_text {
 /*
  * Returns a text without the spaces and tabs before and after it. White space around the value of a
  * field line is no part of it (RFC 9110 section 5.5), but some programs pass it on. The functions
- * that read a text accept spaces there, and refuse a tab (RFC 9651 section 4.2): trim each line
+ * that read a text accept spaces there, but refuse a tab at the beginning, and one after an Item
+ * (RFC 9651 section 4.2; after a member of a List or Dictionary it is accepted). So trim each line
  * before sf_join, or the text of a field of one line.
  */
 static inline sf_text sf_trim(const void *text, size_t length) {
@@ -210,8 +215,8 @@ typedef struct sf_refusal {
 } sf_refusal;
 
 /*
- * Checks whether a text is a well-formed field of the kind (RFC 9651 section 4.2). Here and below,
- * a text that begins or ends with a tab is malformed: see sf_trim.
+ * Checks whether a text is a well-formed field of the kind (RFC 9651 section 4.2). A tab at the
+ * beginning, or after an Item, is refused: see sf_trim.
  *
  *   SF_OK         it is
  *   SF_REFUSED    it is not; refusal says where and why
@@ -288,46 +293,6 @@ static inline sf_line_place sf_refusal_line(const sf_refusal *refusal, const sf_
   return place;
 }
 
-/* The size in bytes of a buffer that is large enough for each message of sf_refusal_excerpt with
- * this number of bytes of the text at most. */
-#define SF_REFUSAL_EXCERPT_SIZE(most) (SF_REFUSAL_SIZE + 3 + sizeof(char[2]) * (most))
-
-/*
- * Writes the error message of a refusal, a second line with at most so many bytes of the text
- * around the offset, and a caret below the offset, without a newline at the end. So the message has a
- * bound, whatever the length of the text. Bytes are written as by sf_refusal_in_text. The results
- * are those of sf_refusal_text.
- */
-SF_USE_RESULT
-static inline uint32_t sf_refusal_excerpt(const sf_refusal *refusal, const void *text,
-                                          size_t text_length, size_t most, void *buffer,
-                                          size_t buffer_length, size_t *required) {
-  size_t at = refusal->offset < text_length ? (size_t)refusal->offset : text_length;
-  size_t from = at > most / 2 ? at - most / 2 : 0, length, message, i;
-  if (text_length - from < most)
-    from = text_length > most ? text_length - most : 0;
-  length = text_length - from < most ? text_length - from : most;
-  uint32_t status = sf_refusal_text(refusal, NULL, 0, &message);
-  if (status != SF_SHORT)
-    return status;
-  *required = message + length + (at - from) + 3;
-  if (*required > buffer_length)
-    return SF_SHORT;
-  status = sf_refusal_text(refusal, buffer, buffer_length, &message);
-  if (status != SF_OK)
-    return status;
-  char *to = (char *)buffer + message;
-  *to++ = '\n';
-  for (i = 0; i < length; ++i) {
-    char byte = ((const char *)text)[from + i];
-    *to++ = byte >= ' ' && byte <= '~' ? byte : '?';
-  }
-  *to++ = '\n';
-  memset(to, ' ', at - from);
-  to[at - from] = '^';
-  return SF_OK;
-}
-
 /* The size in bytes of a buffer that is large enough for the canonical text of any text of this
  * length: eight fifths of it, so SF_CANONICAL_SIZE(5) is 8. The result is a size_t whatever integer
  * type the length has, and valid for lengths up to SIZE_MAX / 8 * 5. The macro evaluates its
@@ -338,7 +303,8 @@ static inline uint32_t sf_refusal_excerpt(const sf_refusal *refusal, const void 
 /*
  * Writes the canonical text (RFC 9651 section 4.1) of the value of a text to buffer. Two texts of a
  * kind have equal values if and only if their canonical texts are equal, and the canonical text of
- * a canonical text is that text itself.
+ * a canonical text is that text itself. A tab at the beginning, or after an Item, is refused: see
+ * sf_trim.
  *
  *   SF_OK         the first *required bytes of buffer are the canonical text; the others are
  *                 unchanged
@@ -355,7 +321,7 @@ uint32_t sf_normalise(const sf_seed *seed, uint32_t dialect, uint32_t kind, cons
 
 /*
  * Compares the values of two texts of a kind (RFC 9651 sections 3 and 4.2). The order of members,
- * items and parameters counts.
+ * items and parameters counts. A tab at the beginning, or after an Item, is refused: see sf_trim.
  *
  *   SF_OK              *equal is 1 if the values are equal, otherwise 0
  *   SF_REFUSED         the first text is malformed; refusal says where and why
@@ -438,8 +404,7 @@ static inline const char *sf_type_name(uint32_t type) {
  * parameters, and then by its own parameters.
  *
  * An offset below text_length, the length of the text that was parsed, is in that text. Any other
- * offset is in the caller's buffer bytes, at offset - text_length. sf_key and sf_bytes return the
- * pointers.
+ * offset is in the caller's buffer bytes, at offset - text_length.
  */
 typedef struct sf_node {
   int64_t number;       /* value of an Integer, Decimal, Boolean or Date; otherwise 0 */
@@ -453,27 +418,6 @@ typedef struct sf_node {
   uint8_t role;         /* an sf_role */
   uint8_t coded;        /* 0 in nodes that sf_parse writes; sf_write documents other numbers */
 } sf_node;
-
-/* Returns a pointer to the key of a node, which has key_length bytes. The text and bytes are those
- * of the call of sf_parse that wrote the node. */
-static inline const char *sf_key(const sf_node *node, const void *text, size_t text_length,
-                                 const void *bytes) {
-  if (node->key_length == 0)
-    return "";
-  return node->key_at < text_length ? (const char *)text + node->key_at
-                                    : (const char *)bytes + (node->key_at - text_length);
-}
-
-/* Returns a pointer to the bytes of a String, Token, Byte Sequence or Display String, which has
- * node->text_length bytes. The text and bytes are those of the call of sf_parse that wrote the
- * node. */
-static inline const char *sf_bytes(const sf_node *node, const void *text, size_t text_length,
-                                   const void *bytes) {
-  if (node->text_length == 0)
-    return "";
-  return node->text_at < text_length ? (const char *)text + node->text_at
-                                     : (const char *)bytes + (node->text_at - text_length);
-}
 
 /* The sizes of buffers that are large enough for the value of any text of this length: in nodes or
  * hops, four fifths of the length, rounded to the nearest integer; and in bytes, eight fifths. The
@@ -491,7 +435,8 @@ typedef struct sf_sizes {
 /*
  * Parses a text and writes its value as nodes. If a key is repeated, its member or parameter
  * appears once, at the position of the first and with the value of the last (RFC 9651 section 4.2).
- * No two values of a kind have the same nodes, text and bytes.
+ * No two values of a kind have the same nodes, text and bytes. A tab at the beginning, or after an
+ * Item, is refused: see sf_trim.
  *
  *   SF_OK         the first sizes->nodes nodes are the value, with the text and the first
  *                 sizes->bytes bytes, to which they point
@@ -542,7 +487,7 @@ uint32_t sf_find(const sf_node *nodes, size_t nodes_length, const void *text, si
                  size_t key_length, size_t *index) SF_USE_RESULT;
 
 /* The size in bytes of a buffer that is large enough for the text of so many nodes whose keys and
- * bytes together have so many bytes: of a builder, nodes_length and bytes_length. */
+ * bytes together have so many bytes: of a builder, nodes.length and bytes.length. */
 #define SF_WRITTEN_SIZE(nodes, bytes) (sizeof(char[24]) * (nodes) + sizeof(char[3]) * (bytes))
 
 /*
@@ -575,358 +520,6 @@ uint32_t sf_write(const sf_seed *seed, uint32_t dialect, uint32_t kind, const sf
                   size_t bytes_length, void *buffer, size_t buffer_length, size_t *required,
                   size_t *invalid) SF_USE_RESULT;
 
-/*
- * Changes the bare item of a node to an Integer, Decimal, Boolean or Date with this number. The key
- * and the parameters of the node stay. This code changes a parameter of the member nodes[i], before
- * sf_write writes the field:
- *
- *   size_t at;
- *   if (sf_find(nodes + i, nodes[i].size, text, text_length, bytes, sizes.bytes, SF_PARAMETER,
- *               "created", 7, &at) == SF_OK)
- *     sf_set_number(&nodes[i + at], SF_INTEGER, 1);
- *
- * sf_write checks the type and the number. Returns nothing.
- */
-static inline void sf_set_number(sf_node *node, uint32_t type, int64_t number) {
-  node->number = number;
-  node->text_length = 0;
-  node->type = (uint8_t)type;
-  node->coded = 0;
-}
-
-/*
- * Likewise changes the bare item of a node to a String, Token, Byte Sequence or Display String with
- * this value. The node is one that sf_parse wrote. The value is copied to the buffer bytes of that
- * call, after the first sizes->bytes bytes, and sizes->bytes is increased by its length. The
- * text_length is that of the text that was parsed.
- *
- *   SF_OK        the node is changed
- *   SF_SHORT     the buffer bytes is too small: sizes->bytes + length bytes are required
- *   SF_TOO_LONG  the offset or the length of the value would be 4 GiB or more
- *
- * Unless SF_OK is returned, everything is unchanged.
- */
-SF_USE_RESULT
-static inline uint32_t sf_set_bytes(sf_node *node, uint32_t type, const void *value, size_t length,
-                                    size_t text_length, void *bytes, size_t bytes_capacity,
-                                    sf_sizes *sizes) {
-  if (sizes->bytes > bytes_capacity || length > bytes_capacity - sizes->bytes)
-    return SF_SHORT;
-  if (text_length > UINT32_MAX || sizes->bytes > UINT32_MAX - text_length || length > UINT32_MAX)
-    return SF_TOO_LONG;
-  if (length > 0)
-    memcpy((char *)bytes + sizes->bytes, value, length);
-  node->number = 0;
-  node->text_at = (uint32_t)(text_length + sizes->bytes);
-  node->text_length = (uint32_t)length;
-  node->type = (uint8_t)type;
-  node->coded = 0;
-  sizes->bytes += length;
-  return SF_OK;
-}
-
-/*
- * A builder makes the nodes of a field in two of the caller's buffers, and keeps their sizes and
- * offsets. These calls build a Dictionary and write its text:
- *
- *   sf_node nodes[8];
- *   char bytes[64], text[64];
- *   size_t length, invalid;
- *   sf_builder field = sf_build(nodes, 8, bytes, sizeof bytes);
- *   sf_begin_inner_list(&field, "sig1");
- *   sf_put_string(&field, NULL, "@method");
- *   sf_put_string(&field, NULL, "@path");
- *   sf_end_inner_list(&field);
- *   sf_param_integer(&field, "created", 1);
- *   sf_param_string(&field, "keyid", "k");
- *   if (sf_write_built(&seed, SF_RFC9651, SF_DICT, &field, text, sizeof text, &length, &invalid) ==
- *       SF_OK)
- *     printf("%.*s\n", (int)length, text); // sig1=("@method" "@path");created=1;keyid="k"
- *
- * A node is required for each Item, each Inner List and each parameter, and as many bytes as all
- * keys and texts have. These are copied, so a builder keeps no pointer to its arguments.
- *
- * The calls that change a builder return nothing. If one fails, it puts nothing, builder->status
- * says why, and later calls do nothing:
- *
- *   SF_SHORT     one of the two buffers is too small
- *   SF_BAD_CALL  a parameter with nothing before it that it could belong to, an Inner List in
- *                another, or an end without a beginning
- *   SF_TOO_LONG  the keys and bytes have 4 GiB or more
- *
- * Builders do not check what is put: sf_write does. It refuses bytes that are not a String, a
- * number out of range, a repeated key, or the nodes of a List if a Dictionary is to be written.
- * These functions are not in the library: all are inline. Only sf_write_built allocates, by
- * sf_write.
- */
-typedef struct sf_builder {
-  sf_node *nodes;        /* the first nodes_length are the nodes of what was put */
-  size_t nodes_length;
-  size_t nodes_capacity;
-  char *bytes;           /* the first bytes_length are their keys and bytes */
-  size_t bytes_length;
-  size_t bytes_capacity;
-  size_t last;           /* index of the Item or Inner List to which parameters are put */
-  size_t inner_list;     /* index of the Inner List that was begun last */
-  uint32_t is_open;      /* 1 if it has not been ended, otherwise 0 */
-  uint32_t status;       /* SF_OK, or the status of the first call that failed */
-} sf_builder;
-
-/* Returns an empty builder with these buffers, which must be valid as long as the builder is used.
- * A builder need not be freed. */
-static inline sf_builder sf_build(sf_node *nodes, size_t nodes_capacity, void *bytes,
-                                  size_t bytes_capacity) {
-  sf_builder builder;
-  builder.nodes = nodes;
-  builder.nodes_length = 0;
-  builder.nodes_capacity = nodes_capacity;
-  builder.bytes = (char *)bytes;
-  builder.bytes_length = 0;
-  builder.bytes_capacity = bytes_capacity;
-  builder.last = 0;
-  builder.inner_list = 0;
-  builder.is_open = 0;
-  builder.status = SF_OK;
-  return builder;
-}
-
-/* Puts one node: for the functions below. */
-static inline void sf_put_node(sf_builder *builder, uint32_t role, uint32_t type, int64_t number,
-                               const void *key, size_t key_length, const void *text,
-                               size_t text_length) {
-  if (builder->status != SF_OK)
-    return;
-  size_t at = builder->bytes_length, left = builder->bytes_capacity - at;
-  if (builder->nodes_length >= builder->nodes_capacity || key_length > left ||
-      text_length > left - key_length) {
-    builder->status = SF_SHORT;
-    return;
-  }
-  if (builder->nodes_length >= UINT32_MAX || at + key_length + text_length > UINT32_MAX) {
-    builder->status = SF_TOO_LONG;
-    return;
-  }
-  sf_node *node = builder->nodes + builder->nodes_length;
-  memset(node, 0, sizeof *node);
-  node->number = number;
-  node->key_at = (uint32_t)at;
-  node->key_length = (uint32_t)key_length;
-  node->text_at = (uint32_t)(at + key_length);
-  node->text_length = (uint32_t)text_length;
-  node->size = 1;
-  node->type = (uint8_t)type;
-  node->role = (uint8_t)role;
-  if (key_length > 0)
-    memcpy(builder->bytes + at, key, key_length);
-  if (text_length > 0)
-    memcpy(builder->bytes + at + key_length, text, text_length);
-  if (role == SF_PARAMETER || role == SF_INNER_PARAMETER)
-    ++builder->nodes[builder->last].size;
-  else
-    builder->last = builder->nodes_length;
-  if (builder->is_open)
-    ++builder->nodes[builder->inner_list].size;
-  ++builder->nodes_length;
-  builder->bytes_length = at + key_length + text_length;
-}
-
-/*
- * Puts a bare item of any type, with a key and a text of stated lengths. The functions below call
- * it. An Integer, Decimal, Boolean or Date has a number and an empty text; the other types have a
- * text and the number 0. SF_INNER_LIST puts an Inner List without Items; sf_begin begins one with
- * Items. If type is no sf_type, sf_write refuses the node.
- *
- * If an Inner List is open, the item is one of its Items; otherwise it is a member of the field.
- * The key is that of a member of a Dictionary; for an Item, a member of a List, and an Item of an
- * Inner List, key_length is 0.
- */
-static inline void sf_put(sf_builder *builder, const void *key, size_t key_length, uint32_t type,
-                          int64_t number, const void *text, size_t text_length) {
-  sf_put_node(builder, builder->is_open ? SF_INNER_ITEM : SF_MEMBER, type, number, key, key_length,
-              text, text_length);
-}
-
-/* Puts a parameter, likewise. It belongs to the Item that was put last or, if an Inner List was
- * ended since, to that Inner List. */
-static inline void sf_param(sf_builder *builder, const void *key, size_t key_length, uint32_t type,
-                            int64_t number, const void *text, size_t text_length) {
-  if (builder->status != SF_OK)
-    return;
-  if (builder->nodes_length == 0 || (builder->is_open && builder->last == builder->inner_list)) {
-    builder->status = SF_BAD_CALL;
-    return;
-  }
-  int is_inner = builder->nodes[builder->last].type == SF_INNER_LIST;
-  sf_put_node(builder, is_inner ? SF_INNER_PARAMETER : SF_PARAMETER, type, number, key, key_length,
-              text, text_length);
-}
-
-/*
- * Begins an Inner List, which is a member of the field. What is put until sf_end_inner_list are its
- * Items and their parameters; the parameters that are put after the end, and before the next Item
- * or Inner List, are its own. The key has a stated length, which is 0 in a List.
- */
-static inline void sf_begin(sf_builder *builder, const void *key, size_t key_length) {
-  if (builder->status != SF_OK)
-    return;
-  if (builder->is_open) {
-    builder->status = SF_BAD_CALL;
-    return;
-  }
-  sf_put(builder, key, key_length, SF_INNER_LIST, 0, NULL, 0);
-  builder->inner_list = builder->last;
-  builder->is_open = builder->status == SF_OK;
-}
-
-/* Returns the length of a text that ends with a NUL; 0 if it is NULL. */
-static inline size_t sf_length(const char *text) { return text == NULL ? 0 : strlen(text); }
-
-/*
- * Begins an Inner List, likewise.
- *
- * Here and below, keys and texts end with a NUL, and key is NULL except for members of a Dictionary
- * and for parameters.
- */
-static inline void sf_begin_inner_list(sf_builder *builder, const char *key) {
-  sf_begin(builder, key, sf_length(key));
-}
-
-/* Ends the Inner List that is open. */
-static inline void sf_end_inner_list(sf_builder *builder) {
-  if (builder->status != SF_OK)
-    return;
-  if (!builder->is_open)
-    builder->status = SF_BAD_CALL;
-  builder->last = builder->inner_list;
-  builder->is_open = 0;
-}
-
-/* Puts an Integer. */
-static inline void sf_put_integer(sf_builder *builder, const char *key, int64_t number) {
-  sf_put(builder, key, sf_length(key), SF_INTEGER, number, NULL, 0);
-}
-
-/* Puts a Decimal, in thousandths. */
-static inline void sf_put_decimal(sf_builder *builder, const char *key, int64_t thousandths) {
-  sf_put(builder, key, sf_length(key), SF_DECIMAL, thousandths, NULL, 0);
-}
-
-/* Puts a String. */
-static inline void sf_put_string(sf_builder *builder, const char *key, const char *text) {
-  sf_put(builder, key, sf_length(key), SF_STRING, 0, text, sf_length(text));
-}
-
-/* Puts a Token. */
-static inline void sf_put_token(sf_builder *builder, const char *key, const char *text) {
-  sf_put(builder, key, sf_length(key), SF_TOKEN, 0, text, sf_length(text));
-}
-
-/* Puts a Byte Sequence, which may have any bytes. */
-static inline void sf_put_byte_sequence(sf_builder *builder, const char *key, const void *bytes,
-                                        size_t bytes_length) {
-  sf_put(builder, key, sf_length(key), SF_BYTE_SEQUENCE, 0, bytes, bytes_length);
-}
-
-/* Puts a Boolean: true if is_true is not 0. */
-static inline void sf_put_boolean(sf_builder *builder, const char *key, int is_true) {
-  sf_put(builder, key, sf_length(key), SF_BOOLEAN, is_true != 0, NULL, 0);
-}
-
-/* Puts a Date, in seconds since 1970-01-01T00:00:00Z. */
-static inline void sf_put_date(sf_builder *builder, const char *key, int64_t seconds) {
-  sf_put(builder, key, sf_length(key), SF_DATE, seconds, NULL, 0);
-}
-
-/* Puts a Display String, in UTF-8. For one with a NUL in it, call sf_put. */
-static inline void sf_put_display_string(sf_builder *builder, const char *key, const char *text) {
-  sf_put(builder, key, sf_length(key), SF_DISPLAY_STRING, 0, text, sf_length(text));
-}
-
-/* These put a parameter, likewise. */
-static inline void sf_param_integer(sf_builder *builder, const char *key, int64_t number) {
-  sf_param(builder, key, sf_length(key), SF_INTEGER, number, NULL, 0);
-}
-
-static inline void sf_param_decimal(sf_builder *builder, const char *key, int64_t thousandths) {
-  sf_param(builder, key, sf_length(key), SF_DECIMAL, thousandths, NULL, 0);
-}
-
-static inline void sf_param_string(sf_builder *builder, const char *key, const char *text) {
-  sf_param(builder, key, sf_length(key), SF_STRING, 0, text, sf_length(text));
-}
-
-static inline void sf_param_token(sf_builder *builder, const char *key, const char *text) {
-  sf_param(builder, key, sf_length(key), SF_TOKEN, 0, text, sf_length(text));
-}
-
-static inline void sf_param_byte_sequence(sf_builder *builder, const char *key, const void *bytes,
-                                          size_t bytes_length) {
-  sf_param(builder, key, sf_length(key), SF_BYTE_SEQUENCE, 0, bytes, bytes_length);
-}
-
-static inline void sf_param_boolean(sf_builder *builder, const char *key, int is_true) {
-  sf_param(builder, key, sf_length(key), SF_BOOLEAN, is_true != 0, NULL, 0);
-}
-
-static inline void sf_param_date(sf_builder *builder, const char *key, int64_t seconds) {
-  sf_param(builder, key, sf_length(key), SF_DATE, seconds, NULL, 0);
-}
-
-static inline void sf_param_display_string(sf_builder *builder, const char *key,
-                                           const char *text) {
-  sf_param(builder, key, sf_length(key), SF_DISPLAY_STRING, 0, text, sf_length(text));
-}
-
-/*
- * Puts a copy of an Item or Inner List of a parsed value, with its parameters, or of a parameter.
- * The node is one that sf_parse wrote, followed by the others of its subtree, and the text and the
- * bytes are those of that call. To change a field, copy what stays, in order:
- *
- *   for (const sf_node *node = nodes; node < nodes + sizes.nodes; node += node->size)
- *     sf_put_copy(&field, node, text, text_length, bytes);
- *
- * An Item becomes a member, or an Item of the Inner List that is open, wherever it was. A member
- * keeps its key, and an Item of an Inner List has none. For copies of a whole value, a builder with
- * SF_NODES_SIZE(text_length) nodes and SF_BYTES_SIZE(text_length) bytes is always large enough.
- */
-static inline void sf_put_copy(sf_builder *builder, const sf_node *node, const void *text,
-                               size_t text_length, const void *bytes) {
-  uint32_t was_open = builder->is_open, i;
-  for (i = 0; i < node->size && builder->status == SF_OK; ++i) {
-    const sf_node *one = node + i;
-    const char *key = sf_key(one, text, text_length, bytes);
-    const char *its_bytes = sf_bytes(one, text, text_length, bytes);
-    int is_param = one->role == SF_PARAMETER || one->role == SF_INNER_PARAMETER;
-    uint32_t key_length = was_open && !is_param ? 0 : one->key_length;
-    if (one->role == SF_INNER_PARAMETER && builder->is_open && !was_open)
-      sf_end_inner_list(builder);
-    if (is_param)
-      sf_param(builder, key, key_length, one->type, one->number, its_bytes, one->text_length);
-    else if (one->type == SF_INNER_LIST)
-      sf_begin(builder, key, key_length);
-    else
-      sf_put(builder, key, key_length, one->type, one->number, its_bytes, one->text_length);
-    if (builder->status == SF_OK)
-      builder->nodes[builder->nodes_length - 1].coded = one->coded;
-  }
-  if (builder->is_open && !was_open)
-    sf_end_inner_list(builder);
-}
-
-/*
- * Writes the canonical text of what was put, by sf_write, and returns the result of sf_write. If a
- * call with the builder failed, returns SF_BAD_CALL and writes nothing.
- */
-SF_USE_RESULT
-static inline uint32_t sf_write_built(const sf_seed *seed, uint32_t dialect, uint32_t kind,
-                                      const sf_builder *builder, void *buffer, size_t buffer_length,
-                                      size_t *required, size_t *invalid) {
-  if (builder->status != SF_OK)
-    return SF_BAD_CALL;
-  return sf_write(seed, dialect, kind, builder->nodes, builder->nodes_length, NULL, 0,
-                  builder->bytes, builder->bytes_length, buffer, buffer_length, required, invalid);
-}
-
 /* The parameters of the Priority field of a request (RFC 9218 section 4), with defaults for absent
  * ones. */
 typedef struct sf_priority_flags {
@@ -954,7 +547,7 @@ typedef struct sf_response_priority_flags {
 
 /*
  * Reads the text of the Priority field of a request (RFC 9218 section 5). Members that are unknown,
- * of another type or out of range are ignored.
+ * of another type or out of range are ignored. A tab at the beginning is refused: see sf_trim.
  *
  *   SF_OK         *priority is written
  *   SF_REFUSED    the text is not a well-formed Dictionary; refusal says where and why
@@ -973,7 +566,7 @@ uint32_t sf_priority_in(const sf_seed *seed, uint32_t dialect, const void *text,
 
 /*
  * Reads the text of the Priority field of a response (RFC 9218 section 8), in a dialect. Members
- * are ignored as by sf_priority.
+ * are ignored as by sf_priority. A tab at the beginning is refused: see sf_trim.
  *
  *   SF_OK         *priority is written
  *   SF_REFUSED    the text is not a well-formed Dictionary; refusal says where and why
@@ -1045,7 +638,7 @@ uint32_t sf_response_priority_text(const sf_response_priority_flags *priority, v
  * Writes the canonical text of a Priority field in which u is set if has_urgency is set, and i if
  * has_incremental is (RFC 9218 section 4). A member that the field has is overwritten in its place,
  * and a new one is added at the end; all other members stay as they are. If the text is empty, the
- * field is not to be sent.
+ * field is not to be sent. A tab at the beginning is refused: see sf_trim.
  *
  *   SF_OK       the first *required bytes of buffer are the text; the others are unchanged
  *   SF_SHORT    the text has *required bytes, more than buffer_length; buffer is unchanged
@@ -1075,7 +668,8 @@ typedef struct sf_policy {
 
 /*
  * Reads the text of one targeted field (RFC 9213 section 2.1). After SF_REFUSED or SF_EMPTY, a
- * cache ignores this field and uses the next of its target list (section 2.2), as sf_select does.
+ * cache ignores this field and uses the next of its target list (section 2.2), as sf_select does. A
+ * tab at the beginning is refused: see sf_trim.
  *
  *   SF_OK         *policy is written
  *   SF_EMPTY      the Dictionary has no members
@@ -1094,7 +688,8 @@ typedef struct sf_rules {
   sf_policy policy;
   uint8_t invalid_max_age;  /* 1 if max-age is present, but is not an Integer of at least 0: the
                                response is stale (RFC 9111 section 4.2.1), unless it is a shared
-                               cache that has s-maxage; otherwise 0 */
+                               cache that has s-maxage, and policy.max_age has no effect;
+                               otherwise 0 */
   uint8_t invalid_s_maxage; /* the same for s-maxage, in a shared cache */
   uint8_t proxy_revalidate; /* 1 if the directive is present and not ?0, otherwise 0 */
   uint8_t must_understand;  /* 1 if the directive is Boolean true, otherwise 0: it permits to ignore
@@ -1105,7 +700,8 @@ typedef struct sf_rules {
 /*
  * Reads the text of one targeted field (RFC 9213 section 2.1), for sf_decide, in a dialect: RFC
  * 9213 cites RFC 8941, by which a text with a Date or a Display String is malformed. After
- * SF_REFUSED or SF_EMPTY, a cache ignores this field, as after the same of sf_cache_control.
+ * SF_REFUSED or SF_EMPTY, a cache ignores this field, as after the same of sf_cache_control. A tab
+ * at the beginning is refused: see sf_trim.
  *
  *   SF_OK         *rules is written
  *   SF_EMPTY      the Dictionary has no members
@@ -1129,7 +725,7 @@ typedef struct sf_span {
  * section 2.2). The fields are in the order of the list. Each is the range of its text in texts:
  * the lines of the field, joined, or an empty range if the response does not have the field. A
  * field is ignored if its text is not a well-formed Dictionary, or is one without members (section
- * 2.1).
+ * 2.1). A tab at the beginning is refused: see sf_trim.
  *
  *   SF_OK         fields[*index] is the field, and *policy its directives; the fields before it are
  *                 ignored
@@ -1259,7 +855,7 @@ typedef struct sf_decision {
                                 SF_REUSE_FRESH */
   uint8_t reuse;             /* an sf_reuse */
   uint8_t by;                /* an sf_cause */
-  uint8_t allows_storing;    /* 1 if a directive permits to store it, whatever its status code (RFC
+  uint8_t allows_storing;    /* 1 if a directive permits storing it, whatever its status code (RFC
                                 9111 section 3), otherwise 0; SF_REUSE_NOT_STORED forbids it all the
                                 same */
   uint8_t allows_authorized; /* 1 if a directive permits a shared cache to store it, though the
@@ -1336,7 +932,8 @@ typedef enum sf_forward {
   SF_OTHER = 9       /* another token: see why_token */
 } sf_forward;
 
-/* Returns the token of a reason, as fwd has it; "" for SF_NO_FORWARD, SF_OTHER and other numbers. */
+/* Returns the token of a reason, as fwd has it; "" for SF_NO_FORWARD, SF_OTHER and other
+ * numbers. */
 static inline const char *sf_forward_name(uint32_t why) {
   switch (why) {
   case SF_BYPASS:
@@ -1402,7 +999,7 @@ typedef struct sf_path {
 /*
  * Reads the text of a Cache-Status field (RFC 9211 section 2) and writes the path of the response:
  * one hop for each member, the cache nearest the origin first. No two paths have the same hops and
- * bytes.
+ * bytes. A tab at the beginning is refused: see sf_trim.
  *
  *   SF_OK           the first path->hops hops and the first path->bytes bytes are the path
  *   SF_SHORT        the path has path->hops hops and path->bytes bytes, and one of the two buffers
@@ -1465,7 +1062,8 @@ uint32_t sf_hop_text(const sf_seed *seed, const sf_hop *hop, const void *bytes, 
 /*
  * Writes the canonical text of a Cache-Status field with *hop as its last member (RFC 9211 section
  * 2), in the place of the lines that were received. The text is that of these lines, joined, or
- * empty if there are none; the ranges of *hop are in bytes.
+ * empty if there are none; the ranges of *hop are in bytes. A tab at the beginning is refused: see
+ * sf_trim.
  *
  *   SF_OK       the first *required bytes of buffer are the text; the others are unchanged
  *   SF_SHORT    the text has *required bytes, more than buffer_length; buffer is unchanged
@@ -1506,6 +1104,1117 @@ typedef struct sf_joined {
  */
 uint32_t sf_join(const void *line, size_t line_length, void *buffer, size_t buffer_length,
                  sf_joined *joined) SF_USE_RESULT;
+
+/*
+ * The calls with few arguments. The rest of this header is inline and calls the functions above. A
+ * text is an sf_text, a buffer is a struct with its capacity, the results of a call are in one
+ * struct, and an sf_context has what a program sets once. So the compiler reports swapped
+ * arguments: only the two texts of sf_equal_texts have the same type, and the key and the text of
+ * the functions of sf_builder. Each function that reads or writes a field returns an sf_status.
+ *
+ * This code reads the priority that a client asks for:
+ *
+ *   sf_context context = sf_context_of(seed, SF_RFC8941);
+ *   sf_priority_flags client = SF_PRIORITY_UNSET;
+ *   if (sf_read_priority(&context, sf_cstr("u=5, i"), &client) == SF_NO_MEMORY)
+ *     return EXIT_FAILURE;
+ *   printf("%d\n", client.urgency); // 5
+ *
+ * White space around the value of a field line is no part of the value (RFC 9110 section 5.5), but
+ * a tab at the beginning is refused (RFC 9651 section 4.2): pass sf_add_line, or the call itself if
+ * there is one line, what sf_trim returns.
+ *
+ * They allocate what the functions that they call do.
+ */
+
+/* Returns a text of a stated length. It is not copied. */
+static inline sf_text sf_text_of(const void *at, size_t length) {
+  sf_text text;
+  text.at = (const char *)at;
+  text.length = length;
+  return text;
+}
+
+/* Returns the text of a string that ends with a NUL; the empty text if it is NULL. */
+static inline sf_text sf_cstr(const char *string) {
+  return sf_text_of(string, string == NULL ? 0 : strlen(string));
+}
+
+/* What the calls of a program have in common. Threads may not use a context at the same time: give
+ * each a copy. */
+typedef struct sf_context {
+  sf_seed seed;       /* for the hashes of keys */
+  uint32_t dialect;   /* the sf_dialect in which texts are read and written */
+  sf_refusal refusal; /* where and why the last text was refused: written with SF_REFUSED and
+                         SF_SECOND_REFUSED alone */
+  size_t invalid;     /* index of the first node that is wrong: written with SF_INVALID by
+                         sf_write_tree and sf_write_built */
+} sf_context;
+
+/* Returns a context. The dialect is the RFC that the definition of a field cites: SF_RFC8941 for
+ * Priority, Cache-Status and targeted cache control. */
+static inline sf_context sf_context_of(sf_seed seed, sf_dialect dialect) {
+  sf_context context;
+  memset(&context, 0, sizeof context);
+  context.seed = seed;
+  context.dialect = (uint32_t)dialect;
+  return context;
+}
+
+/* A buffer for bytes, such as a text that a call writes. */
+typedef struct sf_buffer {
+  char *at;        /* the caller's bytes */
+  size_t capacity; /* how many there are */
+  size_t length;   /* how many of them the last call wrote; 0 unless it returned SF_OK */
+  size_t required; /* after SF_SHORT, the capacity that the call requires */
+} sf_buffer;
+
+/* A buffer for the nodes of a value, likewise. Here and in sf_hops, required is in elements. */
+typedef struct sf_nodes {
+  sf_node *at;
+  size_t capacity;
+  size_t length;
+  size_t required; /* after SF_TOO_MANY and SF_SHORT, the capacity that is large enough */
+} sf_nodes;
+
+/* A buffer for the hops of a path, likewise. */
+typedef struct sf_hops {
+  sf_hop *at;
+  size_t capacity;
+  size_t length;
+  size_t required; /* after SF_SHORT, the capacity that is large enough */
+} sf_hops;
+
+/* Return a buffer over the caller's memory, with its capacity in bytes, nodes or hops. */
+static inline sf_buffer sf_buffer_of(void *at, size_t capacity) {
+  sf_buffer buffer;
+  buffer.at = (char *)at;
+  buffer.capacity = capacity;
+  buffer.length = 0;
+  buffer.required = 0;
+  return buffer;
+}
+
+static inline sf_nodes sf_nodes_of(sf_node *at, size_t capacity) {
+  sf_nodes nodes;
+  nodes.at = at;
+  nodes.capacity = capacity;
+  nodes.length = 0;
+  nodes.required = 0;
+  return nodes;
+}
+
+static inline sf_hops sf_hops_of(sf_hop *at, size_t capacity) {
+  sf_hops hops;
+  hops.at = at;
+  hops.capacity = capacity;
+  hops.length = 0;
+  hops.required = 0;
+  return hops;
+}
+
+/* The number of elements of an array. A pointer in its place does not compile, except in C with
+ * other compilers than GCC and Clang. */
+#if defined(__cplusplus)
+extern "C++" {
+template <class Element, size_t length> inline size_t sf_length_of(Element (&)[length]) {
+  return length;
+}
+}
+#define SF_LENGTH_OF(array) (sf_length_of(array))
+#elif defined(__GNUC__)
+#define SF_LENGTH_OF(array)                                                                        \
+  (sizeof(array) / sizeof *(array) *                                                               \
+   sizeof(char[__builtin_types_compatible_p(__typeof__(array), __typeof__(&(array)[0])) ? -1 : 1]))
+#else
+#define SF_LENGTH_OF(array) (sizeof(array) / sizeof *(array))
+#endif
+
+/* A buffer over an array of char, of sf_node, and of sf_hop:
+ *
+ *   char text[SF_PRIORITY_SIZE];
+ *   sf_buffer out = SF_BUFFER(text);
+ */
+#define SF_BUFFER(chars) sf_buffer_of((chars), sizeof *(chars) * SF_LENGTH_OF(chars))
+#define SF_NODES(nodes) sf_nodes_of((nodes), SF_LENGTH_OF(nodes))
+#define SF_HOPS(hops) sf_hops_of((hops), SF_LENGTH_OF(hops))
+
+/* Returns the text that the last call wrote to a buffer; the empty text if it failed. The text is
+ * in the buffer. */
+static inline sf_text sf_written(const sf_buffer *buffer) {
+  return sf_text_of(buffer->at, buffer->length);
+}
+
+/* Sets what the struct of a buffer says after a call with this status: for the functions below. */
+static inline sf_status sf_wrote(sf_buffer *buffer, uint32_t status, size_t required) {
+  buffer->length = status == SF_OK ? required : 0;
+  buffer->required = status == SF_SHORT ? required : 0;
+  return (sf_status)status;
+}
+
+/* The lines of a field, joined. */
+typedef struct sf_lines {
+  sf_buffer buffer; /* its first bytes are the joined lines */
+  uint32_t begun;   /* 0 before the first line */
+} sf_lines;
+
+/* Returns the lines of a field before the first: none. */
+static inline sf_lines sf_lines_in(sf_buffer buffer) {
+  sf_lines lines;
+  lines.buffer = buffer;
+  lines.buffer.length = 0;
+  lines.begun = 0;
+  return lines;
+}
+
+/*
+ * Appends one line of a field, with a comma and a space between two lines (RFC 9651 section 4.2),
+ * by sf_join. These calls join the lines of a field:
+ *
+ *   char bytes[64];
+ *   sf_lines lines = sf_lines_in(SF_BUFFER(bytes));
+ *   if (sf_add_line(&lines, sf_trim("\tu=5", 4)) != SF_OK ||
+ *       sf_add_line(&lines, sf_trim(" i", 2)) != SF_OK)
+ *     return EXIT_FAILURE;
+ *   printf("%.*s\n", (int)sf_joined_text(&lines).length, bytes); // u=5, i
+ *
+ *   SF_OK        the line is appended
+ *   SF_SHORT     lines->buffer.required bytes are required; the lines before stay. Call again with
+ *                a buffer that begins with the same bytes
+ *   SF_BAD_CALL  lines->buffer.length is greater than its capacity
+ */
+SF_USE_RESULT
+static inline sf_status sf_add_line(sf_lines *lines, sf_text line) {
+  uint32_t status;
+  sf_joined joined;
+  joined.length = lines->buffer.length;
+  joined.required = 0;
+  joined.begun = lines->begun;
+  status = sf_join(line.at, line.length, lines->buffer.at, lines->buffer.capacity, &joined);
+  lines->buffer.length = joined.length;
+  lines->buffer.required = joined.required;
+  lines->begun = joined.begun;
+  return (sf_status)status;
+}
+
+/* Returns the text of a field: its lines, joined; the empty text if it has none. It is in the
+ * buffer of the lines. */
+static inline sf_text sf_joined_text(const sf_lines *lines) {
+  return sf_text_of(lines->buffer.at, lines->buffer.length);
+}
+
+/*
+ * Checks whether a text is a well-formed field of the kind (RFC 9651 section 4.2), by sf_check:
+ *
+ *   if (sf_check_text(&context, SF_ITEM, sf_cstr("1 2")) == SF_REFUSED)
+ *     printf("%d\n", (int)context.refusal.offset); // 2
+ *
+ * A tab at the beginning, or after an Item, is refused: see sf_trim.
+ *
+ *   SF_OK         it is
+ *   SF_REFUSED    it is not; context->refusal says where and why
+ *   SF_NO_MEMORY, SF_BAD_CALL
+ */
+SF_USE_RESULT
+static inline sf_status sf_check_text(sf_context *context, sf_kind kind, sf_text text) {
+  uint32_t status = sf_check(&context->seed, context->dialect, (uint32_t)kind, text.at, text.length,
+                             &context->refusal);
+  return (sf_status)status;
+}
+
+/*
+ * Writes the error message of a refusal to out, by sf_refusal_text. A buffer of SF_REFUSAL_SIZE
+ * bytes is always large enough.
+ *
+ *   char message[SF_REFUSAL_SIZE];
+ *   sf_buffer out = SF_BUFFER(message);
+ *   if (sf_check_text(&context, SF_ITEM, sf_cstr("1 2")) == SF_REFUSED &&
+ *       sf_write_refusal(&context.refusal, &out) == SF_OK)
+ *     printf("%.*s\n", (int)out.length, out.at);
+ *     // byte 0x32 '2' at place 2, expected a space or the end
+ *
+ *   SF_OK         the first out->length bytes of out are the message
+ *   SF_SHORT      the message has out->required bytes, more than the capacity
+ *   SF_NO_MEMORY
+ */
+SF_USE_RESULT
+static inline sf_status sf_write_refusal(const sf_refusal *refusal, sf_buffer *out) {
+  size_t required = 0;
+  uint32_t status = sf_refusal_text(refusal, out->at, out->capacity, &required);
+  return sf_wrote(out, status, required);
+}
+
+/* Writes the error message of a refusal of this text, with the text and a caret, by
+ * sf_refusal_in_text. A buffer of SF_REFUSAL_IN_TEXT_SIZE(text.length) bytes is always large
+ * enough. The results are those of sf_write_refusal. */
+SF_USE_RESULT
+static inline sf_status sf_show_refusal(const sf_refusal *refusal, sf_text text, sf_buffer *out) {
+  size_t required = 0;
+  uint32_t status =
+      sf_refusal_in_text(refusal, text.at, text.length, out->at, out->capacity, &required);
+  return sf_wrote(out, status, required);
+}
+
+/* The size in bytes of a buffer that is large enough for each message of sf_show_excerpt with this
+ * number of bytes of the text at most. */
+#define SF_REFUSAL_EXCERPT_SIZE(most) (SF_REFUSAL_SIZE + 3 + sizeof(char[2]) * (most))
+
+/*
+ * Writes the error message of a refusal of this text, a second line with at most so many bytes of
+ * the text around the offset, and a caret below the offset, without a newline at the end. So the
+ * message has a bound, whatever the length of the text. Bytes are written as by sf_refusal_in_text.
+ * The results are those of sf_write_refusal.
+ */
+SF_USE_RESULT
+static inline sf_status sf_show_excerpt(const sf_refusal *refusal, sf_text text, size_t most,
+                                       sf_buffer *out) {
+  size_t at = refusal->offset < text.length ? (size_t)refusal->offset : text.length;
+  size_t from = at > most / 2 ? at - most / 2 : 0, length, message = 0, required, i;
+  uint32_t status;
+  char *to;
+  if (text.length - from < most)
+    from = text.length > most ? text.length - most : 0;
+  length = text.length - from < most ? text.length - from : most;
+  status = sf_refusal_text(refusal, NULL, 0, &message);
+  if (status != SF_SHORT)
+    return sf_wrote(out, status, 0);
+  required = message + length + (at - from) + 3;
+  if (required > out->capacity)
+    return sf_wrote(out, SF_SHORT, required);
+  status = sf_refusal_text(refusal, out->at, out->capacity, &message);
+  if (status != SF_OK)
+    return sf_wrote(out, status, 0);
+  to = out->at + message;
+  *to++ = '\n';
+  for (i = 0; i < length; ++i) {
+    char byte = text.at[from + i];
+    *to++ = byte >= ' ' && byte <= '~' ? byte : '?';
+  }
+  *to++ = '\n';
+  memset(to, ' ', at - from);
+  to[at - from] = '^';
+  return sf_wrote(out, SF_OK, required);
+}
+
+/*
+ * Writes the canonical text (RFC 9651 section 4.1) of the value of a text, by sf_normalise. A
+ * buffer of SF_CANONICAL_SIZE(text.length) bytes is always large enough. A tab at the beginning, or
+ * after an Item, is refused: see sf_trim.
+ *
+ *   char text[SF_CANONICAL_SIZE(10)];
+ *   sf_buffer out = SF_BUFFER(text);
+ *   if (sf_write_canonical(&context, SF_DICT, sf_cstr("u=1,  i=?1"), &out) == SF_OK)
+ *     printf("%.*s\n", (int)out.length, out.at); // u=1, i
+ *
+ *   SF_OK         the first out->length bytes of out are the canonical text
+ *   SF_SHORT      it has out->required bytes, more than the capacity
+ *   SF_REFUSED    the text is malformed; context->refusal says where and why
+ *   SF_NO_MEMORY, SF_BAD_CALL
+ */
+SF_USE_RESULT
+static inline sf_status sf_write_canonical(sf_context *context, sf_kind kind, sf_text text,
+                                          sf_buffer *out) {
+  size_t required = 0;
+  uint32_t status = sf_normalise(&context->seed, context->dialect, (uint32_t)kind, text.at,
+                                 text.length, out->at, out->capacity, &required, &context->refusal);
+  return sf_wrote(out, status, required);
+}
+
+/*
+ * Compares the values of two texts of a kind (RFC 9651 sections 3 and 4.2), by sf_equal. A tab at
+ * the beginning, or after an Item, is refused: see sf_trim.
+ *
+ *   uint32_t are_equal;
+ *   if (sf_equal_texts(&context, SF_DICT, sf_cstr("u=1,i"), sf_cstr("u=1, i=?1"), &are_equal) ==
+ *       SF_OK)
+ *     printf("%s\n", are_equal ? "equal" : "not equal"); // equal
+ *
+ *   SF_OK              *are_equal is 1 if the values are equal, otherwise 0
+ *   SF_REFUSED         the first text is malformed; context->refusal says where and why
+ *   SF_SECOND_REFUSED  the first is well-formed and the second malformed, likewise
+ *   SF_NO_MEMORY, SF_BAD_CALL
+ *
+ * Unless SF_OK is returned, *are_equal is 0.
+ */
+SF_USE_RESULT
+static inline sf_status sf_equal_texts(sf_context *context, sf_kind kind, sf_text first,
+                                      sf_text second, uint32_t *are_equal) {
+  uint32_t equal = 0;
+  uint32_t status = sf_equal(&context->seed, context->dialect, (uint32_t)kind, first.at,
+                             first.length, second.at, second.length, &equal, &context->refusal);
+  *are_equal = equal;
+  return (sf_status)status;
+}
+
+/* A parsed value: its nodes, and the text and the bytes to which they point. The text is not
+ * copied: it must be valid as long as the tree is used. */
+typedef struct sf_tree {
+  sf_text text;    /* that sf_read_tree parsed */
+  sf_nodes nodes;  /* the first nodes.length are the value, in the order of sf_node */
+  sf_buffer bytes; /* what is escaped or encoded in the text, decoded */
+  uint32_t kind;   /* the sf_kind */
+} sf_tree;
+
+/* Returns an empty tree with these buffers, which must be valid as long as the tree is used. */
+static inline sf_tree sf_tree_in(sf_nodes nodes, sf_buffer bytes) {
+  sf_tree tree;
+  tree.text = sf_text_of(NULL, 0);
+  tree.nodes = nodes;
+  tree.nodes.length = 0;
+  tree.bytes = bytes;
+  tree.bytes.length = 0;
+  tree.kind = 0;
+  return tree;
+}
+
+/*
+ * Parses a text (RFC 9651 section 4.2) into a tree, by sf_parse:
+ *
+ *   sf_node nodes[16];
+ *   char bytes[64];
+ *   sf_tree tree = sf_tree_in(SF_NODES(nodes), SF_BUFFER(bytes));
+ *   if (sf_read_tree(&context, SF_DICT, sf_cstr("a=1, sig=:YQ==:;created=7, b"), &tree) != SF_OK)
+ *     return EXIT_FAILURE;
+ *   const sf_node *sig = sf_find_member(&tree, "sig");
+ *   const sf_node *created = sig == NULL ? NULL : sf_find_parameter(&tree, sig, "created");
+ *   if (created != NULL && created->type == SF_INTEGER)
+ *     printf("%d\n", (int)created->number); // 7
+ *
+ * A tab at the beginning, or after an Item, is refused: see sf_trim.
+ *
+ *   SF_OK         the tree is the value
+ *   SF_TOO_MANY   the value has tree->nodes.required nodes, more than there is capacity for
+ *   SF_SHORT      it may require tree->bytes.required bytes, more than there is capacity for
+ *   SF_REFUSED    the text is malformed; context->refusal says where and why
+ *   SF_TOO_LONG   the text, or what has to be decoded, has 4 GiB or more
+ *   SF_NO_MEMORY, SF_BAD_CALL
+ *
+ * Unless SF_OK is returned, the tree is empty. Buffers of SF_NODES_SIZE(text.length) nodes and
+ * SF_BYTES_SIZE(text.length) bytes are always large enough.
+ */
+SF_USE_RESULT
+static inline sf_status sf_read_tree(sf_context *context, sf_kind kind, sf_text text,
+                                    sf_tree *tree) {
+  sf_sizes sizes = {0, 0};
+  uint32_t status = sf_parse(&context->seed, context->dialect, (uint32_t)kind, text.at,
+                             text.length, tree->nodes.at, tree->nodes.capacity, tree->bytes.at,
+                             tree->bytes.capacity, &sizes, &context->refusal);
+  int is_read = status == SF_OK;
+  tree->text = is_read ? text : sf_text_of(NULL, 0);
+  tree->kind = is_read ? (uint32_t)kind : 0;
+  tree->nodes.length = is_read ? sizes.nodes : 0;
+  tree->nodes.required = is_read ? 0 : sizes.nodes;
+  tree->bytes.length = is_read ? sizes.bytes : 0;
+  tree->bytes.required = is_read ? 0 : sizes.bytes;
+  return (sf_status)status;
+}
+
+/* Returns the end of the nodes of a tree. This loop visits each member of the field:
+ *
+ *   for (const sf_node *node = tree.nodes.at; node < sf_tree_end(&tree); node += node->size)
+ */
+static inline const sf_node *sf_tree_end(const sf_tree *tree) {
+  return tree->nodes.length == 0 ? tree->nodes.at : tree->nodes.at + tree->nodes.length;
+}
+
+/* Returns the text at an offset of a node: for the functions below. */
+static inline sf_text sf_text_at(const sf_tree *tree, uint32_t at, uint32_t length) {
+  if (length == 0)
+    return sf_text_of("", 0);
+  return sf_text_of(at < tree->text.length ? tree->text.at + at
+                                           : tree->bytes.at + (at - tree->text.length),
+                    length);
+}
+
+/* Returns the key of a node of a tree; the empty text if it has none. */
+static inline sf_text sf_node_key(const sf_tree *tree, const sf_node *node) {
+  return sf_text_at(tree, node->key_at, node->key_length);
+}
+
+/* Returns the bytes of a String, Token, Byte Sequence or Display String of a tree, without quotes
+ * and decoded; the empty text for other types. */
+static inline sf_text sf_node_text(const sf_tree *tree, const sf_node *node) {
+  return sf_text_at(tree, node->text_at, node->text_length);
+}
+
+/* Returns the first of so many nodes from an index on that has this role and this key, or NULL: for
+ * the functions below. */
+static inline sf_node *sf_find_node(const sf_tree *tree, size_t from, size_t length, sf_role role,
+                                    sf_text key) {
+  size_t index = 0;
+  if (length == 0 || sf_find(tree->nodes.at + from, length, tree->text.at, tree->text.length,
+                             tree->bytes.at, tree->bytes.length, (uint32_t)role, key.at, key.length,
+                             &index) != SF_OK)
+    return NULL;
+  return tree->nodes.at + from + index;
+}
+
+/* Returns the member of a Dictionary that has this key (RFC 9651 section 3.2), or NULL. The key
+ * ends with a NUL; sf_find takes one of a stated length. */
+static inline sf_node *sf_find_member(const sf_tree *tree, const char *key) {
+  return sf_find_node(tree, 0, tree->nodes.length, SF_MEMBER, sf_cstr(key));
+}
+
+/* Returns the parameter of an Item or an Inner List that has this key (RFC 9651 section 3.1.2), or
+ * NULL. The node is one of the tree; the key ends with a NUL. */
+static inline sf_node *sf_find_parameter(const sf_tree *tree, const sf_node *node,
+                                         const char *key) {
+  return sf_find_node(tree, (size_t)(node - tree->nodes.at), node->size,
+                      node->type == SF_INNER_LIST ? SF_INNER_PARAMETER : SF_PARAMETER,
+                      sf_cstr(key));
+}
+
+/*
+ * Changes the bare item of a node of a tree to an Integer, Decimal, Boolean or Date with this
+ * number. The key and the parameters of the node stay. This code changes a parameter of a member,
+ * before sf_write_tree writes the field:
+ *
+ *   sf_node *created = sf_find_parameter(&tree, member, "created");
+ *   if (created != NULL)
+ *     sf_set_number(created, SF_INTEGER, 1);
+ *
+ * sf_write_tree checks the type and the number. Returns nothing.
+ */
+static inline void sf_set_number(sf_node *node, sf_type type, int64_t number) {
+  node->number = number;
+  node->text_length = 0;
+  node->type = (uint8_t)type;
+  node->coded = 0;
+}
+
+/*
+ * Likewise changes the bare item of a node of a tree to a String, Token, Byte Sequence or Display
+ * String with this value. It is copied after the bytes of the tree.
+ *
+ *   SF_OK        the node is changed
+ *   SF_SHORT     tree->bytes.required bytes are required
+ *   SF_TOO_LONG  the offset or the length of the value would be 4 GiB or more
+ *
+ * Unless SF_OK is returned, the value of the tree is unchanged.
+ */
+SF_USE_RESULT
+static inline sf_status sf_set_text(sf_tree *tree, sf_node *node, sf_type type, sf_text value) {
+  size_t at = tree->bytes.length;
+  tree->bytes.required = 0;
+  if (at > tree->bytes.capacity || value.length > tree->bytes.capacity - at) {
+    tree->bytes.required = at + value.length;
+    return SF_SHORT;
+  }
+  if (tree->text.length > UINT32_MAX || at > UINT32_MAX - tree->text.length ||
+      value.length > UINT32_MAX)
+    return SF_TOO_LONG;
+  if (value.length > 0)
+    memcpy(tree->bytes.at + at, value.at, value.length);
+  node->number = 0;
+  node->text_at = (uint32_t)(tree->text.length + at);
+  node->text_length = (uint32_t)value.length;
+  node->type = (uint8_t)type;
+  node->coded = 0;
+  tree->bytes.length = at + value.length;
+  return SF_OK;
+}
+
+/*
+ * Writes the canonical text (RFC 9651 section 4.1) of a tree, changed or not, by sf_write. A buffer
+ * of SF_WRITTEN_SIZE(tree->nodes.length, tree->text.length + tree->bytes.length) bytes is large
+ * enough for a tree whose nodes share no bytes, as those of sf_read_tree do not.
+ *
+ *   SF_OK        the first out->length bytes of out are the text
+ *   SF_SHORT     it has out->required bytes, more than the capacity
+ *   SF_INVALID   the nodes do not describe a valid field; context->invalid is the index of the
+ *                first node that is wrong
+ *   SF_BAD_CALL  no text was read into the tree
+ *   SF_NO_MEMORY
+ */
+SF_USE_RESULT
+static inline sf_status sf_write_tree(sf_context *context, const sf_tree *tree, sf_buffer *out) {
+  size_t required = 0;
+  uint32_t status =
+      sf_write(&context->seed, context->dialect, tree->kind, tree->nodes.at, tree->nodes.length,
+               tree->text.at, tree->text.length, tree->bytes.at, tree->bytes.length, out->at,
+               out->capacity, &required, &context->invalid);
+  return sf_wrote(out, status, required);
+}
+
+/*
+ * A builder makes the nodes of a field in two of the caller's buffers, and keeps their sizes and
+ * offsets. These calls build a Dictionary and write its text:
+ *
+ *   sf_node nodes[8];
+ *   char bytes[64], text[64];
+ *   sf_buffer out = SF_BUFFER(text);
+ *   sf_builder field = sf_build(SF_NODES(nodes), SF_BUFFER(bytes));
+ *   sf_begin_inner_list(&field, "sig1");
+ *   sf_put_string(&field, NULL, "@method");
+ *   sf_put_string(&field, NULL, "@path");
+ *   sf_end_inner_list(&field);
+ *   sf_param_integer(&field, "created", 1);
+ *   sf_param_string(&field, "keyid", "k");
+ *   if (sf_write_built(&context, SF_DICT, &field, &out) == SF_OK)
+ *     printf("%.*s\n", (int)out.length, text); // sig1=("@method" "@path");created=1;keyid="k"
+ *
+ * A node is required for each Item, each Inner List and each parameter, and as many bytes as all
+ * keys and texts have. These are copied, so a builder keeps no pointer to its arguments.
+ *
+ * The calls that change a builder return nothing. If one fails, it puts nothing, builder->status
+ * says why, and later calls do nothing:
+ *
+ *   SF_SHORT     one of the two buffers is too small
+ *   SF_BAD_CALL  a parameter with nothing before it that it could belong to, an Inner List in
+ *                another, or an end without a beginning
+ *   SF_TOO_LONG  the keys and bytes have 4 GiB or more
+ *
+ * Builders do not check what is put: sf_write_built does. It refuses bytes that are not a String, a
+ * number out of range, a repeated key, or the nodes of a List if a Dictionary is to be written.
+ * Only sf_write_built allocates, by sf_write.
+ */
+typedef struct sf_builder {
+  sf_nodes nodes;      /* the first nodes.length are the nodes of what was put */
+  sf_buffer bytes;     /* the first bytes.length are their keys and bytes */
+  size_t last;         /* index of the Item or Inner List to which parameters are put */
+  size_t inner_list;   /* index of the Inner List that was begun last */
+  uint32_t is_open;    /* 1 if it has not been ended, otherwise 0 */
+  uint32_t status;     /* SF_OK, or the status of the first call that failed */
+} sf_builder;
+
+/* Returns an empty builder with these buffers, which must be valid as long as the builder is used.
+ * A builder need not be freed. */
+static inline sf_builder sf_build(sf_nodes nodes, sf_buffer bytes) {
+  sf_builder builder;
+  builder.nodes = nodes;
+  builder.nodes.length = 0;
+  builder.bytes = bytes;
+  builder.bytes.length = 0;
+  builder.last = 0;
+  builder.inner_list = 0;
+  builder.is_open = 0;
+  builder.status = SF_OK;
+  return builder;
+}
+
+/* Puts one node: for the functions below. */
+static inline void sf_put_node(sf_builder *builder, sf_role role, sf_type type, int64_t number,
+                               sf_text key, sf_text text) {
+  size_t at = builder->bytes.length, left = builder->bytes.capacity - at;
+  sf_node *node;
+  if (builder->status != SF_OK)
+    return;
+  if (builder->nodes.length >= builder->nodes.capacity || key.length > left ||
+      text.length > left - key.length) {
+    builder->status = SF_SHORT;
+    return;
+  }
+  if (builder->nodes.length >= UINT32_MAX || at + key.length + text.length > UINT32_MAX) {
+    builder->status = SF_TOO_LONG;
+    return;
+  }
+  node = builder->nodes.at + builder->nodes.length;
+  memset(node, 0, sizeof *node);
+  node->number = number;
+  node->key_at = (uint32_t)at;
+  node->key_length = (uint32_t)key.length;
+  node->text_at = (uint32_t)(at + key.length);
+  node->text_length = (uint32_t)text.length;
+  node->size = 1;
+  node->type = (uint8_t)type;
+  node->role = (uint8_t)role;
+  if (key.length > 0)
+    memcpy(builder->bytes.at + at, key.at, key.length);
+  if (text.length > 0)
+    memcpy(builder->bytes.at + at + key.length, text.at, text.length);
+  if (role == SF_PARAMETER || role == SF_INNER_PARAMETER)
+    ++builder->nodes.at[builder->last].size;
+  else
+    builder->last = builder->nodes.length;
+  if (builder->is_open)
+    ++builder->nodes.at[builder->inner_list].size;
+  ++builder->nodes.length;
+  builder->bytes.length = at + key.length + text.length;
+}
+
+/*
+ * Puts a bare item of any type, with a key and a text of stated lengths. The functions below call
+ * it. An Integer, Decimal, Boolean or Date has a number and an empty text; the other types have a
+ * text and the number 0. SF_INNER_LIST puts an Inner List without Items; sf_begin begins one with
+ * Items. If type is no sf_type, sf_write_built refuses the node.
+ *
+ * If an Inner List is open, the item is one of its Items; otherwise it is a member of the field.
+ * The key is that of a member of a Dictionary; for an Item, a member of a List, and an Item of an
+ * Inner List, it is empty.
+ */
+static inline void sf_put(sf_builder *builder, sf_text key, sf_type type, int64_t number,
+                          sf_text text) {
+  sf_put_node(builder, builder->is_open ? SF_INNER_ITEM : SF_MEMBER, type, number, key, text);
+}
+
+/* Puts a parameter, likewise. It belongs to the Item that was put last or, if an Inner List was
+ * ended since, to that Inner List. */
+static inline void sf_param(sf_builder *builder, sf_text key, sf_type type, int64_t number,
+                            sf_text text) {
+  sf_role role = SF_PARAMETER;
+  if (builder->status != SF_OK)
+    return;
+  if (builder->nodes.length == 0 || (builder->is_open && builder->last == builder->inner_list)) {
+    builder->status = SF_BAD_CALL;
+    return;
+  }
+  if (builder->nodes.at[builder->last].type == SF_INNER_LIST)
+    role = SF_INNER_PARAMETER;
+  sf_put_node(builder, role, type, number, key, text);
+}
+
+/*
+ * Begins an Inner List, which is a member of the field. What is put until sf_end_inner_list are its
+ * Items and their parameters; the parameters that are put after the end, and before the next Item
+ * or Inner List, are its own. The key has a stated length, which is 0 in a List.
+ */
+static inline void sf_begin(sf_builder *builder, sf_text key) {
+  if (builder->status != SF_OK)
+    return;
+  if (builder->is_open) {
+    builder->status = SF_BAD_CALL;
+    return;
+  }
+  sf_put(builder, key, SF_INNER_LIST, 0, sf_cstr(NULL));
+  builder->inner_list = builder->last;
+  builder->is_open = builder->status == SF_OK;
+}
+
+/*
+ * Begins an Inner List, likewise.
+ *
+ * Here and below, keys and texts end with a NUL, and key is NULL except for members of a Dictionary
+ * and for parameters.
+ */
+static inline void sf_begin_inner_list(sf_builder *builder, const char *key) {
+  sf_begin(builder, sf_cstr(key));
+}
+
+/* Ends the Inner List that is open. */
+static inline void sf_end_inner_list(sf_builder *builder) {
+  if (builder->status != SF_OK)
+    return;
+  if (!builder->is_open)
+    builder->status = SF_BAD_CALL;
+  builder->last = builder->inner_list;
+  builder->is_open = 0;
+}
+
+/* Puts an Integer. */
+static inline void sf_put_integer(sf_builder *builder, const char *key, int64_t number) {
+  sf_put(builder, sf_cstr(key), SF_INTEGER, number, sf_cstr(NULL));
+}
+
+/* Puts a Decimal, in thousandths. */
+static inline void sf_put_decimal(sf_builder *builder, const char *key, int64_t thousandths) {
+  sf_put(builder, sf_cstr(key), SF_DECIMAL, thousandths, sf_cstr(NULL));
+}
+
+/* Puts a String. */
+static inline void sf_put_string(sf_builder *builder, const char *key, const char *text) {
+  sf_put(builder, sf_cstr(key), SF_STRING, 0, sf_cstr(text));
+}
+
+/* Puts a Token. */
+static inline void sf_put_token(sf_builder *builder, const char *key, const char *text) {
+  sf_put(builder, sf_cstr(key), SF_TOKEN, 0, sf_cstr(text));
+}
+
+/* Puts a Byte Sequence, which may have any bytes. */
+static inline void sf_put_byte_sequence(sf_builder *builder, const char *key, sf_text bytes) {
+  sf_put(builder, sf_cstr(key), SF_BYTE_SEQUENCE, 0, bytes);
+}
+
+/* Puts a Boolean: true if is_true is not 0. */
+static inline void sf_put_boolean(sf_builder *builder, const char *key, int is_true) {
+  sf_put(builder, sf_cstr(key), SF_BOOLEAN, is_true != 0, sf_cstr(NULL));
+}
+
+/* Puts a Date, in seconds since 1970-01-01T00:00:00Z. */
+static inline void sf_put_date(sf_builder *builder, const char *key, int64_t seconds) {
+  sf_put(builder, sf_cstr(key), SF_DATE, seconds, sf_cstr(NULL));
+}
+
+/* Puts a Display String, in UTF-8. For one with a NUL in it, call sf_put. */
+static inline void sf_put_display_string(sf_builder *builder, const char *key, const char *text) {
+  sf_put(builder, sf_cstr(key), SF_DISPLAY_STRING, 0, sf_cstr(text));
+}
+
+/* These put a parameter, likewise. */
+static inline void sf_param_integer(sf_builder *builder, const char *key, int64_t number) {
+  sf_param(builder, sf_cstr(key), SF_INTEGER, number, sf_cstr(NULL));
+}
+
+static inline void sf_param_decimal(sf_builder *builder, const char *key, int64_t thousandths) {
+  sf_param(builder, sf_cstr(key), SF_DECIMAL, thousandths, sf_cstr(NULL));
+}
+
+static inline void sf_param_string(sf_builder *builder, const char *key, const char *text) {
+  sf_param(builder, sf_cstr(key), SF_STRING, 0, sf_cstr(text));
+}
+
+static inline void sf_param_token(sf_builder *builder, const char *key, const char *text) {
+  sf_param(builder, sf_cstr(key), SF_TOKEN, 0, sf_cstr(text));
+}
+
+static inline void sf_param_byte_sequence(sf_builder *builder, const char *key, sf_text bytes) {
+  sf_param(builder, sf_cstr(key), SF_BYTE_SEQUENCE, 0, bytes);
+}
+
+static inline void sf_param_boolean(sf_builder *builder, const char *key, int is_true) {
+  sf_param(builder, sf_cstr(key), SF_BOOLEAN, is_true != 0, sf_cstr(NULL));
+}
+
+static inline void sf_param_date(sf_builder *builder, const char *key, int64_t seconds) {
+  sf_param(builder, sf_cstr(key), SF_DATE, seconds, sf_cstr(NULL));
+}
+
+static inline void sf_param_display_string(sf_builder *builder, const char *key,
+                                           const char *text) {
+  sf_param(builder, sf_cstr(key), SF_DISPLAY_STRING, 0, sf_cstr(text));
+}
+
+/*
+ * Puts a copy of an Item or Inner List of a tree, with its parameters, or of a parameter. To change
+ * a field, copy what stays, in order:
+ *
+ *   for (const sf_node *node = tree.nodes.at; node < sf_tree_end(&tree); node += node->size)
+ *     sf_put_copy(&field, &tree, node);
+ *
+ * An Item becomes a member, or an Item of the Inner List that is open, wherever it was. A member
+ * keeps its key, and an Item of an Inner List has none. For copies of a whole value, a builder with
+ * SF_NODES_SIZE(text.length) nodes and SF_BYTES_SIZE(text.length) bytes is always large enough.
+ */
+static inline void sf_put_copy(sf_builder *builder, const sf_tree *tree, const sf_node *node) {
+  uint32_t was_open = builder->is_open, i;
+  for (i = 0; i < node->size && builder->status == SF_OK; ++i) {
+    const sf_node *one = node + i;
+    sf_text key = sf_node_key(tree, one), text = sf_node_text(tree, one);
+    sf_type type = (sf_type)one->type;
+    int is_param = one->role == SF_PARAMETER || one->role == SF_INNER_PARAMETER;
+    if (was_open && !is_param)
+      key = sf_cstr(NULL);
+    if (one->role == SF_INNER_PARAMETER && builder->is_open && !was_open)
+      sf_end_inner_list(builder);
+    if (is_param)
+      sf_param(builder, key, type, one->number, text);
+    else if (type == SF_INNER_LIST)
+      sf_begin(builder, key);
+    else
+      sf_put(builder, key, type, one->number, text);
+    if (builder->status == SF_OK)
+      builder->nodes.at[builder->nodes.length - 1].coded = one->coded;
+  }
+  if (builder->is_open && !was_open)
+    sf_end_inner_list(builder);
+}
+
+/*
+ * Writes the canonical text (RFC 9651 section 4.1) of what was put, by sf_write. A buffer of
+ * SF_WRITTEN_SIZE(builder->nodes.length, builder->bytes.length) bytes is always large enough.
+ *
+ *   SF_OK        the first out->length bytes of out are the text. If it is empty, the field is not
+ *                to be sent
+ *   SF_SHORT     it has out->required bytes, more than the capacity
+ *   SF_INVALID   the nodes do not describe a valid field of this kind; context->invalid is the
+ *                index of the first node that is wrong
+ *   SF_BAD_CALL  a call with the builder failed: builder->status says why
+ *   SF_NO_MEMORY
+ */
+SF_USE_RESULT
+static inline sf_status sf_write_built(sf_context *context, sf_kind kind,
+                                      const sf_builder *builder, sf_buffer *out) {
+  size_t required = 0;
+  uint32_t status = SF_BAD_CALL;
+  if (builder->status == SF_OK)
+    status = sf_write(&context->seed, context->dialect, (uint32_t)kind, builder->nodes.at,
+                      builder->nodes.length, NULL, 0, builder->bytes.at, builder->bytes.length,
+                      out->at, out->capacity, &required, &context->invalid);
+  return sf_wrote(out, status, required);
+}
+
+/*
+ * Reads the Priority field of a request (RFC 9218 section 5), by sf_priority_in. `u=5, i` sets
+ * urgency 5 and incremental. A tab at the beginning is refused: see sf_trim.
+ *
+ *   SF_OK         *client is written
+ *   SF_REFUSED    the text is not a well-formed Dictionary; context->refusal says where and why.
+ *                 Treat the field as absent
+ *   SF_NO_MEMORY, SF_BAD_CALL
+ *
+ * Unless SF_OK is returned, *client is unchanged: begin with SF_PRIORITY_UNSET.
+ */
+SF_USE_RESULT
+static inline sf_status sf_read_priority(sf_context *context, sf_text text,
+                                        sf_priority_flags *client) {
+  uint32_t status = sf_priority_in(&context->seed, context->dialect, text.at, text.length, client,
+                                   &context->refusal);
+  return (sf_status)status;
+}
+
+/* Reads the Priority field of a response (RFC 9218 section 8), by sf_response_priority. The results
+ * are those of sf_read_priority, with *server in the place of *client: begin with zeros. A tab at
+ * the beginning is refused: see sf_trim. */
+SF_USE_RESULT
+static inline sf_status sf_read_response_priority(sf_context *context, sf_text text,
+                                                 sf_response_priority_flags *server) {
+  uint32_t status = sf_response_priority(&context->seed, context->dialect, text.at, text.length,
+                                         server, &context->refusal);
+  return (sf_status)status;
+}
+
+/* Merges what the client asks for and what the server sets (RFC 9218 section 8), by
+ * sf_priority_merge. Swapped arguments do not compile. */
+static inline sf_priority_flags sf_merge_priority(sf_priority_flags client,
+                                                  sf_response_priority_flags server) {
+  return sf_priority_merge(&client, &server);
+}
+
+/*
+ * Writes the text of the Priority field of a request (RFC 9218 section 5), by sf_priority_text. A
+ * buffer of SF_PRIORITY_SIZE bytes is always large enough.
+ *
+ *   SF_OK       the first out->length bytes of out are the text. If it is empty, the field is not
+ *               to be sent
+ *   SF_SHORT    it has out->required bytes, more than the capacity
+ *   SF_INVALID  urgency is above SF_URGENCY_LAST, or a parameter is set whose has_ flag is 0
+ */
+SF_USE_RESULT
+static inline sf_status sf_write_priority(sf_priority_flags client, sf_buffer *out) {
+  size_t required = 0;
+  uint32_t status = sf_priority_text(&client, out->at, out->capacity, &required);
+  return sf_wrote(out, status, required);
+}
+
+/* Writes the text of the Priority field of a response (RFC 9218 section 8), likewise, by
+ * sf_response_priority_text. */
+SF_USE_RESULT
+static inline sf_status sf_write_response_priority(sf_response_priority_flags server,
+                                                  sf_buffer *out) {
+  size_t required = 0;
+  uint32_t status = sf_response_priority_text(&server, out->at, out->capacity, &required);
+  return sf_wrote(out, status, required);
+}
+
+/*
+ * Writes the Priority field of a request with what *client sets, and keeps its other members (RFC
+ * 9218 section 4), by sf_priority_change, so in the dialect SF_RFC9651. A buffer of
+ * SF_PRIORITY_CHANGE_SIZE(text.length) bytes is always large enough. A tab at the beginning is
+ * refused: see sf_trim.
+ *
+ *   SF_REFUSED  the text is not a well-formed Dictionary; context->refusal says where and why
+ *   SF_NO_MEMORY
+ *
+ * The other results are those of sf_write_priority.
+ */
+SF_USE_RESULT
+static inline sf_status sf_change_priority(sf_context *context, sf_text text,
+                                          sf_priority_flags client, sf_buffer *out) {
+  size_t required = 0;
+  uint32_t status = sf_priority_change(&context->seed, text.at, text.length, &client, out->at,
+                                       out->capacity, &required, &context->refusal);
+  return sf_wrote(out, status, required);
+}
+
+/*
+ * Reads one targeted field (RFC 9213 section 2.1), such as CDN-Cache-Control, for sf_decide, by
+ * sf_cache_rules. A tab at the beginning is refused: see sf_trim.
+ *
+ *   SF_OK         *rules is written
+ *   SF_EMPTY      the Dictionary has no members: ignore the field
+ *   SF_REFUSED    the text is not a well-formed Dictionary: ignore the field; context->refusal says
+ *                 where and why
+ *   SF_NO_MEMORY, SF_BAD_CALL
+ *
+ * Unless SF_OK is returned, *rules is unchanged.
+ */
+SF_USE_RESULT
+static inline sf_status sf_read_rules(sf_context *context, sf_text text, sf_rules *rules) {
+  uint32_t status = sf_cache_rules(&context->seed, context->dialect, text.at, text.length, rules,
+                                   &context->refusal);
+  return (sf_status)status;
+}
+
+/* The field of a target list that a cache obeys, and its directives. */
+typedef struct sf_choice {
+  size_t index;   /* of the field, from 0 */
+  sf_rules rules; /* for sf_decide */
+} sf_choice;
+
+/*
+ * Chooses the field that a cache obeys: the first of its target list that is well-formed and not
+ * empty (RFC 9213 section 2.2). The fields are in the order of the list; one that the response does
+ * not have is an empty text. It is sf_select_rules for texts that may be in different buffers. A
+ * tab at the beginning is refused: see sf_trim.
+ *
+ *   sf_text fields[] = {sf_cstr("max-age=60,"), sf_cstr("max-age=600")};
+ *   sf_response response = {0, 0, 0, 0};
+ *   sf_choice choice;
+ *   sf_decision decision;
+ *   if (sf_choose_rules(&context, fields, 2, &choice) == SF_OK &&
+ *       sf_decide(&choice.rules, SF_SHARED_CACHE, &response, &decision) == SF_OK)
+ *     printf("%s for %d s\n", sf_reuse_name(decision.reuse), (int)decision.seconds);
+ *     // fresh for 600 s
+ *
+ *   SF_OK         fields[choice->index] is the field; those before it are ignored
+ *   SF_EMPTY      every field is ignored: Cache-Control and Expires decide
+ *   SF_NO_MEMORY, SF_BAD_CALL
+ *
+ * Unless SF_OK is returned, *choice is unchanged. context->refusal is that of the last field that
+ * is malformed.
+ */
+SF_USE_RESULT
+static inline sf_status sf_choose_rules(sf_context *context, const sf_text *fields,
+                                       size_t fields_length, sf_choice *choice) {
+  size_t i;
+  if (context->dialect != SF_RFC9651 && context->dialect != SF_RFC8941)
+    return SF_BAD_CALL;
+  for (i = 0; i < fields_length; ++i) {
+    uint32_t status = sf_read_rules(context, fields[i], &choice->rules);
+    if (status == SF_OK)
+      choice->index = i;
+    if (status != SF_EMPTY && status != SF_REFUSED)
+      return (sf_status)status;
+  }
+  return SF_EMPTY;
+}
+
+/* The caches on the path of a response, and what each did. */
+typedef struct sf_hop_list {
+  sf_hops hops;         /* the first hops.length are the path, the cache nearest the origin first */
+  sf_buffer bytes;      /* their names, fwd tokens, keys and details: see sf_hop_part */
+  const sf_hop *served; /* the hop that served the response: the last one whose outcome is SF_HIT;
+                           NULL if there is none */
+  size_t nameless;      /* after SF_NOT_A_CACHE, the index of the first member that is no cache */
+} sf_hop_list;
+
+/* Returns an empty list with these buffers, which must be valid as long as the list is used. */
+static inline sf_hop_list sf_hop_list_in(sf_hops hops, sf_buffer bytes) {
+  sf_hop_list list;
+  list.hops = hops;
+  list.hops.length = 0;
+  list.bytes = bytes;
+  list.bytes.length = 0;
+  list.served = NULL;
+  list.nameless = 0;
+  return list;
+}
+
+/*
+ * Reads the Cache-Status field of a response (RFC 9211 section 2), by sf_cache_status_in:
+ *
+ *   sf_hop hops[8];
+ *   char bytes[256];
+ *   sf_hop_list list = sf_hop_list_in(SF_HOPS(hops), SF_BUFFER(bytes));
+ *   if (sf_read_hops(&context, sf_cstr("origin; fwd=stale, \"edge\"; hit"), &list) != SF_OK)
+ *     return EXIT_FAILURE;
+ *   sf_text name = list.served == NULL ? sf_cstr("nobody") : sf_hop_part(&list, list.served->name);
+ *   printf("%.*s\n", (int)name.length, name.at); // edge
+ *
+ * A tab at the beginning is refused: see sf_trim.
+ *
+ *   SF_OK           the list is the path
+ *   SF_SHORT        it requires list->hops.required hops and list->bytes.required bytes, and one of
+ *                   the two buffers is smaller
+ *   SF_NOT_A_CACHE  member list->nameless is the first that is not an Item of a String or a Token
+ *   SF_REFUSED      the text is not a well-formed List; context->refusal says where and why
+ *   SF_NO_MEMORY, SF_BAD_CALL
+ *
+ * Unless SF_OK is returned, the list is empty. Buffers of SF_NODES_SIZE(text.length) hops and
+ * SF_BYTES_SIZE(text.length) bytes are always large enough.
+ */
+SF_USE_RESULT
+static inline sf_status sf_read_hops(sf_context *context, sf_text text, sf_hop_list *list) {
+  sf_path path = {0, 0, 0, 0, 0};
+  uint32_t status = sf_cache_status_in(&context->seed, context->dialect, text.at, text.length,
+                                       list->hops.at, list->hops.capacity, list->bytes.at,
+                                       list->bytes.capacity, &path, &context->refusal);
+  int is_read = status == SF_OK;
+  list->hops.length = is_read ? path.hops : 0;
+  list->hops.required = is_read ? 0 : path.hops;
+  list->bytes.length = is_read ? path.bytes : 0;
+  list->bytes.required = is_read ? 0 : path.bytes;
+  list->served = is_read && path.is_served ? list->hops.at + path.served : NULL;
+  list->nameless = status == SF_NOT_A_CACHE ? path.nameless : 0;
+  return (sf_status)status;
+}
+
+/* Returns a part of a hop of a list: its name, why_token, key or detail, such as sf_hop_part(&list,
+ * hop->name); the empty text if the part is absent. */
+static inline sf_text sf_hop_part(const sf_hop_list *list, sf_span part) {
+  return part.length == 0 ? sf_text_of("", 0)
+                          : sf_text_of(list->bytes.at + part.at, part.length);
+}
+
+/* A hop that is to be written, and the bytes that its ranges are in. */
+typedef struct sf_own_hop {
+  sf_hop hop;
+  sf_text bytes;
+} sf_own_hop;
+
+/*
+ * Returns a hop of a cache with this name, which ends with a NUL; it is a Token if type is
+ * SF_TOKEN, and otherwise a String. The hop says nothing yet. Set the members of its field hop that
+ * this cache reports; bytes are those of the name, which are not copied:
+ *
+ *   sf_own_hop own = sf_hop_named("ExampleCDN", SF_TOKEN);
+ *   own.hop.outcome = SF_HIT;
+ *   own.hop.ttl = 30;
+ *   own.hop.has_ttl = 1;
+ *
+ * For a key, a detail or a why_token, set bytes to a text that has the name and these, and the
+ * range of each in the hop.
+ */
+static inline sf_own_hop sf_hop_named(const char *name, sf_type type) {
+  sf_own_hop own;
+  memset(&own, 0, sizeof own);
+  own.bytes = sf_cstr(name);
+  own.hop.name.length = own.bytes.length;
+  own.hop.name_is_token = type == SF_TOKEN;
+  return own;
+}
+
+/*
+ * Writes the text of a Cache-Status field whose only member is this hop (RFC 9211 section 2), by
+ * sf_hop_text. A buffer of SF_HOP_SIZE(own->bytes.length) bytes is always large enough.
+ *
+ *   SF_OK       the first out->length bytes of out are the text
+ *   SF_SHORT    it has out->required bytes, more than the capacity
+ *   SF_INVALID  own->hop is not a hop
+ *   SF_NO_MEMORY
+ */
+SF_USE_RESULT
+static inline sf_status sf_write_hop(sf_context *context, const sf_own_hop *own, sf_buffer *out) {
+  size_t required = 0;
+  uint32_t status = sf_hop_text(&context->seed, &own->hop, own->bytes.at, own->bytes.length,
+                                out->at, out->capacity, &required);
+  return sf_wrote(out, status, required);
+}
+
+/*
+ * Writes the Cache-Status field that was received with this hop as its last member (RFC 9211
+ * section 2), by sf_cache_status_append. The text is that of the lines that were received, joined,
+ * or empty; what is written is sent in their place. A buffer of SF_APPENDED_SIZE(text.length,
+ * own->bytes.length) bytes is always large enough. With the hop of the comment of sf_hop_named,
+ * `origin; fwd=miss` becomes `origin;fwd=miss, ExampleCDN;hit;ttl=30`. A tab at the beginning is
+ * refused: see sf_trim.
+ *
+ *   SF_OK       the first out->length bytes of out are the text
+ *   SF_SHORT    it has out->required bytes, more than the capacity
+ *   SF_REFUSED  the text that was received is not a well-formed List; context->refusal says where
+ *               and why. Send the text of sf_write_hop in its place
+ *   SF_INVALID  own->hop is not a hop, or its outcome is SF_CONFLICT
+ *   SF_NO_MEMORY, SF_BAD_CALL
+ */
+SF_USE_RESULT
+static inline sf_status sf_append_hop(sf_context *context, sf_text text, const sf_own_hop *own,
+                                     sf_buffer *out) {
+  size_t required = 0;
+  uint32_t status = sf_cache_status_append(
+      &context->seed, context->dialect, text.at, text.length, &own->hop, own->bytes.at,
+      own->bytes.length, out->at, out->capacity, &required, &context->refusal);
+  return sf_wrote(out, status, required);
+}
 
 #ifdef __cplusplus
 }

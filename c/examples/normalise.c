@@ -21,29 +21,31 @@ static int fill(sf_seed *seed) {
   return got == sizeof seed->bytes;
 }
 
-/* Joins a line to the text, which grows as it must. */
-static int add(char **text, size_t *capacity, sf_joined *joined, const char *line, size_t length) {
-  uint32_t status = sf_join(line, length, *text, *capacity, joined);
+/* Joins a line to those before, in a buffer that grows as it must. */
+static int add(sf_lines *lines, sf_text line) {
+  uint32_t status = sf_add_line(lines, line);
   if (status != SF_SHORT)
     return status == SF_OK;
-  char *longer = realloc(*text, joined->required);
+  char *longer = realloc(lines->buffer.at, lines->buffer.required);
   if (longer == NULL)
     return 0;
-  *text = longer;
-  *capacity = joined->required;
-  return sf_join(line, length, *text, *capacity, joined) == SF_OK;
+  lines->buffer.at = longer;
+  lines->buffer.capacity = lines->buffer.required;
+  return sf_add_line(lines, line) == SF_OK;
 }
 
-static int kind_of(const char *word, uint32_t *kind) {
+static int kind_of(const char *word, sf_kind *kind) {
   static const char *const words[] = {"item", "list", "dict"};
-  for (*kind = SF_ITEM; *kind <= SF_DICT; ++*kind)
-    if (strcmp(word, words[*kind - SF_ITEM]) == 0)
+  for (int i = 0; i < 3; ++i)
+    if (strcmp(word, words[i]) == 0) {
+      *kind = (sf_kind)(SF_ITEM + i);
       return 1;
+    }
   return 0;
 }
 
 int main(int argc, char **argv) {
-  uint32_t kind;
+  sf_kind kind;
   if (argc != 2 || !kind_of(argv[1], &kind)) {
     fprintf(stderr, "usage: normalise item|list|dict\n");
     return 2;
@@ -54,14 +56,15 @@ int main(int argc, char **argv) {
     return 3;
   }
 
-  char *text = NULL, *line = NULL;
-  size_t capacity = 0, line_capacity = 0;
-  sf_joined joined = {0, 0, 0};
+  sf_context context = sf_context_of(seed, SF_RFC9651);
+  sf_lines lines = sf_lines_in(sf_buffer_of(NULL, 0));
+  char *line = NULL;
+  size_t line_capacity = 0;
   ssize_t length;
   while ((length = getline(&line, &line_capacity, stdin)) >= 0) {
     if (length > 0 && line[length - 1] == '\n')
       --length;
-    if (!add(&text, &capacity, &joined, line, (size_t)length)) {
+    if (!add(&lines, sf_trim(line, (size_t)length))) {
       fprintf(stderr, "normalise: out of memory\n");
       return 3;
     }
@@ -72,34 +75,34 @@ int main(int argc, char **argv) {
     return 3;
   }
 
-  size_t required = SF_CANONICAL_SIZE(joined.length); /* never too small */
-  char *canonical = malloc(required + 1);
-  if (canonical == NULL) {
+  sf_text text = sf_joined_text(&lines);
+  size_t size = SF_CANONICAL_SIZE(text.length); /* never too small */
+  sf_buffer out = sf_buffer_of(malloc(size + 1), size);
+  if (out.at == NULL) {
     fprintf(stderr, "normalise: out of memory\n");
     return 3;
   }
-  sf_refusal refusal;
+  const sf_refusal *refusal = &context.refusal;
   int answer = 0;
-  switch (sf_normalise(&seed, SF_RFC9651, kind, text, joined.length, canonical, required, &required,
-                       &refusal)) {
+  switch (sf_write_canonical(&context, kind, text, &out)) {
   case SF_OK:
-    fwrite(canonical, 1, required, stdout);
+    fwrite(out.at, 1, out.length, stdout);
     printf("\n");
     break;
   case SF_REFUSED:
-    if (refusal.found < 0)
-      printf("refused at %llu: the text ended\n", (unsigned long long)refusal.offset);
+    if (refusal->found == SF_ENDED)
+      printf("refused at %llu: the text ended\n", (unsigned long long)refusal->offset);
     else
-      printf("refused at %llu: byte 0x%02x\n", (unsigned long long)refusal.offset,
-             (unsigned)refusal.found);
+      printf("refused at %llu: byte 0x%02x\n", (unsigned long long)refusal->offset,
+             (unsigned)refusal->found);
     answer = 1;
     break;
   default:
     fprintf(stderr, "normalise: out of memory\n");
     answer = 3;
   }
-  free(canonical);
-  free(text);
+  free(out.at);
+  free(lines.buffer.at);
   if (fflush(stdout) != 0 || ferror(stdout)) {
     fprintf(stderr, "normalise: the answer can't be written\n");
     return 3;

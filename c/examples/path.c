@@ -16,17 +16,17 @@
 #include <stdlib.h>
 #include <string.h>
 
-/* A name or a detail: in quotes where it is a String. */
-static void print_name(const char *bytes, sf_span span, int is_token) {
-  const char *quote = is_token ? "" : "\"";
-  printf("%s", quote);
-  fwrite(bytes + span.at, 1, span.length, stdout);
-  printf("%s", quote);
+static void print_text(const char *before, sf_text text) {
+  printf("%s", before);
+  fwrite(text.at, 1, text.length, stdout);
 }
 
-static void print_span(const char *before, const char *bytes, sf_span span) {
+/* A name or a detail: in quotes where it is a String. */
+static void print_name(const char *before, sf_text name, int is_token) {
+  const char *quote = is_token ? "" : "\"";
   printf("%s", before);
-  fwrite(bytes + span.at, 1, span.length, stdout);
+  print_text(quote, name);
+  printf("%s", quote);
 }
 
 static void print_flag(const char *word, int says, int set) {
@@ -34,12 +34,12 @@ static void print_flag(const char *word, int says, int set) {
     printf(set ? ", %s" : ", not %s", word);
 }
 
-static void print_hop(const sf_hop *hop, const char *bytes) {
+static void print_hop(const sf_hop_list *path, const sf_hop *hop) {
   static const char *const outcomes[] = {"says nothing", "hit", "forwarded", "hit and forwarded"};
-  print_name(bytes, hop->name, hop->name_is_token);
+  print_name("", sf_hop_part(path, hop->name), hop->name_is_token);
   printf(" %s", outcomes[hop->outcome]);
   if (hop->why != SF_NO_FORWARD)
-    print_span(": ", bytes, hop->why_token);
+    print_text(": ", sf_hop_part(path, hop->why_token));
   if (hop->has_status)
     printf(", status %u", (unsigned)hop->status);
   print_flag("stored", hop->has_stored, hop->stored);
@@ -47,37 +47,34 @@ static void print_hop(const sf_hop *hop, const char *bytes) {
   if (hop->has_ttl)
     printf(", ttl %lld", (long long)hop->ttl);
   if (hop->has_key)
-    print_span(", key ", bytes, hop->key);
-  if (hop->has_detail) {
-    printf(", detail ");
-    print_name(bytes, hop->detail, hop->detail_is_token);
-  }
+    print_text(", key ", sf_hop_part(path, hop->key));
+  if (hop->has_detail)
+    print_name(", detail ", sf_hop_part(path, hop->detail), hop->detail_is_token);
   printf("\n");
 }
 
 /* The path, once a first call with empty buffers has returned how long it is. */
-static uint32_t print_path(const sf_seed *seed, const char *text, size_t length, sf_path *path,
-                           sf_refusal *refusal) {
-  uint32_t status = sf_cache_status(seed, text, length, NULL, 0, NULL, 0, path, refusal);
+static uint32_t print_path(sf_context *context, sf_text text, size_t *nameless) {
+  sf_hop_list path = sf_hop_list_in(sf_hops_of(NULL, 0), sf_buffer_of(NULL, 0));
+  uint32_t status = sf_read_hops(context, text, &path);
+  *nameless = path.nameless;
   if (status != SF_SHORT)
     return status;
-  sf_hop *hops = malloc(path->hops * sizeof *hops);
-  char *bytes = malloc(path->bytes + 1);
+  path.hops.capacity = path.hops.required;
+  path.hops.at = malloc(path.hops.capacity * sizeof *path.hops.at);
+  path.bytes.capacity = path.bytes.required;
+  path.bytes.at = malloc(path.bytes.capacity + 1);
   status = SF_NO_MEMORY;
-  if (hops != NULL && bytes != NULL)
-    status = sf_cache_status(seed, text, length, hops, path->hops, bytes, path->bytes, path,
-                             refusal);
-  if (status == SF_OK) {
-    for (size_t i = 0; i < path->hops; ++i)
-      print_hop(&hops[i], bytes);
-    if (path->is_served) {
-      printf("served by ");
-      print_name(bytes, hops[path->served].name, hops[path->served].name_is_token);
-      printf("\n");
-    }
+  if (path.hops.at != NULL && path.bytes.at != NULL)
+    status = sf_read_hops(context, text, &path);
+  for (size_t i = 0; i < path.hops.length; ++i)
+    print_hop(&path, &path.hops.at[i]);
+  if (path.served != NULL) {
+    print_name("served by ", sf_hop_part(&path, path.served->name), path.served->name_is_token);
+    printf("\n");
   }
-  free(hops);
-  free(bytes);
+  free(path.hops.at);
+  free(path.bytes.at);
   return status;
 }
 
@@ -92,18 +89,18 @@ int main(int argc, char **argv) {
     return 3;
   fclose(random);
 
-  sf_path path;
-  sf_refusal refusal;
+  sf_context context = sf_context_of(seed, SF_RFC8941);
+  size_t nameless;
   int answer = 1;
-  switch (print_path(&seed, argv[1], strlen(argv[1]), &path, &refusal)) {
+  switch (print_path(&context, sf_trim(argv[1], strlen(argv[1])), &nameless)) {
   case SF_OK:
     answer = 0;
     break;
   case SF_NOT_A_CACHE:
-    printf("member %llu names no cache\n", (unsigned long long)path.nameless);
+    printf("member %llu names no cache\n", (unsigned long long)nameless);
     break;
   case SF_REFUSED:
-    printf("refused at %llu\n", (unsigned long long)refusal.offset);
+    printf("refused at %llu\n", (unsigned long long)context.refusal.offset);
     break;
   default:
     answer = 3;

@@ -20,14 +20,14 @@ int main(int argc, char **argv) {
   fclose(random);
 
   /* a field that is refused sets nothing */
-  sf_priority_flags request = SF_PRIORITY_UNSET;
-  sf_response_priority_flags response = {0, 0, 0, 0};
-  sf_refusal refusal;
-  if (sf_priority(&seed, argv[1], strlen(argv[1]), &request, &refusal) == SF_NO_MEMORY ||
-      sf_response_priority(&seed, SF_RFC9651, argv[2], strlen(argv[2]), &response, &refusal) ==
+  sf_context context = sf_context_of(seed, SF_RFC8941);
+  sf_priority_flags client = SF_PRIORITY_UNSET;
+  sf_response_priority_flags server = {0, 0, 0, 0};
+  if (sf_read_priority(&context, sf_trim(argv[1], strlen(argv[1])), &client) == SF_NO_MEMORY ||
+      sf_read_response_priority(&context, sf_trim(argv[2], strlen(argv[2])), &server) ==
           SF_NO_MEMORY)
     return 3;
-  sf_priority_flags both = sf_priority_merge(&request, &response);
+  sf_priority_flags both = sf_merge_priority(client, server);
   printf("urgency %d incremental %d\n", both.urgency, both.incremental);
   return fflush(stdout) != 0 || ferror(stdout) ? 3 : 0;
 }

@@ -20,14 +20,12 @@
 #include <strings.h>
 #include <unistd.h>
 
-static const char name_here[] = "ExampleCDN"; /* this cache's name in Cache-Status */
-/* The fields that count here, of the request (>) or of the response (<), and the text of each: its
- * lines, joined as they come. The target list (RFC 9213 section 2.2) has this cache's first. */
-enum { ASKED, ANSWERED, TARGETS, PATH = TARGETS + 2, AGE, FIELDS, MOST = 8192 };
+/* The fields that count here, of the request (>) or of the response (<). The target list (RFC 9213
+ * section 2.2) has this cache's own first. */
+enum { ASKED, ANSWERED, OWN, CDN, PATH, AGE, FIELDS, MOST = 8192 };
 static const char *const fields[] = {">Priority", "<Priority", "<ExampleCDN-Cache-Control",
                                      "<CDN-Cache-Control", "<Cache-Status", "<Age"};
-static char texts[FIELDS][MOST];
-static sf_joined joined[FIELDS];
+static sf_lines lines[FIELDS];
 
 static void give_up(const char *why) {
   fprintf(stderr, "proxy: %s\n", why);
@@ -35,6 +33,9 @@ static void give_up(const char *why) {
 }
 
 static void read_fields(FILE *from) {
+  static char bytes[FIELDS][MOST]; /* of each field its lines, joined as they come, and a NUL */
+  for (int i = 0; i < FIELDS; ++i)
+    lines[i] = sf_lines_in(sf_buffer_of(bytes[i], MOST - 1));
   char *line = NULL;
   size_t size = 0;
   while (getline(&line, &size, from) >= 0) {
@@ -45,7 +46,7 @@ static void read_fields(FILE *from) {
     sf_text value = sf_trim(colon + 1, strcspn(colon + 1, "\r\n"));
     for (int i = 0; i < FIELDS; ++i)
       if (fields[i][0] == line[0] && strcasecmp(fields[i] + 1, name) == 0 &&
-          sf_join(value.at, value.length, texts[i], MOST - 1, &joined[i]) != SF_OK)
+          sf_add_line(&lines[i], value) != SF_OK)
         give_up("a field is too long");
   }
   free(line);
@@ -63,56 +64,56 @@ static void print_decision(const char *field, const sf_decision *decision) {
 }
 
 int main(int count, char **words) {
-  uint32_t cache = SF_SHARED_CACHE, status;
+  sf_cache cache = SF_SHARED_CACHE;
   sf_response response = {0, 0, 0, 0};
   for (int i = 1; i < count; ++i) {
     cache = strcmp(words[i], "private") == 0 ? SF_PRIVATE_CACHE : cache;
     response.is_understood |= strcmp(words[i], "understood") == 0;
   }
   sf_seed seed;
-  sf_refusal refusal;
   if (getentropy(&seed, sizeof seed) != 0)
     give_up("no random bytes");
+  sf_context context = sf_context_of(seed, SF_RFC8941); /* that the RFCs of these fields cite */
   read_fields(stdin);
-  response.age = strtoull(texts[AGE], NULL, 10);
+  response.age = strtoull(lines[AGE].buffer.at, NULL, 10);
 
-  /* The priority. A field that is malformed or absent sets nothing. That of the response is sent on
-   * as it came (RFC 9218 section 5). */
+  /* The priority. A field that is malformed or absent sets nothing (RFC 9218 section 8). */
   sf_priority_flags asked = SF_PRIORITY_UNSET;
   sf_response_priority_flags answered = {0, 0, 0, 0};
-  if (sf_priority(&seed, texts[ASKED], joined[ASKED].length, &asked, &refusal) == SF_NO_MEMORY ||
-      sf_response_priority(&seed, SF_RFC9651, texts[ANSWERED], joined[ANSWERED].length, &answered,
-                           &refusal) == SF_NO_MEMORY)
+  if (sf_read_priority(&context, sf_joined_text(&lines[ASKED]), &asked) == SF_NO_MEMORY ||
+      sf_read_response_priority(&context, sf_joined_text(&lines[ANSWERED]), &answered) ==
+          SF_NO_MEMORY)
     give_up("out of memory");
-  sf_priority_flags both = sf_priority_merge(&asked, &answered);
+  sf_priority_flags both = sf_merge_priority(asked, answered);
   printf("urgency %d%s\n", both.urgency, both.incremental ? ", incremental" : "");
 
   /* What is decided by the first field of the target list that is well-formed and not empty. */
-  sf_span targets[] = {{TARGETS * MOST, joined[TARGETS].length},
-                       {(TARGETS + 1) * MOST, joined[TARGETS + 1].length}};
-  size_t target, length;
-  sf_rules rules;
+  sf_text targets[] = {sf_joined_text(&lines[OWN]), sf_joined_text(&lines[CDN])};
+  sf_choice choice;
   sf_decision decision = {0, SF_REUSE_NOT_STORED, SF_BY_NOTHING, 0, 0};
-  status = sf_select_rules(&seed, SF_RFC8941, texts, sizeof texts, targets, 2, &target, &rules);
-  if (status == SF_OK && sf_decide(&rules, cache, &response, &decision) == SF_OK)
-    print_decision(fields[TARGETS + target] + 1, &decision);
+  uint32_t status = sf_choose_rules(&context, targets, 2, &choice);
+  if (status == SF_OK && sf_decide(&choice.rules, cache, &response, &decision) == SF_OK)
+    print_decision(fields[OWN + choice.index] + 1, &decision);
   else if (status == SF_EMPTY)
     printf("by no targeted field: Cache-Control decides\n");
   else
     give_up("out of memory");
 
   /* This cache's hop is the last of Cache-Status, or alone if what came is malformed. */
-  int is_stored = decision.reuse != SF_REUSE_NOT_STORED && decision.allows_storing;
-  sf_hop hop = {.name = {0, sizeof name_here - 1}, .name_is_token = 1, .outcome = SF_FORWARDED,
-                .why = SF_URI_MISS, .stored = (uint8_t)is_stored, .has_stored = 1,
-                .ttl = (int64_t)decision.seconds, .has_ttl = decision.reuse == SF_REUSE_FRESH};
-  static char path[SF_APPENDED_SIZE(MOST, sizeof name_here)];
-  status = sf_cache_status_append(&seed, SF_RFC8941, texts[PATH], joined[PATH].length, &hop,
-                                  name_here, hop.name.length, path, sizeof path, &length, &refusal);
+  sf_own_hop own = sf_hop_named("ExampleCDN", SF_TOKEN);
+  own.hop.outcome = SF_FORWARDED;
+  own.hop.why = SF_URI_MISS;
+  own.hop.has_stored = 1;
+  own.hop.stored = decision.reuse != SF_REUSE_NOT_STORED && decision.allows_storing;
+  own.hop.has_ttl = decision.reuse == SF_REUSE_FRESH;
+  own.hop.ttl = (int64_t)decision.seconds;
+  static char path[SF_APPENDED_SIZE(MOST, 16)];
+  sf_buffer out = SF_BUFFER(path);
+  status = sf_append_hop(&context, sf_joined_text(&lines[PATH]), &own, &out);
   if (status == SF_REFUSED)
-    status = sf_hop_text(&seed, &hop, name_here, hop.name.length, path, sizeof path, &length);
+    status = sf_write_hop(&context, &own, &out);
   if (status != SF_OK)
     give_up("out of memory");
-  printf("Cache-Status: %.*s\n", (int)length, path);
+  printf("Cache-Status: %.*s\n", (int)out.length, out.at);
   return fflush(stdout) != 0 || ferror(stdout) ? 3 : 0;
 }

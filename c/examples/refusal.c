@@ -18,16 +18,15 @@
 #include <string.h>
 
 /* The error message with the text, in a buffer that is to be freed; NULL without memory. */
-static char *message_of(const sf_refusal *refusal, const char *text, size_t length) {
-  size_t size = SF_REFUSAL_IN_TEXT_SIZE(length), written;
-  char *message = malloc(size + 1);
-  if (message == NULL ||
-      sf_refusal_in_text(refusal, text, length, message, size, &written) != SF_OK) {
-    free(message);
+static char *message_of(const sf_refusal *refusal, sf_text text) {
+  size_t size = SF_REFUSAL_IN_TEXT_SIZE(text.length);
+  sf_buffer out = sf_buffer_of(malloc(size + 1), size);
+  if (out.at == NULL || sf_show_refusal(refusal, text, &out) != SF_OK) {
+    free(out.at);
     return NULL;
   }
-  message[written] = '\0';
-  return message;
+  out.at[out.length] = '\0';
+  return out.at;
 }
 
 int main(int argc, char **argv) {
@@ -45,23 +44,24 @@ int main(int argc, char **argv) {
     return 3;
   fclose(random);
 
-  size_t length = strlen(argv[2]), written;
-  char *text = malloc(SF_CANONICAL_SIZE(length) + 1);
-  if (text == NULL)
+  sf_context context = sf_context_of(seed, SF_RFC9651);
+  sf_text text = sf_cstr(argv[2]);
+  size_t size = SF_CANONICAL_SIZE(text.length);
+  sf_buffer out = sf_buffer_of(malloc(size + 1), size);
+  if (out.at == NULL)
     return 3;
-  sf_refusal refusal;
-  uint32_t status = sf_normalise(&seed, SF_RFC9651, kind, argv[2], length, text,
-                                 SF_CANONICAL_SIZE(length), &written, &refusal);
+  char *said = out.at;
+  uint32_t status = sf_write_canonical(&context, (sf_kind)kind, text, &out);
   if (status == SF_OK)
-    text[written] = '\0';
+    said[out.length] = '\0';
   else {
-    free(text);
-    text = status == SF_REFUSED ? message_of(&refusal, argv[2], length) : NULL;
+    free(said);
+    said = status == SF_REFUSED ? message_of(&context.refusal, text) : NULL;
   }
-  if (text == NULL)
+  if (said == NULL)
     return 3;
-  puts(text);
-  free(text);
+  puts(said);
+  free(said);
   if (fflush(stdout) != 0 || ferror(stdout))
     return 3;
   return status == SF_OK ? 0 : 1;

@@ -25,28 +25,20 @@ static void *allocated(size_t size) {
 }
 
 /* Puts what the field has, but for the member of this label. */
-static uint32_t put_others(const sf_seed *seed, const char *text, const char *label,
+static uint32_t put_others(sf_context *context, sf_text text, const char *label,
                            sf_builder *field) {
-  size_t length = strlen(text);
-  sf_sizes sizes = {SF_NODES_SIZE(length), SF_BYTES_SIZE(length)}; /* never too small */
-  sf_node *nodes = allocated(sizes.nodes * sizeof *nodes);
-  char *bytes = allocated(sizes.bytes);
-  sf_refusal refusal;
-  uint32_t status = sf_parse(seed, SF_RFC9651, SF_DICT, text, length, nodes, sizes.nodes, bytes,
-                             sizes.bytes, &sizes, &refusal);
+  size_t nodes = SF_NODES_SIZE(text.length), bytes = SF_BYTES_SIZE(text.length); /* large enough */
+  sf_tree tree = sf_tree_in(sf_nodes_of(allocated(nodes * sizeof(sf_node)), nodes),
+                            sf_buffer_of(allocated(bytes), bytes));
+  uint32_t status = sf_read_tree(context, SF_DICT, text, &tree);
   if (status == SF_REFUSED)
-    printf("refused at %llu\n", (unsigned long long)refusal.offset);
-  if (status == SF_OK) {
-    size_t at; /* of the member of this label, if there is one */
-    if (sf_find(nodes, sizes.nodes, text, length, bytes, sizes.bytes, SF_MEMBER, label, strlen(label),
-                &at) != SF_OK)
-      at = sizes.nodes;
-    for (const sf_node *node = nodes; node < nodes + sizes.nodes; node += node->size)
-      if (node != nodes + at)
-        sf_put_copy(field, node, text, length, bytes);
-  }
-  free(nodes);
-  free(bytes);
+    printf("refused at %llu\n", (unsigned long long)context->refusal.offset);
+  const sf_node *old = sf_find_member(&tree, label); /* NULL if there is none */
+  for (const sf_node *node = tree.nodes.at; node < sf_tree_end(&tree); node += node->size)
+    if (node != old)
+      sf_put_copy(field, &tree, node);
+  free(tree.nodes.at);
+  free(tree.bytes.at);
   return status;
 }
 
@@ -65,10 +57,13 @@ int main(int argc, char **argv) {
   size_t size = 64;
   for (int i = 1; i < argc; ++i)
     size += strlen(argv[i]) * 2 + 2;
-  sf_node *nodes = allocated(size * sizeof *nodes);
-  char *bytes = allocated(size), *text = allocated(size * 2);
-  sf_builder field = sf_build(nodes, size, bytes, size);
-  uint32_t status = put_others(&seed, argv[1], argv[2], &field);
+  sf_nodes nodes = sf_nodes_of(allocated(size * sizeof(sf_node)), size);
+  sf_buffer bytes = sf_buffer_of(allocated(size), size);
+  sf_buffer out = sf_buffer_of(allocated(size * 2), size * 2);
+  sf_builder field = sf_build(nodes, bytes);
+  sf_context context = sf_context_of(seed, SF_RFC9651);
+  sf_text text = sf_trim(argv[1], strlen(argv[1]));
+  uint32_t status = put_others(&context, text, argv[2], &field);
   if (status != SF_OK)
     return status == SF_REFUSED && fflush(stdout) == 0 ? 1 : 3;
 
@@ -79,17 +74,16 @@ int main(int argc, char **argv) {
   sf_param_integer(&field, "created", 1618884473);
   sf_param_string(&field, "keyid", "test-key");
 
-  size_t length, invalid;
-  status = sf_write_built(&seed, SF_RFC9651, SF_DICT, &field, text, size * 2, &length, &invalid);
+  status = sf_write_built(&context, SF_DICT, &field, &out);
   if (status == SF_INVALID)
-    printf("part %llu is no value\n", (unsigned long long)invalid);
+    printf("part %llu is no value\n", (unsigned long long)context.invalid);
   else if (status != SF_OK)
     return 3;
   else
-    printf("%.*s\n", (int)length, text);
-  free(nodes);
-  free(bytes);
-  free(text);
+    printf("%.*s\n", (int)out.length, out.at);
+  free(nodes.at);
+  free(bytes.at);
+  free(out.at);
   if (fflush(stdout) != 0 || ferror(stdout))
     return 3;
   return status == SF_OK ? 0 : 1;

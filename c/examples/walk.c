@@ -24,9 +24,9 @@ static const char *const types[] = {"inner list", "integer", "decimal", "string"
 
 /* A String, a Token or a Display String on one line: each of them may be long, and the last may
  * hold any character. */
-static void print_text(const char *text, size_t length) {
-  for (size_t i = 0; i < length; ++i) {
-    unsigned char byte = (unsigned char)text[i];
+static void print_text(sf_text text) {
+  for (size_t i = 0; i < text.length; ++i) {
+    unsigned char byte = (unsigned char)text.at[i];
     if (byte < 0x20 || byte == 0x7f || byte == '\\')
       printf("\\%02x", byte);
     else
@@ -34,22 +34,14 @@ static void print_text(const char *text, size_t length) {
   }
 }
 
-/* A parsed value: its nodes point into the text and into the bytes. */
-typedef struct value {
-  const char *text;
-  size_t text_length;
-  sf_node *nodes;
-  char *bytes;
-} value;
-
 /* What a node itself says: its key, its type, and its number or its bytes. */
-static void print(const value *v, const sf_node *node, int depth) {
-  const char *bytes = sf_bytes(node, v->text, v->text_length, v->bytes);
+static void print(const sf_tree *tree, const sf_node *node, int depth) {
+  sf_text text = sf_node_text(tree, node);
   printf("%*s", 2 * depth, "");
   if (node->role == SF_PARAMETER || node->role == SF_INNER_PARAMETER)
     printf(";");
   if (node->key_length > 0) {
-    print_text(sf_key(node, v->text, v->text_length, v->bytes), node->key_length);
+    print_text(sf_node_key(tree, node));
     printf(" ");
   }
   printf("%s", types[node->type - SF_INNER_LIST]);
@@ -65,23 +57,23 @@ static void print(const value *v, const sf_node *node, int depth) {
     break;
   }
   case SF_BYTE_SEQUENCE:
-    for (size_t i = 0; i < node->text_length; ++i)
-      printf(" %02x", (unsigned char)bytes[i]);
+    for (size_t i = 0; i < text.length; ++i)
+      printf(" %02x", (unsigned char)text.at[i]);
     break;
   case SF_INNER_LIST:
     break;
   default:
     printf(" ");
-    print_text(bytes, node->text_length);
+    print_text(text);
   }
   printf("\n");
 }
 
 /* The siblings from a node to an end, and below each what it has. */
-static void walk(const value *v, const sf_node *node, const sf_node *end, int depth) {
+static void walk(const sf_tree *tree, const sf_node *node, const sf_node *end, int depth) {
   for (; node < end; node += node->size) {
-    print(v, node, depth);
-    walk(v, node + 1, node + node->size, depth + 1);
+    print(tree, node, depth);
+    walk(tree, node + 1, node + node->size, depth + 1);
   }
 }
 
@@ -100,21 +92,20 @@ int main(int argc, char **argv) {
     return 3;
   fclose(random);
 
-  value v = {argv[2], strlen(argv[2]), NULL, NULL};
-  sf_sizes sizes = {SF_NODES_SIZE(v.text_length), SF_BYTES_SIZE(v.text_length)}; /* never too small */
-  v.nodes = malloc(sizes.nodes * sizeof *v.nodes + 1);
-  v.bytes = malloc(sizes.bytes + 1);
-  if (v.nodes == NULL || v.bytes == NULL)
+  sf_context context = sf_context_of(seed, SF_RFC9651);
+  sf_text text = sf_trim(argv[2], strlen(argv[2]));
+  size_t nodes = SF_NODES_SIZE(text.length), bytes = SF_BYTES_SIZE(text.length); /* large enough */
+  sf_tree tree = sf_tree_in(sf_nodes_of(malloc(nodes * sizeof(sf_node) + 1), nodes),
+                            sf_buffer_of(malloc(bytes + 1), bytes));
+  if (tree.nodes.at == NULL || tree.bytes.at == NULL)
     return 3;
-  sf_refusal refusal;
-  uint32_t status = sf_parse(&seed, SF_RFC9651, kind, v.text, v.text_length, v.nodes, sizes.nodes,
-                             v.bytes, sizes.bytes, &sizes, &refusal);
+  uint32_t status = sf_read_tree(&context, (sf_kind)kind, text, &tree);
   if (status == SF_OK)
-    walk(&v, v.nodes, v.nodes + sizes.nodes, 0);
+    walk(&tree, tree.nodes.at, sf_tree_end(&tree), 0);
   else if (status == SF_REFUSED)
-    printf("refused at %llu\n", (unsigned long long)refusal.offset);
-  free(v.nodes);
-  free(v.bytes);
+    printf("refused at %llu\n", (unsigned long long)context.refusal.offset);
+  free(tree.nodes.at);
+  free(tree.bytes.at);
   if (fflush(stdout) != 0 || ferror(stdout))
     return 3;
   return status == SF_OK ? 0 : status == SF_REFUSED ? 1 : 3;

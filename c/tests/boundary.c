@@ -9,6 +9,7 @@
 #define _POSIX_C_SOURCE 200809L
 #include "buffers.h"
 #include "decisions.h"
+#include "pointers.h"
 #include "texts.h"
 #include <inttypes.h>
 #include <malloc.h>
@@ -370,11 +371,11 @@ typedef struct value {
 } value;
 
 static const char *key_of(const value *v, const sf_node *node) {
-  return sf_key(node, v->text, v->text_length, v->bytes);
+  return node_key(node, v->text, v->text_length, v->bytes);
 }
 
 static const char *bytes_of(const value *v, const sf_node *node) {
-  return sf_bytes(node, v->text, v->text_length, v->bytes);
+  return node_text(node, v->text, v->text_length, v->bytes);
 }
 
 /* Whether a range of a node is within the text, or within the bytes. */
@@ -452,11 +453,11 @@ static void same_value(uint32_t dialect, uint32_t kind, const char *about,
   CHECK(v.sizes.nodes <= SF_NODES_SIZE(length) && size <= SF_BYTES_SIZE(length));
   value u = {NULL, 0, take_buffer(NULL, v.sizes.nodes * sizeof *u.nodes), take_buffer(NULL, size),
              {v.sizes.nodes, size}};
-  sf_builder builder = sf_build(u.nodes, v.sizes.nodes, u.bytes, size);
+  sf_builder builder = sf_build(sf_nodes_of(u.nodes, v.sizes.nodes), sf_buffer_of(u.bytes, size));
   for (size_t i = 0; i < v.sizes.nodes; i += v.nodes[i].size)
-    sf_put_copy(&builder, v.nodes + i, text, length, v.bytes);
-  CHECK(builder.status == SF_OK && builder.nodes_length == v.sizes.nodes);
-  CHECK(builder.bytes_length == size);
+    put_copy(&builder, v.nodes + i, text, length, v.bytes);
+  CHECK(builder.status == SF_OK && builder.nodes.length == v.sizes.nodes);
+  CHECK(builder.bytes.length == size);
   for (size_t i = 0; i < v.sizes.nodes; ++i)
     CHECK(is_same_node(&v, &v.nodes[i], &u, &u.nodes[i]));
 
@@ -472,7 +473,7 @@ static void same_value(uint32_t dialect, uint32_t kind, const char *about,
                              : is_range((char *)out, required, (const char *)canonical, required) &&
                                    (capacity == required || out[required] == BUFFER_BYTE));
     required = 4711;
-    CALL(sf_write_built(&seed, dialect, kind, &builder, out, capacity, &required, &invalid));
+    CALL(write_built(&seed, dialect, kind, &builder, out, capacity, &required, &invalid));
     CHECK(status == right && required == canonical_length && invalid == 4711);
     CHECK(status == SF_SHORT ||
           is_range((char *)out, required, (const char *)canonical, required));
@@ -694,10 +695,10 @@ static void bad_calls(void) {
     CALL(sf_parse(&seed, dialect, kind, "a", 1, nodes, 2, bytes, 4, &sizes, &refusal));
     CHECK(status == SF_BAD_CALL && sizes.nodes == 4711 && sizes.bytes == 4712);
     size_t invalid = 4711;
-    sf_builder builder = sf_build(nodes, 2, bytes, 4);
+    sf_builder builder = sf_build(sf_nodes_of(nodes, 2), sf_buffer_of(bytes, 4));
     sf_put_token(&builder, NULL, "a");
     unsigned char out[4] = {BUFFER_BYTE, BUFFER_BYTE, BUFFER_BYTE, BUFFER_BYTE};
-    CALL(sf_write_built(&seed, dialect, kind, &builder, out, 4, &required, &invalid));
+    CALL(write_built(&seed, dialect, kind, &builder, out, 4, &required, &invalid));
     CHECK(status == SF_BAD_CALL && required == 4711 && invalid == 4711 && all_are(out, 4));
     CHECK(is_untouched(&refusal));
     give_buffer(bytes);
@@ -862,12 +863,12 @@ static void finding(void) {
   /* the same with all keys in the bytes, and with some of them */
   sf_node copied_nodes[12], mixed_nodes[12];
   unsigned char copied_bytes[40];
-  sf_builder builder = sf_build(copied_nodes, 12, copied_bytes, sizeof copied_bytes);
+  sf_builder builder = sf_build(sf_nodes_of(copied_nodes, 12), sf_buffer_of(copied_bytes, sizeof copied_bytes));
   for (size_t i = 0; i < 12; i += parsed.nodes[i].size)
-    sf_put_copy(&builder, parsed.nodes + i, about, parsed.text_length, NULL);
-  CHECK(builder.status == SF_OK && builder.nodes_length == 12);
+    put_copy(&builder, parsed.nodes + i, about, parsed.text_length, NULL);
+  CHECK(builder.status == SF_OK && builder.nodes.length == 12);
   unsigned char *text = take_buffer(about, parsed.text_length);
-  unsigned char *bytes = take_buffer(copied_bytes, builder.bytes_length);
+  unsigned char *bytes = take_buffer(copied_bytes, builder.bytes.length);
   for (size_t i = 0; i < 12; ++i) {
     mixed_nodes[i] = i % 2 == 0 ? parsed.nodes[i] : copied_nodes[i];
     if (i % 2 != 0)
@@ -881,8 +882,8 @@ static void finding(void) {
     size_t bytes_length;
   } forms[] = {
       {parsed.nodes, text, parsed.text_length, NULL, 0},
-      {copied_nodes, NULL, 0, bytes, builder.bytes_length},
-      {mixed_nodes, text, parsed.text_length, bytes, builder.bytes_length},
+      {copied_nodes, NULL, 0, bytes, builder.bytes.length},
+      {mixed_nodes, text, parsed.text_length, bytes, builder.bytes.length},
   };
   for (size_t form = 0; form < sizeof forms / sizeof *forms; ++form) {
     for (size_t i = 0; i < sizeof rows / sizeof *rows; ++i) {
@@ -911,15 +912,15 @@ static void finding(void) {
     wild[i].role = SF_MEMBER;
   wild[0].key_at = UINT32_MAX;
   wild[0].key_length = 1;
-  wild[1].key_at = (uint32_t)builder.bytes_length;
+  wild[1].key_at = (uint32_t)builder.bytes.length;
   wild[1].key_length = UINT32_MAX;
-  wild[2].key_at = (uint32_t)builder.bytes_length;
+  wild[2].key_at = (uint32_t)builder.bytes.length;
   size_t index = 4711;
-  CALL(sf_find(wild, 3, NULL, 0, bytes, builder.bytes_length, SF_MEMBER, "a", 1, &index));
+  CALL(sf_find(wild, 3, NULL, 0, bytes, builder.bytes.length, SF_MEMBER, "a", 1, &index));
   CHECK(status == SF_ABSENT && index == 4711);
-  CALL(sf_find(wild, 3, bytes, builder.bytes_length, NULL, 0, SF_MEMBER, "a", 1, &index));
+  CALL(sf_find(wild, 3, bytes, builder.bytes.length, NULL, 0, SF_MEMBER, "a", 1, &index));
   CHECK(status == SF_ABSENT && index == 4711);
-  CALL(sf_find(wild, 3, NULL, 0, bytes, builder.bytes_length, SF_MEMBER, NULL, 0, &index));
+  CALL(sf_find(wild, 3, NULL, 0, bytes, builder.bytes.length, SF_MEMBER, NULL, 0, &index));
   CHECK(status == SF_OK && index == 2);
   about = "a key partly in the text";
   wild[0].key_at = 1;
@@ -1085,8 +1086,7 @@ static void put(sf_builder *to, const step *one) {
     (is_param ? sf_param_token : sf_put_token)(to, one->key, one->text);
     break;
   case SF_BYTE_SEQUENCE:
-    (is_param ? sf_param_byte_sequence : sf_put_byte_sequence)(to, one->key, one->text,
-                                                               strlen(one->text));
+    (is_param ? sf_param_byte_sequence : sf_put_byte_sequence)(to, one->key, sf_cstr(one->text));
     break;
   case SF_BOOLEAN:
     (is_param ? sf_param_boolean : sf_put_boolean)(to, one->key, (int)one->number);
@@ -1115,21 +1115,21 @@ static void built(uint32_t kind, const step *steps, size_t count, const char *te
   for (size_t n = 0; n <= nodes_length + 1; ++n) {
     for (size_t b = 0; b <= bytes_length + 1; ++b) {
       value v = {NULL, 0, take_buffer(NULL, n * sizeof *v.nodes), take_buffer(NULL, b), {n, b}};
-      sf_builder builder = sf_build(v.nodes, n, v.bytes, b);
+      sf_builder builder = sf_build(sf_nodes_of(v.nodes, n), sf_buffer_of(v.bytes, b));
       for (size_t i = 0; i < count; ++i)
         put(&builder, &steps[i]);
       CHECK(builder.status == (n < nodes_length || b < bytes_length ? SF_SHORT : SF_OK));
-      CHECK(builder.nodes_length <= nodes_length && builder.bytes_length <= bytes_length);
+      CHECK(builder.nodes.length <= nodes_length && builder.bytes.length <= bytes_length);
       for (size_t i = 0; builder.status == SF_OK && i < nodes_length; ++i)
         CHECK(is_same_node(&parsed_value, &parsed_value.nodes[i], &v, &v.nodes[i]));
       size_t invalid = 4711;
       if (builder.status == SF_OK) {
-        CHECK(builder.nodes_length == nodes_length && builder.bytes_length == bytes_length);
-        WRITES(sf_write_built(&seed, SF_RFC9651, kind, &builder, buffer, size, required, &invalid),
+        CHECK(builder.nodes.length == nodes_length && builder.bytes.length == bytes_length);
+        WRITES(write_built(&seed, SF_RFC9651, kind, &builder, buffer, size, required, &invalid),
                text);
       } else {
         size_t required = 4711;
-        CALL(sf_write_built(&seed, SF_RFC9651, kind, &builder, NULL, 0, &required, &invalid));
+        CALL(write_built(&seed, SF_RFC9651, kind, &builder, NULL, 0, &required, &invalid));
         CHECK(status == SF_BAD_CALL && required == 4711);
       }
       CHECK(invalid == 4711);
@@ -1300,17 +1300,17 @@ static void building(void) {
     const char *about = rows[i].calls;
     sf_node nodes[8];
     char bytes[32];
-    sf_builder builder = sf_build(nodes, 8, bytes, sizeof bytes);
+    sf_builder builder = sf_build(sf_nodes_of(nodes, 8), sf_buffer_of(bytes, sizeof bytes));
     for (const char *call = rows[i].calls; *call != '\0'; ++call) {
       step one = {*call, SF_INTEGER, "k", 1, NULL};
       put(&builder, &one);
     }
-    CHECK(builder.status == SF_BAD_CALL && builder.nodes_length == rows[i].nodes);
+    CHECK(builder.status == SF_BAD_CALL && builder.nodes.length == rows[i].nodes);
     step again[] = {{'=', SF_TOKEN, "k", 0, "a"}, {';', SF_TOKEN, "k", 0, "a"},
                     {'(', 0, "k", 0, NULL},       {')', 0, NULL, 0, NULL}};
     for (size_t k = 0; k < sizeof again / sizeof *again; ++k)
       put(&builder, &again[k]);
-    CHECK(builder.status == SF_BAD_CALL && builder.nodes_length == rows[i].nodes);
+    CHECK(builder.status == SF_BAD_CALL && builder.nodes.length == rows[i].nodes);
   }
 
   /* with lengths: keys and texts within others, and a NUL */
@@ -1318,11 +1318,11 @@ static void building(void) {
   uint32_t status;
   sf_node nodes[4];
   char bytes[16];
-  sf_builder builder = sf_build(nodes, 4, bytes, sizeof bytes);
+  sf_builder builder = sf_build(sf_nodes_of(nodes, 4), sf_buffer_of(bytes, sizeof bytes));
   size_t invalid;
-  sf_put(&builder, "abc", 2, SF_DISPLAY_STRING, 0, "x\0y", 3);
-  sf_param(&builder, "key", 1, SF_TOKEN, 0, "token", 3);
-  WRITES(sf_write_built(&seed, SF_RFC9651, SF_DICT, &builder, buffer, size, required, &invalid),
+  sf_put(&builder, sf_text_of("abc", 2), SF_DISPLAY_STRING, 0, sf_text_of("x\0y", 3));
+  sf_param(&builder, sf_text_of("key", 1), SF_TOKEN, 0, sf_text_of("token", 3));
+  WRITES(write_built(&seed, SF_RFC9651, SF_DICT, &builder, buffer, size, required, &invalid),
          "ab=%\"x%00y\";k=tok");
 
   /* parts of a parsed value in other places */
@@ -1330,31 +1330,32 @@ static void building(void) {
   value v = take_value(SF_RFC9651, SF_DICT, about, (const unsigned char *)about, strlen(about));
   sf_node copies[12];
   char copied[32];
-  builder = sf_build(copies, 12, copied, sizeof copied);
+  builder = sf_build(sf_nodes_of(copies, 12), sf_buffer_of(copied, sizeof copied));
   sf_begin_inner_list(&builder, NULL);
-  sf_put_copy(&builder, v.nodes + 3, about, v.text_length, v.bytes); /* c;y */
-  sf_put_copy(&builder, v.nodes + 5, about, v.text_length, v.bytes); /* "d\"" */
-  sf_put_copy(&builder, v.nodes + 1, about, v.text_length, v.bytes); /* x */
+  put_copy(&builder, v.nodes + 3, about, v.text_length, v.bytes); /* c;y */
+  put_copy(&builder, v.nodes + 5, about, v.text_length, v.bytes); /* "d\"" */
+  put_copy(&builder, v.nodes + 1, about, v.text_length, v.bytes); /* x */
   sf_end_inner_list(&builder);
-  sf_put_copy(&builder, v.nodes + 6, about, v.text_length, v.bytes); /* z */
-  sf_put_copy(&builder, v.nodes + 5, about, v.text_length, v.bytes);
-  sf_put_copy(&builder, v.nodes + 6, about, v.text_length, v.bytes);
+  put_copy(&builder, v.nodes + 6, about, v.text_length, v.bytes); /* z */
+  put_copy(&builder, v.nodes + 5, about, v.text_length, v.bytes);
+  put_copy(&builder, v.nodes + 6, about, v.text_length, v.bytes);
   CHECK(builder.status == SF_OK);
-  WRITES(sf_write_built(&seed, SF_RFC9651, SF_LIST, &builder, buffer, size, required, &invalid),
+  WRITES(write_built(&seed, SF_RFC9651, SF_LIST, &builder, buffer, size, required, &invalid),
          "(c;y \"d\\\"\";x);z, \"d\\\"\";z");
   sf_begin_inner_list(&builder, NULL);
-  sf_put_copy(&builder, v.nodes + 2, about, v.text_length, v.bytes);
-  CHECK(builder.status == SF_BAD_CALL && builder.nodes_length == 9);
+  put_copy(&builder, v.nodes + 2, about, v.text_length, v.bytes);
+  CHECK(builder.status == SF_BAD_CALL && builder.nodes.length == 9);
 
   /* an Inner List without its first Item, by its key in the text; a member of a Dictionary in it */
-  builder = sf_build(copies, 12, copied, sizeof copied);
-  sf_begin(&builder, sf_key(v.nodes + 2, about, v.text_length, v.bytes), v.nodes[2].key_length);
-  sf_put_copy(&builder, v.nodes + 5, about, v.text_length, v.bytes); /* "d\"" */
-  sf_put_copy(&builder, v.nodes, about, v.text_length, v.bytes);     /* a=1;x */
+  builder = sf_build(sf_nodes_of(copies, 12), sf_buffer_of(copied, sizeof copied));
+  sf_begin(&builder, sf_text_of(node_key(v.nodes + 2, about, v.text_length, v.bytes),
+                                v.nodes[2].key_length));
+  put_copy(&builder, v.nodes + 5, about, v.text_length, v.bytes); /* "d\"" */
+  put_copy(&builder, v.nodes, about, v.text_length, v.bytes);     /* a=1;x */
   sf_end_inner_list(&builder);
-  sf_put_copy(&builder, v.nodes + 6, about, v.text_length, v.bytes); /* z */
-  sf_put_copy(&builder, v.nodes, about, v.text_length, v.bytes);
-  WRITES(sf_write_built(&seed, SF_RFC9651, SF_DICT, &builder, buffer, size, required, &invalid),
+  put_copy(&builder, v.nodes + 6, about, v.text_length, v.bytes); /* z */
+  put_copy(&builder, v.nodes, about, v.text_length, v.bytes);
+  WRITES(write_built(&seed, SF_RFC9651, SF_DICT, &builder, buffer, size, required, &invalid),
          "b=(\"d\\\"\" 1;x);z, a=1;x");
   give_value(v);
 }
@@ -1376,15 +1377,15 @@ static void changing(void) {
   sf_set_number(nodes + 5, SF_DATE, 7);
   CHECK(nodes[0].size == 2 && nodes[5].key_length == 0 && nodes[5].size == 1);
 #define SET(node, type, value, length)                                                             \
-  sf_set_bytes(nodes + (node), type, value, length, text_length, bytes, 8, &sizes)
+  set_text(nodes + (node), type, value, length, text_length, bytes, 8, &sizes)
   sf_node before = nodes[0];
   CHECK(SET(0, SF_TOKEN, "longer", 6) == SF_SHORT && sizes.bytes == 3);
-  CHECK(sf_set_bytes(nodes, SF_TOKEN, "f", 1, UINT32_MAX - 2, bytes, 8, &sizes) == SF_TOO_LONG);
-  CHECK(sf_set_bytes(nodes, SF_TOKEN, "f", 1, SIZE_MAX, bytes, 8, &sizes) == SF_TOO_LONG);
+  CHECK(set_text(nodes, SF_TOKEN, "f", 1, UINT32_MAX - 2, bytes, 8, &sizes) == SF_TOO_LONG);
+  CHECK(set_text(nodes, SF_TOKEN, "f", 1, SIZE_MAX, bytes, 8, &sizes) == SF_TOO_LONG);
   CHECK(memcmp(&before, nodes, sizeof before) == 0 && sizes.bytes == 3);
   sf_node last = before; /* at the last offset that there is */
   sf_sizes last_sizes = sizes;
-  CHECK(sf_set_bytes(&last, SF_TOKEN, "f", 1, UINT32_MAX - 3, bytes, 8, &last_sizes) == SF_OK);
+  CHECK(set_text(&last, SF_TOKEN, "f", 1, UINT32_MAX - 3, bytes, 8, &last_sizes) == SF_OK);
   CHECK(last.text_at == UINT32_MAX && last.text_length == 1 && last_sizes.bytes == 4);
   CHECK(SET(0, SF_TOKEN, "fg/", 3) == SF_OK && sizes.bytes == 6);
   CHECK(SET(3, SF_STRING, NULL, 0) == SF_OK && sizes.bytes == 6);
@@ -1528,15 +1529,14 @@ static void broken_nodes(void) {
     uint32_t status;
     sf_node nodes[4];
     char bytes[16];
-    sf_builder builder = sf_build(nodes, 4, bytes, sizeof bytes);
+    sf_builder builder = sf_build(sf_nodes_of(nodes, 4), sf_buffer_of(bytes, sizeof bytes));
     size_t required = 4711, invalid = 4711;
     unsigned char out[16];
     memset(out, BUFFER_BYTE, sizeof out);
     sf_put_integer(&builder, NULL, 1);
-    sf_param(&builder, items[i].key, strlen(items[i].key), items[i].type, items[i].number,
-             items[i].text, sf_length(items[i].text));
-    CALL(sf_write_built(&seed, SF_RFC9651, SF_ITEM, &builder, out, sizeof out, &required,
-                        &invalid));
+    sf_param(&builder, sf_cstr(items[i].key), items[i].type, items[i].number,
+             sf_cstr(items[i].text));
+    CALL(write_built(&seed, SF_RFC9651, SF_ITEM, &builder, out, sizeof out, &required, &invalid));
     CHECK(status == SF_INVALID && invalid == 1 && required == 4711 && all_are(out, sizeof out));
   }
 
@@ -1546,21 +1546,21 @@ static void broken_nodes(void) {
   sf_node nodes[2];
   char bytes[8];
   size_t required = 4711, invalid = 4711;
-  sf_builder builder = sf_build(nodes, 2, bytes, sizeof bytes);
-  CALL(sf_write_built(&seed, SF_RFC9651, SF_ITEM, &builder, NULL, 0, &required, &invalid));
+  sf_builder builder = sf_build(sf_nodes_of(nodes, 2), sf_buffer_of(bytes, sizeof bytes));
+  CALL(write_built(&seed, SF_RFC9651, SF_ITEM, &builder, NULL, 0, &required, &invalid));
   CHECK(status == SF_INVALID && invalid == 0);
   sf_put_date(&builder, NULL, 1);
-  WRITES(sf_write_built(&seed, SF_RFC9651, SF_ITEM, &builder, buffer, size, required, &invalid),
+  WRITES(write_built(&seed, SF_RFC9651, SF_ITEM, &builder, buffer, size, required, &invalid),
          "@1");
-  WRITES(sf_write_built(&seed, SF_RFC9651, SF_LIST, &builder, buffer, size, required, &invalid),
+  WRITES(write_built(&seed, SF_RFC9651, SF_LIST, &builder, buffer, size, required, &invalid),
          "@1");
-  CALL(sf_write_built(&seed, SF_RFC9651, SF_DICT, &builder, NULL, 0, &required, &invalid));
+  CALL(write_built(&seed, SF_RFC9651, SF_DICT, &builder, NULL, 0, &required, &invalid));
   CHECK(status == SF_INVALID && invalid == 0);
-  CALL(sf_write_built(&seed, SF_RFC8941, SF_LIST, &builder, NULL, 0, &required, &invalid));
+  CALL(write_built(&seed, SF_RFC8941, SF_LIST, &builder, NULL, 0, &required, &invalid));
   CHECK(status == SF_INVALID && invalid == 0);
   sf_put_date(&builder, NULL, 2);
   invalid = 4711; /* an Item of two nodes begins with one of this size */
-  CALL(sf_write_built(&seed, SF_RFC9651, SF_ITEM, &builder, NULL, 0, &required, &invalid));
+  CALL(write_built(&seed, SF_RFC9651, SF_ITEM, &builder, NULL, 0, &required, &invalid));
   CHECK(status == SF_INVALID && invalid == 0);
 }
 
@@ -2521,7 +2521,7 @@ static void excerpts(void) {
     char message[160];
     sprintf(message, "byte 0x32 '2' at place %d, expected a space or the end%s",
             (int)rows[i].offset, rows[i].shown);
-    WRITES(sf_refusal_excerpt(&refusal, text, length, rows[i].most, buffer, size, required),
+    WRITES(show_excerpt(&refusal, text, length, rows[i].most, buffer, size, required),
            message);
     CHECK(strlen(message) <= SF_REFUSAL_EXCERPT_SIZE(rows[i].most));
     give_buffer(text);
@@ -2533,7 +2533,7 @@ static void excerpts(void) {
     stop("no memory");
   memset(text, 'x', length);
   sf_refusal refusal = {1 << 19, 1, 0, 'x', 0};
-  CALL(sf_refusal_excerpt(&refusal, text, length, 16, buffer, sizeof buffer, &required));
+  CALL(show_excerpt(&refusal, text, length, 16, buffer, sizeof buffer, &required));
   CHECK(status == SF_OK && required <= sizeof buffer && peak <= SF_MEMORY_SIZE(0));
   CHECK(memcmp(buffer + required - 27, "\nxxxxxxxxxxxxxxxx\n        ^", 27) == 0);
   free(text);
@@ -3002,7 +3002,7 @@ static void want_of_memory(void) {
   sf_node few_nodes[16];
   char few_bytes[64];
   size_t invalid = 4711;
-  sf_builder builder = sf_build(few_nodes, 16, few_bytes, sizeof few_bytes);
+  sf_builder builder = sf_build(sf_nodes_of(few_nodes, 16), sf_buffer_of(few_bytes, sizeof few_bytes));
   sf_begin_inner_list(&builder, "sig1");
   sf_put_string(&builder, NULL, "@method");
   sf_put_string(&builder, NULL, "@path");
@@ -3011,7 +3011,7 @@ static void want_of_memory(void) {
   sf_param_string(&builder, "keyid", "k");
   static const char built_text[] = "sig1=(\"@method\" \"@path\");created=1;keyid=\"k\"";
   EACH_REFUSAL((memset(buffer, 0xa5, sizeof buffer), required = 4711,
-                sf_write_built(&seed, SF_RFC9651, SF_DICT, &builder, buffer, sizeof buffer,
+                write_built(&seed, SF_RFC9651, SF_DICT, &builder, buffer, sizeof buffer,
                                &required, &invalid)),
                required == sizeof built_text - 1 && memcmp(buffer, built_text, required) == 0 &&
                    all_are(buffer + required, sizeof buffer - required),
@@ -3242,9 +3242,9 @@ static void too_long(void) {
   CALL(sf_parse(&seed, SF_RFC9651, SF_ITEM, text, length, &node, 1, &byte, 1, &sizes, &refusal));
   CHECK(status == SF_TOO_LONG && sizes.nodes == 4711 && sizes.bytes == 4712);
   CHECK(is_untouched(&refusal));
-  sf_builder builder = sf_build(&node, 1, &byte, length);
-  sf_put(&builder, NULL, 0, SF_TOKEN, 0, text, length);
-  CHECK(builder.status == SF_TOO_LONG && builder.nodes_length == 0);
+  sf_builder builder = sf_build(sf_nodes_of(&node, 1), sf_buffer_of(&byte, length));
+  sf_put(&builder, sf_cstr(NULL), SF_TOKEN, 0, sf_text_of(text, length));
+  CHECK(builder.status == SF_TOO_LONG && builder.nodes.length == 0);
   munmap(text, length);
 }
 
@@ -3279,7 +3279,7 @@ static void nearly_too_long(void) {
   CALL(sf_parse(&seed, SF_RFC9651, SF_ITEM, text, length, &node, 1, &byte, 1, &sizes, &refusal));
   CHECK(status == SF_OK && sizes.nodes == 1 && sizes.bytes == 1 && byte == 'a');
   CHECK(node.text_at == UINT32_MAX && node.text_length == 1 && node.type == SF_BYTE_SEQUENCE);
-  CHECK(sf_bytes(&node, text, length, &byte) == &byte && is_untouched(&refusal));
+  CHECK(node_text(&node, text, length, &byte) == &byte && is_untouched(&refusal));
   munmap(text, whole);
   fclose(file);
 }

@@ -43,7 +43,7 @@ typedef struct {
   sf_decision decision;
 } sf_target;
 
-static sf_seed seed; /* of this worker */
+static sf_context fields; /* of this worker */
 
 ngx_module_t ngx_http_sf_module;
 
@@ -62,37 +62,37 @@ static ngx_table_elt_t *next_line(const ngx_str_t *name, const ngx_list_part_t *
   return NULL;
 }
 
-/* The lines of a field, joined. Of a field without lines the text is empty. */
+/* The lines of a field, joined, without the white space around their values. Of a field without lines
+ * the text is empty. */
 static ngx_int_t join_lines(ngx_http_request_t *r, const ngx_list_t *headers, const ngx_str_t *name,
-                            ngx_str_t *text) {
+                            sf_text *text) {
   const ngx_list_part_t *part = &headers->part;
   ngx_uint_t at = 0;
   size_t size = 0;
   ngx_table_elt_t *line;
   while ((line = next_line(name, &part, &at)) != NULL)
     size += line->value.len + 2;
-  ngx_str_null(text);
+  *text = sf_text_of(NULL, 0);
   if (size == 0)
     return NGX_OK;
-  text->data = ngx_pnalloc(r->pool, size);
-  if (text->data == NULL)
+  sf_lines lines = sf_lines_in(sf_buffer_of(ngx_pnalloc(r->pool, size), size));
+  if (lines.buffer.at == NULL)
     return NGX_ERROR;
-  sf_joined joined = {0, 0, 0};
   part = &headers->part;
   at = 0;
   while ((line = next_line(name, &part, &at)) != NULL)
-    if (sf_join(line->value.data, line->value.len, text->data, size, &joined) != SF_OK)
+    if (sf_add_line(&lines, sf_trim(line->value.data, line->value.len)) != SF_OK)
       return NGX_ERROR;
-  text->len = joined.length;
+  *text = sf_joined_text(&lines);
   return NGX_OK;
 }
 
 /* Whether reading a field may go on after this status. */
 static ngx_int_t passed(ngx_http_request_t *r, uint32_t status, const ngx_str_t *name,
-                        const ngx_str_t *text, const sf_refusal *refusal) {
+                        sf_text text) {
   if (status == SF_REFUSED)
-    ngx_log_error(NGX_LOG_INFO, r->connection->log, 0, "%V is malformed at byte %uL: \"%V\"", name,
-                  refusal->offset, text);
+    ngx_log_error(NGX_LOG_INFO, r->connection->log, 0, "%V is malformed at byte %uL: \"%*s\"", name,
+                  fields.refusal.offset, text.length, text.at);
   return status == SF_NO_MEMORY ? NGX_ERROR : NGX_OK;
 }
 
@@ -100,19 +100,16 @@ static ngx_int_t read_priority(ngx_http_request_t *r, sf_priority_flags *merged)
   static const ngx_str_t name = ngx_string("Priority");
   sf_priority_flags asked = SF_PRIORITY_UNSET;
   sf_response_priority_flags answered = {0, 0, 0, 0};
-  ngx_str_t text;
-  sf_refusal refusal;
+  sf_text text;
   if (join_lines(r, &r->headers_in.headers, &name, &text) != NGX_OK)
     return NGX_ERROR;
-  uint32_t status = sf_priority_in(&seed, SF_RFC8941, text.data, text.len, &asked, &refusal);
-  if (passed(r, status, &name, &text, &refusal) != NGX_OK)
+  if (passed(r, sf_read_priority(&fields, text, &asked), &name, text) != NGX_OK)
     return NGX_ERROR;
   if (join_lines(r, &r->headers_out.headers, &name, &text) != NGX_OK)
     return NGX_ERROR;
-  status = sf_response_priority(&seed, SF_RFC8941, text.data, text.len, &answered, &refusal);
-  if (passed(r, status, &name, &text, &refusal) != NGX_OK)
+  if (passed(r, sf_read_response_priority(&fields, text, &answered), &name, text) != NGX_OK)
     return NGX_ERROR;
-  *merged = sf_priority_merge(&asked, &answered);
+  *merged = sf_merge_priority(asked, answered);
   return NGX_OK;
 }
 
@@ -155,19 +152,18 @@ static ngx_int_t read_targets(ngx_http_request_t *r, sf_target *target) {
     return NGX_OK;
   const ngx_str_t *names = settings->names->elts;
   for (ngx_uint_t i = 0; i < settings->names->nelts; ++i) {
-    ngx_str_t text;
+    sf_text text;
     if (join_lines(r, &r->headers_out.headers, &names[i], &text) != NGX_OK)
       return NGX_ERROR;
-    sf_refusal refusal;
     sf_rules rules;
-    uint32_t status = sf_cache_rules(&seed, SF_RFC8941, text.data, text.len, &rules, &refusal);
+    uint32_t status = sf_read_rules(&fields, text, &rules);
     if (status == SF_OK) {
       sf_response response = {.age = age_of(r)};
       target->name = names[i];
       status = sf_decide(&rules, SF_SHARED_CACHE, &response, &target->decision);
       return status == SF_OK ? NGX_OK : NGX_ERROR;
     }
-    if (passed(r, status, &names[i], &text, &refusal) != NGX_OK)
+    if (passed(r, status, &names[i], text) != NGX_OK)
       return NGX_ERROR;
   }
   return NGX_OK;
@@ -249,9 +245,17 @@ static ngx_int_t get_cause(ngx_http_request_t *r, ngx_http_variable_value_t *val
   return set_text(value, (u_char *)name, ngx_strlen(name));
 }
 
+/* A hop of this cache that says nothing yet. Its name is a String. */
+static sf_own_hop own_hop(const ngx_str_t *cache) {
+  return (sf_own_hop){.hop.name.length = cache->len, .bytes = sf_text_of(cache->data, cache->len)};
+}
+
 /* What this cache did with the request, by nginx's own account. */
-static sf_hop hop_of(ngx_http_request_t *r, const ngx_str_t *cache) {
-  sf_hop hop = {.name = {0, cache->len}, .outcome = SF_FORWARDED, .why = SF_BYPASS};
+static sf_own_hop hop_of(ngx_http_request_t *r, const ngx_str_t *cache) {
+  sf_own_hop own = own_hop(cache);
+  sf_hop *hop = &own.hop;
+  hop->outcome = SF_FORWARDED;
+  hop->why = SF_BYPASS;
   ngx_http_upstream_t *upstream = r->upstream;
   ngx_uint_t status = upstream->headers_in.status_n;
 #if (NGX_HTTP_CACHE)
@@ -259,53 +263,50 @@ static sf_hop hop_of(ngx_http_request_t *r, const ngx_str_t *cache) {
   case NGX_HTTP_CACHE_HIT:
   case NGX_HTTP_CACHE_STALE:
   case NGX_HTTP_CACHE_UPDATING:
-    hop.outcome = SF_HIT;
-    hop.has_ttl = r->cache->valid_sec != 0; /* it is 0 after an error of the upstream server */
-    hop.ttl = hop.has_ttl ? (int64_t)r->cache->valid_sec - (int64_t)ngx_time() : 0;
-    return hop;
+    hop->outcome = SF_HIT;
+    hop->has_ttl = r->cache->valid_sec != 0; /* it is 0 after an error of the upstream server */
+    hop->ttl = hop->has_ttl ? (int64_t)r->cache->valid_sec - (int64_t)ngx_time() : 0;
+    return own;
   case NGX_HTTP_CACHE_REVALIDATED:
     status = NGX_HTTP_NOT_MODIFIED;
     /* fall through */
   case NGX_HTTP_CACHE_EXPIRED:
-    hop.why = SF_STALE;
+    hop->why = SF_STALE;
     break;
   case NGX_HTTP_CACHE_MISS:
   case NGX_HTTP_CACHE_SCARCE:
-    hop.why = SF_MISS;
+    hop->why = SF_MISS;
     break;
   default: /* bypassed, or no cache is set */
     break;
   }
 #endif
   if (status >= SF_FWD_STATUS_MIN && status <= SF_FWD_STATUS_MAX) {
-    hop.has_status = 1;
-    hop.status = (uint16_t)status;
+    hop->has_status = 1;
+    hop->status = (uint16_t)status;
   }
-  return hop;
+  return own;
 }
 
 static ngx_http_output_header_filter_pt next_header_filter;
 
 /* The text of the field that came with this cache's hop at its end, or of the hop alone if what came is
  * malformed. */
-static ngx_int_t append_hop(ngx_http_request_t *r, const sf_hop *hop, const ngx_str_t *cache,
-                            const ngx_str_t *came, ngx_str_t *text) {
+static ngx_int_t append_hop(ngx_http_request_t *r, const sf_own_hop *own, sf_text came,
+                            ngx_str_t *text) {
   static const ngx_str_t name = ngx_string("Cache-Status");
-  sf_refusal refusal;
-  ngx_str_t kept = *came;
-  for (;;) {
-    uint32_t status = sf_cache_status_append(&seed, SF_RFC8941, kept.data, kept.len, hop, cache->data,
-                                             cache->len, text->data, text->len, &text->len, &refusal);
-    if (status == SF_OK)
-      return NGX_OK;
-    if (passed(r, status, &name, &kept, &refusal) != NGX_OK)
-      return NGX_ERROR;
-    if (status == SF_REFUSED) {
-      ngx_str_null(&kept);
-    } else if (status != SF_SHORT || (text->data = ngx_pnalloc(r->pool, text->len)) == NULL) {
-      return NGX_ERROR;
-    }
-  }
+  size_t size = SF_APPENDED_SIZE(came.length, own->bytes.length);
+  sf_buffer out = sf_buffer_of(ngx_pnalloc(r->pool, size), size);
+  if (out.at == NULL)
+    return NGX_ERROR;
+  uint32_t status = sf_append_hop(&fields, came, own, &out);
+  if (passed(r, status, &name, came) != NGX_OK)
+    return NGX_ERROR;
+  if (status == SF_REFUSED)
+    status = sf_write_hop(&fields, own, &out);
+  text->data = (u_char *)out.at;
+  text->len = out.length;
+  return status == SF_OK ? NGX_OK : NGX_ERROR;
 }
 
 /* Puts this cache's hop into the field, which then has one line. A response that nginx generates itself,
@@ -315,10 +316,11 @@ static ngx_int_t add_hop(ngx_http_request_t *r) {
   const sf_settings *settings = ngx_http_get_module_loc_conf(r, ngx_http_sf_module);
   if (settings->cache.data == NULL || r->err_status != 0)
     return NGX_OK;
-  sf_hop hop = hop_of(r, &settings->cache);
-  ngx_str_t came, text = ngx_null_string;
+  sf_own_hop own = hop_of(r, &settings->cache);
+  sf_text came;
+  ngx_str_t text;
   if (join_lines(r, &r->headers_out.headers, &name, &came) != NGX_OK ||
-      append_hop(r, &hop, &settings->cache, &came, &text) != NGX_OK)
+      append_hop(r, &own, came, &text) != NGX_OK)
     return NGX_ERROR;
   const ngx_list_part_t *part = &r->headers_out.headers.part;
   ngx_uint_t at = 0;
@@ -449,18 +451,19 @@ static char *set_cache_name(ngx_conf_t *conf, ngx_command_t *command, void *at) 
   char *result = ngx_conf_set_str_slot(conf, command, at);
   if (result != NGX_CONF_OK)
     return result;
-  static const sf_seed zeros;
-  sf_hop hop = {.name = {0, settings->cache.len}};
-  size_t size;
-  uint32_t status =
-      sf_hop_text(&zeros, &hop, settings->cache.data, settings->cache.len, NULL, 0, &size);
-  return status == SF_SHORT ? NGX_CONF_OK : "needs a name of printable ASCII characters";
+  sf_own_hop own = own_hop(&settings->cache);
+  sf_buffer out = sf_buffer_of(NULL, 0);
+  return sf_write_hop(&fields, &own, &out) == SF_SHORT ? NGX_CONF_OK
+                                                       : "needs a name of printable ASCII characters";
 }
 
 /* Each worker has a seed of its own, which clients can't predict. */
 static ngx_int_t init_worker(ngx_cycle_t *cycle) {
-  if (getrandom(&seed, sizeof seed, 0) == (ssize_t)sizeof seed)
+  sf_seed seed;
+  if (getrandom(&seed, sizeof seed, 0) == (ssize_t)sizeof seed) {
+    fields = sf_context_of(seed, SF_RFC8941); /* that the RFCs of the fields cite */
     return NGX_OK;
+  }
   ngx_log_error(NGX_LOG_EMERG, cycle->log, ngx_errno, "getrandom() failed");
   return NGX_ERROR;
 }

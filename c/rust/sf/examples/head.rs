@@ -13,7 +13,7 @@ fn field(heads: &str, side: char, name: &str) -> Result<Vec<u8>, Error> {
     sf::join(heads.lines().filter_map(|line| {
         let (found, value) = line.strip_prefix(side)?.split_once(':')?;
         let is_it = found.trim().eq_ignore_ascii_case(name);
-        is_it.then(|| value.trim_matches([' ', '\t'].as_slice()))
+        is_it.then(|| sf::trim(value))
     }))
 }
 

@@ -3,8 +3,7 @@
 //! response. Left out: method, status code, `Authorization`, `Vary`, the time since the request.
 
 use sf::{
-    Cache, Dialect, Error, Forward, Forwarded, Hop, Parser, Priority, Response, ResponsePriority,
-    Reuse, RulesChoice, TokenRef,
+    Cache, Dialect, Error, Forward, Forwarded, Hop, Parser, Response, Reuse, RulesChoice, TokenRef,
 };
 use std::io::{self, BufRead};
 use std::num::IntErrorKind;
@@ -21,18 +20,19 @@ fn main() -> Result<(), Box<dyn std::error::Error>> {
     let field = |side: char, name: &str| {
         sf::join(lines.iter().filter_map(|line| {
             let (found, value) = line.strip_prefix(side)?.split_once(':')?;
-            (found.trim().eq_ignore_ascii_case(name)).then(|| value.trim())
+            (found.trim().eq_ignore_ascii_case(name)).then(|| sf::trim(value))
         }))
     };
 
-    let asked = Priority::parse(field('>', "Priority")?).or_else(Error::as_absent)?;
-    let answered = ResponsePriority::parse(field('<', "Priority")?).or_else(Error::as_absent)?;
-    let both = asked.merged_with(answered);
+    // The RFCs of these fields cite RFC 8941, and have no field of a newer type.
+    let parser = Parser::new().with_dialect(Dialect::Rfc8941);
+    let asked = parser.priority(field('>', "Priority")?);
+    let answered = parser.response_priority(field('<', "Priority")?);
+    let answered = answered.or_else(Error::as_absent)?;
+    let both = asked.or_else(Error::as_absent)?.merged_with(answered);
     let how = ["", ", incremental"][usize::from(both.incremental())];
     println!("urgency {}{how}", both.urgency());
 
-    // RFC 9213 cites RFC 8941, and has a field of no newer type.
-    let parser = Parser::new().with_dialect(Dialect::Rfc8941);
     let targets = TARGET_LIST.map(|name| field('<', name));
     let targets: Vec<_> = targets.into_iter().collect::<Result<_, _>>()?;
     let cache = [Cache::Shared, Cache::Private][usize::from(has_word("private"))];

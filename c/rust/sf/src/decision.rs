@@ -27,6 +27,7 @@ pub struct CacheRules {
     /// The directives of a policy.
     pub policy: Policy,
     /// `max-age` is present, but is not a number of seconds: the response is stale (section 4.2.1).
+    /// [`Policy::max_age`] has no effect then.
     pub invalid_max_age: bool,
     /// `s-maxage` is present, but is not a number of seconds: in a shared cache the response is
     /// stale (section 4.2.1).
@@ -133,7 +134,7 @@ pub struct Decision {
     pub reuse: Reuse,
     /// The directive that decided; `None` if there is none.
     pub by: Option<Cause>,
-    /// Whether a directive permits to store it, whatever its status code (RFC 9111 section 3).
+    /// Whether a directive permits storing it, whatever its status code (RFC 9111 section 3).
     /// [`Reuse::NotStored`] forbids it all the same.
     pub allows_storing: bool,
     /// Whether a directive permits a shared cache to store it, though the request had
@@ -216,7 +217,7 @@ fn cause_of(by: u8) -> Option<Cause> {
 
 impl Decision {
     /// Whether the response may be stored, as far as the directives say: it is not
-    /// [`Reuse::NotStored`], and a directive sets a lifetime or permits to store it (RFC 9111
+    /// [`Reuse::NotStored`], and a directive sets a lifetime or permits storing it (RFC 9111
     /// section 3).
     ///
     /// ```
@@ -303,6 +304,40 @@ impl CacheRules {
                 allows_authorized: false,
             },
         }
+    }
+}
+
+/// The directives that are set, as the text of a targeted field. A lifetime that is not a number of
+/// seconds is the Token `invalid`.
+///
+/// ```
+/// let rules: sf::CacheRules = "public, max-age=1.5, no-store, x".parse().unwrap();
+/// assert_eq!(rules.to_string(), "no-store, max-age=invalid, public");
+/// assert_eq!(rules.to_string().parse(), Ok(rules));
+/// ```
+#[cfg(feature = "std")]
+impl fmt::Display for CacheRules {
+    fn fmt(&self, f: &mut fmt::Formatter<'_>) -> fmt::Result {
+        let mut field = self.policy.to_dictionary().map_err(|_| fmt::Error)?;
+        for (name, is_invalid) in [
+            ("max-age", self.invalid_max_age),
+            ("s-maxage", self.invalid_s_maxage),
+        ] {
+            if is_invalid {
+                let invalid = crate::TokenRef::constant("invalid");
+                field.insert(name, invalid).map_err(|_| fmt::Error)?;
+            }
+        }
+        for (name, is_set) in [
+            ("proxy-revalidate", self.proxy_revalidate),
+            ("must-understand", self.must_understand),
+            ("public", self.is_public),
+        ] {
+            if is_set {
+                field.insert(name, true).map_err(|_| fmt::Error)?;
+            }
+        }
+        field.fmt(f)
     }
 }
 

@@ -210,7 +210,11 @@ pub(crate) fn write(
     fit(status, required, required > length, &NO_REFUSAL)
 }
 
-pub(crate) fn priority(seed: &Seed, text: &[u8]) -> Result<raw::PriorityFlags, Error> {
+pub(crate) fn priority(
+    seed: &Seed,
+    dialect: Dialect,
+    text: &[u8],
+) -> Result<raw::PriorityFlags, Error> {
     let mut refusal = NO_REFUSAL;
     let mut flags = raw::PriorityFlags {
         urgency: 3,
@@ -219,8 +223,9 @@ pub(crate) fn priority(seed: &Seed, text: &[u8]) -> Result<raw::PriorityFlags, E
         has_incremental: 0,
     };
     let status = unsafe {
-        raw::sf_priority(
+        raw::sf_priority_in(
             &seed.bytes,
+            dialect as u32,
             start(text),
             text.len(),
             &mut flags,
@@ -423,6 +428,7 @@ pub(crate) fn lifetime(policy: &raw::Policy, shared: bool) -> Option<u64> {
 #[cfg(feature = "alloc")]
 pub(crate) fn cache_status(
     seed: &Seed,
+    dialect: Dialect,
     text: &[u8],
     hops: &mut [raw::Hop],
     bytes: &mut [u8],
@@ -437,8 +443,9 @@ pub(crate) fn cache_status(
     };
     let capacities = (hops.len(), bytes.len());
     let status = unsafe {
-        raw::sf_cache_status(
+        raw::sf_cache_status_in(
             &seed.bytes,
+            dialect as u32,
             start(text),
             text.len(),
             hops.as_mut_ptr(),

@@ -1,8 +1,8 @@
 //! Fields in and out of a `HeaderMap` of the crate `http`.
 
 use crate::{
-    join, CacheRules, Choice, Dictionary, Error, FieldType, Hop, Item, List, Parser, Path, Policy,
-    Priority, ResponsePriority, RulesChoice,
+    join, trim, CacheRules, Choice, Dictionary, Error, FieldType, Hop, Item, List, Parser, Path,
+    Policy, Priority, ResponsePriority, RulesChoice,
 };
 use alloc::string::String;
 use alloc::vec::Vec;
@@ -12,9 +12,9 @@ use http::header::{AsHeaderName, HeaderMap, HeaderName, HeaderValue};
 const CACHE_STATUS: &str = "cache-status";
 const PRIORITY: &str = "priority";
 
-/// The lines of a field, joined; empty if the head does not have the field.
+/// The lines of a field, trimmed and joined; empty if the head does not have the field.
 fn text_of(headers: &HeaderMap, name: impl AsHeaderName) -> Result<Vec<u8>, Error> {
-    join(headers.get_all(name))
+    join(headers.get_all(name).iter().map(trim))
 }
 
 /// A text of the library, which has visible characters of ASCII and spaces alone.
@@ -43,7 +43,8 @@ impl Parser {
     ///
     /// # Errors
     ///
-    /// [`Error::Refused`] if it is malformed; its offset is one in the joined lines.
+    /// [`Error::Refused`] if it is malformed; its offset is one in the lines, without the white
+    /// space around each, joined.
     ///
     /// ```
     /// use http::{HeaderMap, HeaderValue};
@@ -189,6 +190,23 @@ impl ResponsePriority {
     /// ```
     pub fn from_headers(headers: &HeaderMap) -> Result<ResponsePriority, Error> {
         ResponsePriority::parse(text_of(headers, PRIORITY)?)
+    }
+
+    /// Puts what this priority sets, and nothing else, into the Priority field of the head of a
+    /// response. If nothing is set, the head has no such field then.
+    ///
+    /// # Errors
+    ///
+    /// [`Error::OutOfMemory`] only.
+    ///
+    /// ```
+    /// let mut headers = http::HeaderMap::new();
+    /// let response: sf::ResponsePriority = "u=3, i=?0".parse().unwrap();
+    /// response.put_into_headers(&mut headers).unwrap();
+    /// assert_eq!(headers["priority"], "u=3, i=?0");
+    /// ```
+    pub fn put_into_headers(self, headers: &mut HeaderMap) -> Result<(), Error> {
+        put(headers, HeaderName::from_static(PRIORITY), self.serialize())
     }
 }
 

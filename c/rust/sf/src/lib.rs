@@ -69,7 +69,7 @@ pub use event::{Event, Events};
 pub use hop::{Forward, Forwarded, FwdStatus, Hop, Name, Outcome};
 pub use kind::{Dialect, Kind};
 pub use number::{Decimal, Integer};
-pub use parser::Parser;
+pub use parser::{trim, Parser};
 pub use policy::{Choice, Policy, Seconds};
 pub use priority::{Priority, ResponsePriority, Urgency};
 pub use seed::Seed;

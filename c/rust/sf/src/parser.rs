@@ -390,6 +390,26 @@ mod owned {
 #[cfg(feature = "alloc")]
 pub use owned::join;
 
+/// A field line's value without the spaces and tabs around it, which are no part of it (RFC 9110
+/// section 5.5). What reads a text accepts spaces there, but refuses a tab at the beginning, and one
+/// after an Item (RFC 9651 section 4.2).
+///
+/// ```
+/// assert_eq!(sf::trim(" \tu=1, i\t"), b"u=1, i");
+/// assert!(sf::Parser::seeded(sf::Seed::from_bytes([0; 16])).check(sf::Kind::Dict, "\tu=1").is_err());
+/// ```
+#[must_use]
+pub fn trim<T: AsRef<[u8]> + ?Sized>(line: &T) -> &[u8] {
+    let mut rest = line.as_ref();
+    while let [b' ' | b'\t', shorter @ ..] = rest {
+        rest = shorter;
+    }
+    while let [shorter @ .., b' ' | b'\t'] = rest {
+        rest = shorter;
+    }
+    rest
+}
+
 /// Checks whether a text is a well-formed field of the kind, by RFC 9651: see [`Parser::check`].
 ///
 /// # Errors

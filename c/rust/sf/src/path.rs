@@ -1,7 +1,9 @@
 use crate::buffer::resize;
 use crate::ffi::{self, Fit};
 use crate::hop_text::NO_HOP;
-use crate::{Error, Forward, Forwarded, FwdStatus, Hop, Integer, Name, Outcome, Parser, Seed};
+use crate::{
+    Dialect, Error, Forward, Forwarded, FwdStatus, Hop, Integer, Name, Outcome, Parser, Seed,
+};
 use crate::{StringRef, TokenRef};
 use alloc::string::String;
 use alloc::vec::Vec;
@@ -58,14 +60,14 @@ impl Path {
         Parser::new().path(text)
     }
 
-    fn read(seed: &Seed, text: &[u8]) -> Result<Path, Error> {
+    fn read(seed: &Seed, dialect: Dialect, text: &[u8]) -> Result<Path, Error> {
         let mut hops = Vec::new();
         let mut bytes = Vec::new();
         // Most paths have fewer hops and bytes; with more of them the text is parsed twice.
         resize(&mut hops, text.len() / 16 + 1, NO_HOP)?;
         resize(&mut bytes, text.len(), 0)?;
         loop {
-            match ffi::cache_status(seed, text, &mut hops, &mut bytes)? {
+            match ffi::cache_status(seed, dialect, text, &mut hops, &mut bytes)? {
                 Fit::Written(sizes) => {
                     hops.truncate(sizes.hops);
                     bytes.truncate(sizes.bytes);
@@ -167,8 +169,8 @@ impl Path {
 }
 
 impl Parser {
-    /// Reads the text of a Cache-Status field, by RFC 9651 whatever the dialect: see
-    /// [`Path::parse`].
+    /// Reads the text of a Cache-Status field, by the dialect of the parser: see [`Path::parse`].
+    /// RFC 9211 cites RFC 8941.
     ///
     /// # Errors
     ///
@@ -177,9 +179,11 @@ impl Parser {
     ///
     /// ```
     /// assert_eq!(sf::Parser::new().path("origin;fwd=miss, edge;hit").unwrap().served_by(), Some(1));
+    /// let old = sf::Parser::new().with_dialect(sf::Dialect::Rfc8941);
+    /// assert!(old.path("a;hit;x=@1").is_err());
     /// ```
     pub fn path(&self, text: impl AsRef<[u8]>) -> Result<Path, Error> {
-        Path::read(&self.seed(), text.as_ref())
+        Path::read(&self.seed(), self.dialect(), text.as_ref())
     }
 }
 

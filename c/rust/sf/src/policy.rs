@@ -205,7 +205,7 @@ impl Policy {
 
     /// The directives that are set, by their names.
     #[cfg(feature = "std")]
-    fn to_dictionary(self) -> Result<crate::Dictionary, Error> {
+    pub(crate) fn to_dictionary(self) -> Result<crate::Dictionary, Error> {
         let mut field = crate::Dictionary::new();
         for (name, seconds) in [("max-age", self.max_age), ("s-maxage", self.s_maxage)] {
             if let Some(seconds) = seconds {

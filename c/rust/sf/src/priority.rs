@@ -342,8 +342,8 @@ impl Parser {
             .map(ResponsePriority::from)
     }
 
-    /// Reads the text of a Priority field, by RFC 9651 whatever the dialect: see
-    /// [`Priority::parse`].
+    /// Reads the text of a Priority field, by the dialect of the parser: see [`Priority::parse`].
+    /// RFC 9218 cites RFC 8941.
     ///
     /// # Errors
     ///
@@ -351,9 +351,11 @@ impl Parser {
     ///
     /// ```
     /// assert_eq!(sf::Parser::new().priority("u=1").unwrap().urgency().get(), 1);
+    /// let old = sf::Parser::new().with_dialect(sf::Dialect::Rfc8941);
+    /// assert!(old.priority("u=1, x=@1").is_err());
     /// ```
     pub fn priority(&self, text: impl AsRef<[u8]>) -> Result<Priority, Error> {
-        ffi::priority(&self.seed(), text.as_ref()).map(Priority::from)
+        ffi::priority(&self.seed(), self.dialect(), text.as_ref()).map(Priority::from)
     }
 
     /// Puts what a priority sets into the text of a Priority field, by RFC 9651 whatever the

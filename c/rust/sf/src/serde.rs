@@ -2,8 +2,9 @@
 //! reads. Of numbers that have a range, and not more, it is the number.
 
 use crate::{
-    BareItem, Date, Decimal, Dictionary, FwdStatus, InnerList, Integer, Item, Key, List, ListEntry,
-    Parameters, Path, Policy, Priority, Seconds, String, Token, Urgency,
+    BareItem, CacheRules, Date, Decimal, Dictionary, FwdStatus, InnerList, Integer, Item, Key,
+    List, ListEntry, Parameters, Path, Policy, Priority, ResponsePriority, Seconds, String, Token,
+    Urgency,
 };
 use core::fmt;
 use core::marker::PhantomData;
@@ -52,23 +53,31 @@ macro_rules! as_text {
 
 as_text!(Item List Dictionary ListEntry InnerList BareItem Parameters);
 as_text!(Key String Token Decimal Date);
-as_text!(Priority Path);
+as_text!(Priority ResponsePriority Path);
 
-// A policy without directives has an empty text, which a cache ignores; here it is that policy.
-impl Serialize for Policy {
-    fn serialize<S: Serializer>(&self, serializer: S) -> Result<S::Ok, S::Error> {
-        serializer.collect_str(self)
-    }
+// Without directives their text is empty, which a cache ignores; here it is no directives.
+macro_rules! as_directives {
+    ($($name:ty)*) => {
+        $(
+            impl Serialize for $name {
+                fn serialize<S: Serializer>(&self, serializer: S) -> Result<S::Ok, S::Error> {
+                    serializer.collect_str(self)
+                }
+            }
+
+            impl<'de> Deserialize<'de> for $name {
+                fn deserialize<D: Deserializer<'de>>(deserializer: D) -> Result<$name, D::Error> {
+                    let field: Dictionary = deserializer.deserialize_str(Text(PhantomData))?;
+                    let text = field.serialize().map_err(D::Error::custom)?;
+                    let read = <$name>::parse(text).map_err(D::Error::custom)?;
+                    Ok(read.unwrap_or_default())
+                }
+            }
+        )*
+    };
 }
 
-impl<'de> Deserialize<'de> for Policy {
-    fn deserialize<D: Deserializer<'de>>(deserializer: D) -> Result<Policy, D::Error> {
-        let field: Dictionary = deserializer.deserialize_str(Text(PhantomData))?;
-        let text = field.serialize().map_err(D::Error::custom)?;
-        let policy = Policy::parse(text).map_err(D::Error::custom)?;
-        Ok(policy.unwrap_or_default())
-    }
-}
+as_directives!(Policy CacheRules);
 
 macro_rules! as_number {
     ($($name:ident: $number:ty;)*) => {

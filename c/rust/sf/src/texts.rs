@@ -4,9 +4,9 @@
 use crate::ffi::Rules;
 use crate::nodes::Nodes;
 use crate::{
-    BareItem, Date, Decimal, Dictionary, Error, FwdStatus, GenericBareItem, InnerList, Integer,
-    Item, Kind, List, ListEntry, Parameters, Parser, Path, Policy, Priority, ResponsePriority,
-    Seconds, Urgency,
+    BareItem, CacheRules, Date, Decimal, Dictionary, Error, FwdStatus, GenericBareItem, InnerList,
+    Integer, Item, Kind, List, ListEntry, Parameters, Parser, Path, Policy, Priority,
+    ResponsePriority, Seconds, Urgency,
 };
 use alloc::string::String;
 use core::fmt;
@@ -53,6 +53,9 @@ read!(ResponsePriority, |text| Parser::new()
     .response_priority(text));
 read!(Policy, |text| Parser::new()
     .policy(text)?
+    .ok_or(Error::Empty));
+read!(CacheRules, |text| Parser::new()
+    .cache_rules(text)?
     .ok_or(Error::Empty));
 read!(Path, |text| Parser::new().path(text));
 

@@ -2,8 +2,9 @@
 //! numbers and times as values.
 
 use sf::{
-    BareItem, Date, Decimal, Dictionary, Error, FwdStatus, GenericBareItem, InnerList, Integer,
-    Item, Key, KeyRef, List, ListEntry, Parameters, Refusal, Seconds, StringRef, Token, TokenRef,
+    BareItem, Cache, CacheRules, Cause, Date, Decimal, Dictionary, Error, FwdStatus,
+    GenericBareItem, InnerList, Integer, Item, Key, KeyRef, List, ListEntry, Parameters, Path,
+    Policy, Priority, Refusal, Response, ResponsePriority, Seconds, StringRef, Token, TokenRef,
     Urgency,
 };
 use std::fmt::{Debug, Display};
@@ -365,4 +366,28 @@ fn keys_are_looked_up() {
 fn an_absent_key_is_no_index() {
     let dict: Dictionary = "u=1".parse().unwrap();
     let _ = &dict["i"];
+}
+
+// What the three fields say is read and written likewise.
+#[test]
+fn what_fields_say_is_read_and_written() {
+    assert_eq!(of(written::<Priority>("x, u=5,i")), "u=5, i");
+    assert_eq!(of(written::<ResponsePriority>("i=?0, u=3")), "u=3, i=?0");
+    assert_eq!(of(written::<Policy>("x, max-age=060")), "max-age=60");
+    assert_eq!(
+        of(written::<CacheRules>("public, max-age=a, x, s-maxage=1")),
+        "s-maxage=1, max-age=invalid, public"
+    );
+    let all = "must-revalidate, no-store, no-cache, private, max-age=invalid, s-maxage=invalid, \
+               proxy-revalidate, must-understand, public";
+    assert_eq!(of(written::<CacheRules>(all)), all);
+    assert_eq!(written::<CacheRules>(""), Err(Error::Empty));
+    let mut rules: CacheRules = "max-age=60".parse().unwrap();
+    rules.invalid_max_age = true; // beside a valid one, which then has no effect
+    let read: CacheRules = rules.to_string().parse().unwrap();
+    let decided = |rules: CacheRules| rules.decide(Cache::Shared, Response::default());
+    assert_eq!(decided(rules), decided(read));
+    assert_eq!(decided(rules).by, Some(Cause::InvalidMaxAge));
+    assert_eq!(refused::<CacheRules>("max-age=60,").offset, 11);
+    assert_eq!(of(written::<Path>("a; hit,\"b\"")), "a;hit, \"b\"");
 }

@@ -4,7 +4,7 @@
 use http::header::{HeaderMap, HeaderName, HeaderValue};
 use sf::{
     Dictionary, Error, Forward, Forwarded, Hop, Item, List, Parser, Path, Policy, Priority,
-    TokenRef,
+    ResponsePriority, TokenRef,
 };
 
 fn head(lines: &[(&'static str, &'static str)]) -> HeaderMap {
@@ -13,6 +13,27 @@ fn head(lines: &[(&'static str, &'static str)]) -> HeaderMap {
         headers.append(*name, HeaderValue::from_static(value));
     }
     headers
+}
+
+#[test]
+fn white_space_around_a_value_is_no_part_of_it() {
+    let headers = head(&[("priority", "\tu=5"), ("priority", " i \t"), ("a", "\t1\t")]);
+    let client = Priority::from_headers(&headers).unwrap();
+    assert_eq!(client.to_string(), "u=5, i");
+    let item = Item::from_headers(&headers, "a").unwrap().unwrap();
+    assert_eq!(item.to_string(), "1");
+}
+
+#[test]
+fn the_priority_of_a_response_is_put() {
+    let mut headers = head(&[("priority", "u=1, x"), ("priority", "i")]);
+    let response = ResponsePriority::parse("u=3, i=?0").unwrap();
+    response.put_into_headers(&mut headers).unwrap();
+    assert_eq!(headers.get_all("priority").iter().count(), 1);
+    assert_eq!(headers["priority"], "u=3, i=?0");
+    let none = ResponsePriority::default();
+    none.put_into_headers(&mut headers).unwrap();
+    assert!(!headers.contains_key("priority"));
 }
 
 #[test]

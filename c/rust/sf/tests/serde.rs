@@ -6,7 +6,8 @@ use serde::de::value::{BytesDeserializer, Error, I64Deserializer, StrDeserialize
 use serde::de::{Deserialize, IntoDeserializer};
 use serde::ser::Serialize;
 use sf::{
-    BareItem, Date, Decimal, Dictionary, Integer, Item, Key, List, Path, Policy, Priority, Urgency,
+    BareItem, CacheRules, Date, Decimal, Dictionary, Integer, Item, Key, List, Path, Policy,
+    Priority, ResponsePriority, Urgency,
 };
 use std::fmt;
 
@@ -50,6 +51,15 @@ fn values_are_their_texts() {
         "no-store"
     );
     assert_eq!(read::<Policy>("").unwrap(), Policy::default());
+    let rules: CacheRules = read("public, s-maxage=a, no-cache").unwrap();
+    assert_eq!(
+        Shown(&rules).to_string(),
+        "no-cache, s-maxage=invalid, public"
+    );
+    assert_eq!(read::<CacheRules>("").unwrap(), CacheRules::default());
+    assert!(read::<CacheRules>("a b").is_err());
+    let response: ResponsePriority = read("i=?0, u=3").unwrap();
+    assert_eq!(Shown(&response).to_string(), "u=3, i=?0");
     let bytes: BytesDeserializer<'_, Error> = BytesDeserializer::new(b"a, b");
     assert_eq!(List::deserialize(bytes).unwrap().len(), 2);
     let refused = read::<Item>("1 2").unwrap_err();

@@ -1,0 +1,444 @@
+/* Tests of the calls of sf.h that have few arguments: what each returns, and each status, with the
+ * examples of the RFCs, in C and in C++. c/test also tries calls with swapped arguments, which must
+ * not compile.
+ *
+ * Prints 'N passed, M failed'. */
+#include <sf.h>
+#include <stdio.h>
+#include <stdlib.h>
+
+static long passed, failed;
+
+static void check(int holds, const char *what, int line) {
+  if (holds) {
+    ++passed;
+  } else {
+    ++failed;
+    fprintf(stderr, "few_arguments.c:%d: %s\n", line, what);
+  }
+}
+
+/* That a fact holds. */
+#define CHECK(fact) check((fact) != 0, #fact, __LINE__)
+
+static int is(sf_text text, const char *expected) {
+  size_t length = strlen(expected);
+  return text.length == length && (length == 0 || memcmp(text.at, expected, length) == 0);
+}
+
+static const sf_seed seed = {{3, 1, 4, 1, 5, 9, 2, 6, 5, 3, 5, 8, 9, 7, 9, 3}};
+
+/* A dialect and a kind that there are not. */
+static sf_context no_dialect(void) {
+  sf_context context = sf_context_of(seed, SF_RFC9651);
+  context.dialect = 9652;
+  return context;
+}
+
+static const sf_kind no_kind = (sf_kind)0;
+
+static void texts_and_buffers(void) {
+  sf_context context = sf_context_of(seed, SF_RFC8941);
+  CHECK(memcmp(&context.seed, &seed, sizeof seed) == 0);
+  CHECK(context.dialect == SF_RFC8941 && context.invalid == 0 && context.refusal.offset == 0);
+  CHECK(is(sf_cstr("u=1"), "u=1") && is(sf_cstr(""), "") && sf_cstr(NULL).length == 0);
+  CHECK(is(sf_text_of("u=1, i", 3), "u=1") && sf_text_of(NULL, 0).length == 0);
+
+  char chars[9];
+  sf_node nodes[7];
+  sf_hop hops[5];
+  sf_buffer buffer = SF_BUFFER(chars);
+  CHECK(buffer.at == chars && buffer.capacity == 9 && buffer.length == 0 && buffer.required == 0);
+  sf_nodes node_buffer = SF_NODES(nodes);
+  CHECK(node_buffer.at == nodes && node_buffer.capacity == 7 && node_buffer.length == 0);
+  sf_hops hop_buffer = SF_HOPS(hops);
+  CHECK(hop_buffer.at == hops && hop_buffer.capacity == 5 && hop_buffer.length == 0);
+  CHECK(is(sf_written(&buffer), ""));
+  int numbers[3];
+  CHECK(SF_LENGTH_OF(numbers) == 3);
+}
+
+static void lines(void) {
+  char bytes[20];
+  sf_lines field = sf_lines_in(SF_BUFFER(bytes));
+  CHECK(is(sf_joined_text(&field), ""));
+  /* RFC 9651 section 3.1: `Example-List: sugar, tea` and `Example-List: rum` */
+  CHECK(sf_add_line(&field, sf_trim(" sugar, tea\t", 12)) == SF_OK);
+  CHECK(is(sf_joined_text(&field), "sugar, tea"));
+  CHECK(sf_add_line(&field, sf_cstr("rum")) == SF_OK);
+  CHECK(is(sf_joined_text(&field), "sugar, tea, rum") && field.buffer.required == 0);
+  CHECK(sf_add_line(&field, sf_cstr("milk")) == SF_SHORT && field.buffer.required == 21);
+  CHECK(is(sf_joined_text(&field), "sugar, tea, rum"));
+  char longer[21];
+  memcpy(longer, bytes, field.buffer.length);
+  field.buffer.at = longer;
+  field.buffer.capacity = sizeof longer;
+  CHECK(sf_add_line(&field, sf_cstr("milk")) == SF_OK);
+  CHECK(is(sf_joined_text(&field), "sugar, tea, rum, milk"));
+  /* an empty first line is a line */
+  field = sf_lines_in(SF_BUFFER(bytes));
+  CHECK(sf_add_line(&field, sf_text_of(NULL, 0)) == SF_OK && is(sf_joined_text(&field), ""));
+  CHECK(sf_add_line(&field, sf_cstr("a")) == SF_OK && is(sf_joined_text(&field), ", a"));
+  field.buffer.length = 21;
+  CHECK(sf_add_line(&field, sf_cstr("a")) == SF_BAD_CALL);
+  field = sf_lines_in(sf_buffer_of(NULL, 0));
+  CHECK(sf_add_line(&field, sf_cstr("a")) == SF_SHORT && field.buffer.required == 1);
+}
+
+static void checking(void) {
+  sf_context context = sf_context_of(seed, SF_RFC9651), old = sf_context_of(seed, SF_RFC8941);
+  sf_context none = no_dialect();
+  CHECK(sf_check_text(&context, SF_LIST, sf_cstr("sugar, tea, rum")) == SF_OK);
+  CHECK(sf_check_text(&context, SF_ITEM, sf_cstr("@1659578233")) == SF_OK); /* section 3.3.7 */
+  CHECK(sf_check_text(&old, SF_ITEM, sf_cstr("@1659578233")) == SF_REFUSED);
+  CHECK(old.refusal.offset == 0 && old.refusal.found == '@');
+  CHECK(sf_check_text(&context, no_kind, sf_cstr("a")) == SF_BAD_CALL);
+  CHECK(sf_check_text(&none, SF_ITEM, sf_cstr("a")) == SF_BAD_CALL);
+
+  char message[SF_REFUSAL_SIZE], shown[SF_REFUSAL_IN_TEXT_SIZE(3)], few[4];
+  sf_buffer out = SF_BUFFER(message), in_text = SF_BUFFER(shown), small = SF_BUFFER(few);
+  CHECK(sf_check_text(&context, SF_ITEM, sf_cstr("1 2")) == SF_REFUSED);
+  CHECK(context.refusal.offset == 2 && context.refusal.found == '2' && context.refusal.may_end == 1);
+#define FIRST_LINE "byte 0x32 '2' at place 2, expected a space or the end"
+  CHECK(sf_write_refusal(&context.refusal, &out) == SF_OK && is(sf_written(&out), FIRST_LINE));
+  CHECK(sf_write_refusal(&context.refusal, &small) == SF_SHORT);
+  CHECK(small.length == 0 && small.required == strlen(FIRST_LINE));
+  CHECK(sf_show_refusal(&context.refusal, sf_cstr("1 2"), &in_text) == SF_OK);
+  CHECK(is(sf_written(&in_text), FIRST_LINE "\nline 1, place 2:\n1 2\n  ^"));
+  CHECK(sf_show_refusal(&context.refusal, sf_cstr("1 2"), &small) == SF_SHORT);
+  CHECK(small.length == 0 && small.required == in_text.length);
+  CHECK(sf_show_excerpt(&context.refusal, sf_cstr("1 2"), 2, &out) == SF_OK);
+  CHECK(is(sf_written(&out), FIRST_LINE "\n 2\n ^"));
+  CHECK(sf_show_excerpt(&context.refusal, sf_cstr("1 2"), 2, &small) == SF_SHORT);
+  CHECK(small.required == out.length && small.length == 0);
+  /* the refusal stays until another text is refused */
+  CHECK(sf_check_text(&context, SF_ITEM, sf_cstr("1")) == SF_OK && context.refusal.offset == 2);
+
+  /* white space at the ends (RFC 9651 section 4.2) */
+  CHECK(sf_check_text(&context, SF_ITEM, sf_cstr(" 1 ")) == SF_OK);
+  CHECK(sf_check_text(&context, SF_ITEM, sf_cstr("\t1")) == SF_REFUSED);
+  CHECK(sf_check_text(&context, SF_ITEM, sf_cstr("1\t")) == SF_REFUSED);
+  CHECK(sf_check_text(&context, SF_LIST, sf_cstr("\t1")) == SF_REFUSED);
+  CHECK(sf_check_text(&context, SF_DICT, sf_cstr("\ta")) == SF_REFUSED);
+  CHECK(sf_check_text(&context, SF_LIST, sf_cstr("1\t")) == SF_OK);
+  CHECK(sf_check_text(&context, SF_DICT, sf_cstr("a\t")) == SF_OK);
+  CHECK(sf_check_text(&context, SF_ITEM, sf_trim("\t1\t", 3)) == SF_OK);
+  CHECK(sf_check_text(&context, SF_DICT, sf_trim(" \ta\t ", 5)) == SF_OK);
+}
+
+static void canonical_texts(void) {
+  sf_context context = sf_context_of(seed, SF_RFC9651), none = no_dialect();
+  char text[SF_CANONICAL_SIZE(40)];
+  sf_buffer out = SF_BUFFER(text), empty = sf_buffer_of(NULL, 0);
+  /* RFC 9651 section 3.1.2 */
+  CHECK(sf_write_canonical(&context, SF_ITEM, sf_cstr("1; a; b=?0"), &out) == SF_OK);
+  CHECK(is(sf_written(&out), "1;a;b=?0") && out.required == 0);
+  CHECK(sf_write_canonical(&context, SF_ITEM, sf_cstr("1; a; b=?0"), &empty) == SF_SHORT);
+  CHECK(empty.length == 0 && empty.required == 8);
+  CHECK(sf_write_canonical(&context, SF_ITEM, sf_cstr("1; a; b="), &out) == SF_REFUSED);
+  CHECK(context.refusal.offset == 8 && context.refusal.found == SF_ENDED && out.length == 0);
+  CHECK(sf_write_canonical(&context, no_kind, sf_cstr("1"), &out) == SF_BAD_CALL);
+  CHECK(sf_write_canonical(&none, SF_ITEM, sf_cstr("1"), &out) == SF_BAD_CALL);
+  CHECK(sf_write_canonical(&context, SF_LIST, sf_cstr(""), &empty) == SF_OK && empty.length == 0);
+
+  uint32_t equal = 7;
+  sf_text first = sf_cstr("u=5, i"), second = sf_cstr("u=5,  i=?1");
+  CHECK(sf_equal_texts(&context, SF_DICT, first, second, &equal) == SF_OK && equal == 1);
+  CHECK(sf_equal_texts(&context, SF_DICT, first, sf_cstr("i, u=5"), &equal) == SF_OK && equal == 0);
+  equal = 7;
+  CHECK(sf_equal_texts(&context, SF_DICT, sf_cstr("u=,"), second, &equal) == SF_REFUSED);
+  CHECK(context.refusal.offset == 2 && equal == 0);
+  CHECK(sf_equal_texts(&context, SF_DICT, first, sf_cstr("u="), &equal) == SF_SECOND_REFUSED);
+  CHECK(context.refusal.found == SF_ENDED && equal == 0);
+  CHECK(sf_equal_texts(&none, SF_DICT, first, second, &equal) == SF_BAD_CALL);
+}
+
+static void trees(void) {
+  sf_context context = sf_context_of(seed, SF_RFC9651), none = no_dialect();
+  sf_node nodes[16];
+  char bytes[64], text[128];
+  sf_tree tree = sf_tree_in(SF_NODES(nodes), SF_BUFFER(bytes));
+  sf_buffer out = SF_BUFFER(text);
+  CHECK(sf_tree_end(&tree) == nodes && sf_find_member(&tree, "a") == NULL);
+
+  /* RFC 9651 section 3.2 */
+  sf_text from = sf_cstr("en=\"Applepie\", da=:w4ZibGV0w6ZydGU=:");
+  CHECK(sf_read_tree(&context, SF_DICT, from, &tree) == SF_OK);
+  CHECK(tree.text.at == from.at && tree.kind == SF_DICT && tree.nodes.length == 2);
+  CHECK(tree.bytes.length == 11 && sf_tree_end(&tree) == nodes + 2);
+  const sf_node *en = sf_find_member(&tree, "en"), *da = sf_find_member(&tree, "da");
+  CHECK(en == nodes && en->type == SF_STRING && da == nodes + 1 && da->type == SF_BYTE_SEQUENCE);
+  if (en == NULL || da == NULL)
+    return;
+  CHECK(is(sf_node_key(&tree, en), "en") && is(sf_node_text(&tree, en), "Applepie"));
+  CHECK(is(sf_node_key(&tree, da), "da"));
+  CHECK(is(sf_node_text(&tree, da), "\xc3\x86" "blet\xc3\xa6rte"));
+  CHECK(sf_find_member(&tree, "e") == NULL && sf_find_member(&tree, "enn") == NULL);
+  CHECK(sf_find_parameter(&tree, en, "en") == NULL);
+
+  /* RFC 9651 section 3.1.2: a parameter of an Item, of an Inner List, and of one of its Items */
+  CHECK(sf_read_tree(&context, SF_LIST,
+                     sf_cstr("abc;a=1;b=2; cde_456, (ghi;jk=4 l);q=\"9\";r=w"), &tree) == SF_OK);
+  CHECK(tree.nodes.length == 10 && tree.bytes.length == 0);
+  size_t count = 0;
+  for (const sf_node *node = tree.nodes.at; node < sf_tree_end(&tree); node += node->size)
+    ++count;
+  CHECK(count == 2);
+  const sf_node *abc = nodes, *inner = nodes + abc->size, *ghi = inner + 1;
+  CHECK(is(sf_node_text(&tree, abc), "abc") && is(sf_node_key(&tree, abc), ""));
+  CHECK(inner->type == SF_INNER_LIST && is(sf_node_text(&tree, inner), ""));
+  const sf_node *b = sf_find_parameter(&tree, abc, "b"), *q = sf_find_parameter(&tree, inner, "q");
+  const sf_node *jk = sf_find_parameter(&tree, ghi, "jk");
+  CHECK(b != NULL && b->number == 2 && q != NULL && is(sf_node_text(&tree, q), "9"));
+  CHECK(jk != NULL && jk->number == 4);
+  CHECK(sf_find_parameter(&tree, abc, "q") == NULL && sf_find_parameter(&tree, inner, "jk") == NULL);
+  CHECK(sf_find_parameter(&tree, inner, "r") == nodes + 9);
+
+  /* each status; the tree is empty then */
+  sf_tree small = sf_tree_in(sf_nodes_of(nodes, 9), SF_BUFFER(bytes));
+  from = sf_cstr("abc;a=1;b=2; cde_456, (ghi;jk=4 l);q=\"9\";r=w");
+  CHECK(sf_read_tree(&context, SF_LIST, from, &small) == SF_TOO_MANY);
+  CHECK(small.nodes.length == 0 && small.nodes.required == 10 && small.text.length == 0);
+  CHECK(sf_tree_end(&small) == small.nodes.at);
+  small = sf_tree_in(SF_NODES(nodes), sf_buffer_of(bytes, 1));
+  CHECK(sf_read_tree(&context, SF_ITEM, sf_cstr(":YWI=:"), &small) == SF_SHORT);
+  CHECK(small.bytes.required >= 2 && small.bytes.length == 0 && small.nodes.length == 0);
+  CHECK(sf_read_tree(&context, SF_DICT, sf_cstr("a =1"), &small) == SF_REFUSED);
+  CHECK(context.refusal.offset == 2 && small.nodes.length == 0 && small.nodes.required == 0);
+  CHECK(sf_read_tree(&context, no_kind, sf_cstr("a"), &small) == SF_BAD_CALL);
+  CHECK(sf_read_tree(&none, SF_LIST, sf_cstr("a"), &small) == SF_BAD_CALL);
+  CHECK(sf_read_tree(&context, SF_LIST, sf_text_of(NULL, 0), &small) == SF_OK);
+  CHECK(small.nodes.length == 0 && small.kind == SF_LIST);
+
+  /* changed and written */
+  char few[8];
+  tree = sf_tree_in(SF_NODES(nodes), SF_BUFFER(few));
+  CHECK(sf_read_tree(&context, SF_DICT, sf_cstr("a=1,  b;x=:YQ:"), &tree) == SF_OK);
+  CHECK(sf_write_tree(&context, &tree, &out) == SF_OK);
+  CHECK(is(sf_written(&out), "a=1, b;x=:YQ==:"));
+  sf_node *a = sf_find_member(&tree, "a"), *member = sf_find_member(&tree, "b");
+  CHECK(sf_set_text(&tree, a, SF_STRING, sf_cstr("longer word")) == SF_SHORT);
+  CHECK(tree.bytes.required == 12 && a->type == SF_INTEGER && tree.bytes.length == 1);
+  CHECK(sf_set_text(&tree, a, SF_STRING, sf_cstr("word")) == SF_OK && tree.bytes.length == 5);
+  CHECK(is(sf_node_text(&tree, a), "word"));
+  sf_set_number(sf_find_parameter(&tree, member, "x"), SF_DECIMAL, 1500);
+  CHECK(sf_write_tree(&context, &tree, &out) == SF_OK);
+  CHECK(is(sf_written(&out), "a=\"word\", b;x=1.5"));
+  CHECK(out.length <= SF_WRITTEN_SIZE(tree.nodes.length, tree.text.length + tree.bytes.length));
+  sf_buffer empty = sf_buffer_of(NULL, 0);
+  CHECK(sf_write_tree(&context, &tree, &empty) == SF_SHORT && empty.required == out.length);
+  sf_set_number(member, SF_INTEGER, SF_NUMBER_MAX + 1);
+  CHECK(sf_write_tree(&context, &tree, &out) == SF_INVALID && context.invalid == 1);
+  CHECK(out.length == 0);
+  tree.kind = 0;
+  CHECK(sf_write_tree(&context, &tree, &out) == SF_BAD_CALL);
+}
+
+static void builders(void) {
+  sf_context context = sf_context_of(seed, SF_RFC9651);
+  sf_node nodes[12], parsed[12];
+  char bytes[64], decoded[16], text[128];
+  sf_buffer out = SF_BUFFER(text), empty = sf_buffer_of(NULL, 0);
+  /* RFC 9651 section 3.1.1 */
+  sf_builder field = sf_build(SF_NODES(nodes), SF_BUFFER(bytes));
+  sf_begin_inner_list(&field, NULL);
+  sf_put_string(&field, NULL, "foo");
+  sf_param_integer(&field, "a", 1);
+  sf_param_integer(&field, "b", 2);
+  sf_end_inner_list(&field);
+  sf_param_integer(&field, "lvl", 5);
+  sf_tree tree = sf_tree_in(SF_NODES(parsed), SF_BUFFER(decoded));
+  CHECK(sf_read_tree(&context, SF_LIST, sf_cstr("(\"bar\" \"baz\");lvl=1"), &tree) == SF_OK);
+  sf_put_copy(&field, &tree, tree.nodes.at);
+  CHECK(sf_write_built(&context, SF_LIST, &field, &out) == SF_OK);
+  CHECK(is(sf_written(&out), "(\"foo\";a=1;b=2);lvl=5, (\"bar\" \"baz\");lvl=1"));
+  CHECK(sf_write_built(&context, SF_LIST, &field, &empty) == SF_SHORT);
+  CHECK(empty.required == out.length);
+  CHECK(sf_write_built(&context, SF_DICT, &field, &out) == SF_INVALID && context.invalid == 0);
+  CHECK(sf_write_built(&context, no_kind, &field, &out) == SF_BAD_CALL);
+  sf_end_inner_list(&field);
+  CHECK(field.status == SF_BAD_CALL);
+  CHECK(sf_write_built(&context, SF_LIST, &field, &out) == SF_BAD_CALL && out.length == 0);
+  field = sf_build(sf_nodes_of(nodes, 1), sf_buffer_of(bytes, 1));
+  sf_put_token(&field, NULL, "ab");
+  CHECK(field.status == SF_SHORT);
+}
+
+static void priorities(void) {
+  sf_context context = sf_context_of(seed, SF_RFC8941), none = no_dialect();
+  sf_priority_flags client = SF_PRIORITY_UNSET;
+  sf_response_priority_flags server = {0, 0, 0, 0};
+  /* RFC 9218 section 8 */
+  CHECK(sf_read_priority(&context, sf_cstr("u=5, i"), &client) == SF_OK);
+  CHECK(client.urgency == 5 && client.incremental == 1);
+  CHECK(sf_read_response_priority(&context, sf_cstr("u=1"), &server) == SF_OK);
+  CHECK(server.urgency == 1 && server.has_urgency == 1 && server.has_incremental == 0);
+  sf_priority_flags merged = sf_merge_priority(client, server);
+  CHECK(merged.urgency == 1 && merged.incremental == 1);
+  CHECK(sf_read_priority(&context, sf_cstr("u=5, "), &client) == SF_REFUSED);
+  CHECK(context.refusal.offset == 5 && client.urgency == 5);
+  CHECK(sf_read_response_priority(&context, sf_cstr("u=@1"), &server) == SF_REFUSED);
+  CHECK(context.refusal.offset == 2 && server.urgency == 1);
+  CHECK(sf_read_priority(&none, sf_cstr("u=5"), &client) == SF_BAD_CALL);
+  CHECK(sf_read_response_priority(&none, sf_cstr("u=5"), &server) == SF_BAD_CALL);
+
+  char text[SF_PRIORITY_SIZE], changed[SF_PRIORITY_CHANGE_SIZE(16)];
+  sf_buffer out = SF_BUFFER(text), longer = SF_BUFFER(changed), empty = sf_buffer_of(NULL, 0);
+  CHECK(sf_write_priority(client, &out) == SF_OK && is(sf_written(&out), "u=5, i"));
+  CHECK(sf_write_priority(client, &empty) == SF_SHORT && empty.required == 6);
+  CHECK(sf_write_response_priority(server, &out) == SF_OK && is(sf_written(&out), "u=1"));
+  CHECK(sf_write_response_priority(server, &empty) == SF_SHORT && empty.required == 3);
+  sf_priority_flags forgotten = {1, 0, 0, 0};
+  CHECK(sf_write_priority(forgotten, &out) == SF_INVALID && out.length == 0);
+  server.has_urgency = 0;
+  CHECK(sf_write_response_priority(server, &out) == SF_INVALID && out.length == 0);
+  sf_priority_flags urgency = {0, 0, 1, 0};
+  CHECK(sf_change_priority(&context, sf_cstr("x=(a  b), u=5, i"), urgency, &longer) == SF_OK);
+  CHECK(is(sf_written(&longer), "x=(a b), u=0, i"));
+  CHECK(sf_change_priority(&context, sf_cstr("u=5"), urgency, &empty) == SF_SHORT);
+  CHECK(empty.required == 3);
+  CHECK(sf_change_priority(&context, sf_cstr("u="), urgency, &longer) == SF_REFUSED);
+  CHECK(context.refusal.offset == 2 && longer.length == 0);
+  CHECK(sf_change_priority(&context, sf_cstr("u=5"), forgotten, &longer) == SF_INVALID);
+}
+
+static void decisions(void) {
+  sf_context context = sf_context_of(seed, SF_RFC8941), none = no_dialect();
+  sf_response response = {0, 0, 0, 0};
+  sf_rules rules;
+  sf_decision decision;
+  memset(&rules, 0x5a, sizeof rules);
+  sf_rules before = rules;
+  CHECK(sf_read_rules(&context, sf_cstr(""), &rules) == SF_EMPTY);
+  CHECK(sf_read_rules(&context, sf_cstr("max-age=600,"), &rules) == SF_REFUSED);
+  CHECK(context.refusal.offset == 12 && context.refusal.found == SF_ENDED);
+  CHECK(sf_read_rules(&none, sf_cstr("max-age=600"), &rules) == SF_BAD_CALL);
+  CHECK(memcmp(&rules, &before, sizeof rules) == 0);
+  /* RFC 9213 section 3.1 */
+  CHECK(sf_read_rules(&context, sf_cstr("max-age=600"), &rules) == SF_OK);
+  CHECK(sf_decide(&rules, SF_SHARED_CACHE, &response, &decision) == SF_OK);
+  CHECK(decision.reuse == SF_REUSE_FRESH && decision.seconds == 600);
+  rules.invalid_max_age = 1; /* beside a max-age that is valid, which then has no effect */
+  CHECK(sf_decide(&rules, SF_SHARED_CACHE, &response, &decision) == SF_OK);
+  CHECK(decision.reuse == SF_REUSE_STALE && decision.by == SF_BY_INVALID_MAX_AGE);
+
+  /* each target list, and the field that counts; -1 if none does */
+  static const struct {
+    const char *fields[3];
+    int index;
+  } rows[] = {{{"max-age=600", "no-store", ""}, 0}, {{"", "max-age=600", "no-store"}, 1},
+              {{"a b", "", "none"}, 2},             {{"max-age=60, x=@1", "a", ""}, 1},
+              {{"", "", ""}, -1},                   {{"a b", "\ta", "=,"}, -1}};
+  for (size_t i = 0; i < sizeof rows / sizeof *rows; ++i) {
+    sf_text fields[3];
+    char texts[64];
+    sf_span spans[3];
+    sf_lines all = sf_lines_in(SF_BUFFER(texts));
+    for (int k = 0; k < 3; ++k) {
+      fields[k] = sf_cstr(rows[i].fields[k]);
+      spans[k].at = all.buffer.length;
+      spans[k].length = fields[k].length;
+      all.begun = 0;
+      CHECK(sf_add_line(&all, fields[k]) == SF_OK);
+    }
+    sf_choice choice;
+    memset(&choice, 0x5a, sizeof choice);
+    sf_choice unset = choice;
+    size_t index = 99;
+    sf_rules same;
+    memset(&same, 0x5a, sizeof same);
+    uint32_t status = sf_choose_rules(&context, fields, 3, &choice);
+    CHECK(status == (rows[i].index < 0 ? SF_EMPTY : SF_OK));
+    CHECK(sf_select_rules(&seed, SF_RFC8941, texts, all.buffer.length, spans, 3, &index, &same) ==
+          status);
+    if (status == SF_OK)
+      CHECK(choice.index == (size_t)rows[i].index && choice.index == index &&
+            memcmp(&choice.rules, &same, offsetof(sf_rules, is_public) + 1) == 0);
+    else
+      CHECK(memcmp(&choice, &unset, sizeof choice) == 0);
+    CHECK(sf_choose_rules(&none, fields, 3, &choice) == SF_BAD_CALL);
+  }
+  sf_choice choice;
+  CHECK(sf_choose_rules(&context, NULL, 0, &choice) == SF_EMPTY);
+}
+
+static void paths(void) {
+  sf_context context = sf_context_of(seed, SF_RFC8941), none = no_dialect();
+  sf_hop hops[4];
+  char bytes[64], text[SF_APPENDED_SIZE(64, 16)];
+  sf_hop_list list = sf_hop_list_in(SF_HOPS(hops), SF_BUFFER(bytes));
+  sf_buffer out = SF_BUFFER(text), empty = sf_buffer_of(NULL, 0);
+  /* RFC 9211 section 3 */
+  sf_text came = sf_cstr("OriginCache; hit; ttl=1100, \"CDN Company Here\"; hit; ttl=545");
+  CHECK(sf_read_hops(&context, came, &list) == SF_OK && list.hops.length == 2);
+  CHECK(is(sf_hop_part(&list, hops[0].name), "OriginCache") && hops[0].ttl == 1100);
+  CHECK(is(sf_hop_part(&list, hops[1].name), "CDN Company Here") && hops[1].ttl == 545);
+  CHECK(list.served == hops + 1 && is(sf_hop_part(&list, hops[0].key), ""));
+  CHECK(list.hops.required == 0 && list.bytes.length == 27);
+  CHECK(sf_read_hops(&context,
+                     sf_cstr("ReverseProxyCache; hit, ForwardProxyCache; fwd=uri-miss; collapsed; "
+                             "stored, BrowserCache; fwd=uri-miss"),
+                     &list) == SF_OK);
+  CHECK(list.hops.length == 3 && list.served == hops && hops[1].stored == 1);
+  CHECK(is(sf_hop_part(&list, hops[2].why_token), "uri-miss") && hops[2].why == SF_URI_MISS);
+  CHECK(sf_read_hops(&context, sf_cstr("ExampleCache; fwd=uri-miss"), &list) == SF_OK);
+  CHECK(list.served == NULL);
+  sf_hop_list small = sf_hop_list_in(sf_hops_of(hops, 1), SF_BUFFER(bytes));
+  CHECK(sf_read_hops(&context, came, &small) == SF_SHORT && small.hops.required == 2);
+  CHECK(small.bytes.required == 27 && small.hops.length == 0 && small.served == NULL);
+  CHECK(sf_read_hops(&context, sf_cstr("a, (b)"), &list) == SF_NOT_A_CACHE);
+  CHECK(list.nameless == 1 && list.hops.length == 0);
+  CHECK(sf_read_hops(&context, sf_cstr("a,"), &list) == SF_REFUSED && list.nameless == 0);
+  CHECK(context.refusal.offset == 2);
+  CHECK(sf_read_hops(&none, came, &list) == SF_BAD_CALL && list.hops.length == 0);
+  CHECK(sf_read_hops(&context, sf_text_of(NULL, 0), &list) == SF_OK && list.hops.length == 0);
+
+  /* RFC 9211 section 3: `ExampleCache; hit; ttl=376`, and its negative one */
+  sf_own_hop own = sf_hop_named("ExampleCache", SF_TOKEN);
+  CHECK(own.hop.name_is_token == 1 && own.hop.name.at == 0 && own.hop.name.length == 12);
+  own.hop.outcome = SF_HIT;
+  own.hop.ttl = 376;
+  own.hop.has_ttl = 1;
+  CHECK(sf_write_hop(&context, &own, &out) == SF_OK);
+  CHECK(is(sf_written(&out), "ExampleCache;hit;ttl=376"));
+  CHECK(sf_write_hop(&context, &own, &empty) == SF_SHORT && empty.required == 24);
+  own.hop.ttl = -412;
+  CHECK(sf_append_hop(&context, sf_cstr("\"CDN Company Here\"; hit;  ttl=545"), &own, &out) == SF_OK);
+  CHECK(is(sf_written(&out), "\"CDN Company Here\";hit;ttl=545, ExampleCache;hit;ttl=-412"));
+  CHECK(sf_append_hop(&context, sf_cstr("a"), &own, &empty) == SF_SHORT && empty.required == 28);
+  CHECK(sf_append_hop(&context, sf_cstr("a,"), &own, &out) == SF_REFUSED && out.length == 0);
+  CHECK(context.refusal.offset == 2);
+  CHECK(sf_append_hop(&none, sf_cstr("a"), &own, &out) == SF_BAD_CALL);
+  sf_own_hop string = sf_hop_named("CDN Company Here", SF_STRING);
+  string.hop.outcome = SF_FORWARDED;
+  string.hop.why = SF_STALE;
+  string.hop.status = 304;
+  string.hop.has_status = 1;
+  CHECK(sf_append_hop(&context, sf_text_of(NULL, 0), &string, &out) == SF_OK);
+  CHECK(is(sf_written(&out), "\"CDN Company Here\";fwd=stale;fwd-status=304"));
+  string.hop.name_is_token = 1;
+  CHECK(sf_write_hop(&context, &string, &out) == SF_INVALID && out.length == 0);
+  CHECK(sf_append_hop(&context, sf_cstr("a"), &string, &out) == SF_INVALID && out.length == 0);
+  own = sf_hop_named("ExampleCacheMEMORY", SF_TOKEN); /* section 2.8: detail=MEMORY */
+  own.hop.name.length = 12;
+  own.hop.detail.at = 12;
+  own.hop.detail.length = 6;
+  own.hop.has_detail = own.hop.detail_is_token = 1;
+  own.hop.outcome = SF_HIT;
+  CHECK(sf_write_hop(&context, &own, &out) == SF_OK);
+  CHECK(is(sf_written(&out), "ExampleCache;hit;detail=MEMORY"));
+}
+
+int main(void) {
+  texts_and_buffers();
+  lines();
+  checking();
+  canonical_texts();
+  trees();
+  builders();
+  priorities();
+  decisions();
+  paths();
+  printf("%ld passed, %ld failed\n", passed, failed);
+  return failed != 0;
+}
