@@ -14,8 +14,8 @@ use crate::classes::{behind, behind_spaces, behind_white, ends};
 use crate::item::{KeyPlace, NO_KEY, Scan, scan_entry, scan_member};
 use crate::keys::Marks;
 use crate::node::Node;
-use crate::series::whole_item;
-use crate::settling::settled_nodes;
+use crate::series::{scan_parts, whole_item};
+use crate::settling::{settle_into, settled_nodes};
 use crate::view::View;
 use sf_value::{Dialect, Kind, OutOfMemory};
 use std::alloc::Global;
@@ -411,6 +411,36 @@ pub fn scan_settled<'a>(
         Ok(view) => return view,
         Err(_) => return None,
     }
+}
+
+/// Scans a whole text as a field of this kind into a buffer, as [`crate::scan_text`] does, but also
+/// if a key is repeated in a Dictionary, or there are many keys, as [`scan_settled`]. It returns the
+/// number of nodes; the buffer needs one for each member of the text, those that are overwritten
+/// included. `None` says nothing about the text. It allocates only for more than 32 nodes of which
+/// some are overwritten or, rarely, which are many.
+///
+/// ```
+/// let mut nodes = [Node::NONE; 16];
+/// let count = scan_into(alloc, Dialect::Rfc9651, Kind::Dict, b"u=1, i, u=2", &mut nodes)?; // 2
+/// ```
+#[inline]
+pub fn scan_into(
+    alloc: Global,
+    dialect: Dialect,
+    kind: Kind,
+    text: &[u8],
+    nodes: &mut [Node],
+) -> Option<usize>
+    ensures same { length nodes.new ≡ length nodes.old }
+    // The text spells a field, and no other, and the first nodes, as many as returned, describe it.
+    ensures accepts { IfSome result (λ n. Accepts dialect kind text.now nodes.new n) }
+{
+    let mut repeated = false;
+    let count = scan_parts(dialect, kind, &mut repeated, text, nodes)?;
+    if repeated {
+        return settle_into(alloc, text, nodes, count);
+    }
+    Some(count)
 }
 
 /// As [`scan_settled`]; `repeated` is set if the nodes had to be settled. It fails only if an

@@ -349,3 +349,39 @@ pub(crate) fn settled_nodes(
     nodes.truncate(count);
     Some(nodes)
 }
+
+/// Settles the first `count` nodes of a buffer in it.
+#[inline(never)]
+pub(crate) fn settle_into(alloc: Global, source: &[u8], nodes: &mut [Node], count: usize) -> Option<usize>
+    requires there { count ≤ length nodes.old }
+    ensures same { length nodes.new ≡ length nodes.old }
+    ensures within { IfSome result (λ n. n ≤ length nodes.new) }
+    ensures settled { (d : Which) (ps : Pairs Member)
+        → DescribesEntries d source.now (take count nodes.old) ps
+        → IfSome result (λ n. DescribesEntries d source.now (take n nodes.new)
+        (settled_pairs ps)) }
+{
+    if count <= STACK_NODES {
+        return settle_copies(source, nodes, count);
+    }
+    let (raw, _) = nodes.split_at(count);
+    let settled = settled_nodes(alloc, source, source.len(), raw, false)?;
+    let stay = put_run(settled.as_slice(), nodes, 0)?;
+    Some(stay)
+}
+
+/// The same of up to 32 nodes, copied to the stack.
+#[inline(never)]
+fn settle_copies(source: &[u8], nodes: &mut [Node], count: usize) -> Option<usize>
+    requires there { count ≤ length nodes.old }
+    ensures same { length nodes.new ≡ length nodes.old }
+    ensures within { IfSome result (λ n. n ≤ length nodes.new) }
+    ensures settled { (d : Which) (ps : Pairs Member)
+        → DescribesEntries d source.now (take count nodes.old) ps
+        → IfSome result (λ n. DescribesEntries d source.now (take n nodes.new)
+        (settled_pairs ps)) }
+{
+    let mut few = [Node::NONE; STACK_NODES];
+    let copied = put_run(&nodes[..count], &mut few, 0)?;
+    settle_few(source, &few[..copied], nodes)
+}
