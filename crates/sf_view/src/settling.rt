@@ -352,7 +352,12 @@ pub(crate) fn settled_nodes(
 
 /// Settles the first `count` nodes of a buffer in it.
 #[inline(never)]
-pub(crate) fn settle_into(alloc: Global, source: &[u8], nodes: &mut [Node], count: usize) -> Option<usize>
+pub(crate) fn settle_into(
+    alloc: Global,
+    source: &[u8],
+    nodes: &mut [Node],
+    count: usize,
+) -> Option<usize>
     requires there { count ≤ length nodes.old }
     ensures same { length nodes.new ≡ length nodes.old }
     ensures within { IfSome result (λ n. n ≤ length nodes.new) }
