@@ -54,8 +54,8 @@ def crates_below(crate, dependencies=None):
 
 def is_built(program):
     """Whether there is a program that LLVM compiled. `rt run --backend rattle` leaves one of the same
-    name that Rattle's own compiler made: it costs more instructions, and functions marked
-    `inline(never)` are inlined in it, so that not all calls between two marks are found."""
+    name that Rattle's own compiler made. That inlines also functions with `inline(never)`, as the
+    marks between which calls are counted."""
     if not os.path.exists(program):
         return False
     with open(program, "rb") as file:
