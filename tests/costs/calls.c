@@ -54,7 +54,9 @@ static int is(const struct record *record, const char *operation) {
 static int answered_plainly(const struct record *record) {
   sf_refusal refusal;
   sf_priority_flags priority;
+  sf_response_priority_flags response;
   sf_policy policy;
+  sf_rules rules;
   sf_span field = {0, record->length};
   size_t index;
   uint32_t equal = 0;
@@ -75,14 +77,26 @@ static int answered_plainly(const struct record *record) {
     calls_begin();
     for (size_t i = 0; i < times; ++i)
       add_status(sf_priority(&seed, text, length, &priority, &refusal));
+  } else if (is(record, "c_response_priority")) {
+    calls_begin();
+    for (size_t i = 0; i < times; ++i)
+      add_status(sf_response_priority(&seed, SF_RFC9651, text, length, &response, &refusal));
   } else if (is(record, "c_cache_control")) {
     calls_begin();
     for (size_t i = 0; i < times; ++i)
       add_status(sf_cache_control(&seed, text, length, &policy, &refusal));
+  } else if (is(record, "c_cache_rules")) {
+    calls_begin();
+    for (size_t i = 0; i < times; ++i)
+      add_status(sf_cache_rules(&seed, SF_RFC9651, text, length, &rules, &refusal));
   } else if (is(record, "c_select")) {
     calls_begin();
     for (size_t i = 0; i < times; ++i)
       add_status(sf_select(&seed, text, length, &field, 1, &index, &policy));
+  } else if (is(record, "c_select_rules")) {
+    calls_begin();
+    for (size_t i = 0; i < times; ++i)
+      add_status(sf_select_rules(&seed, SF_RFC9651, text, length, &field, 1, &index, &rules));
   } else {
     return 0;
   }
@@ -96,7 +110,7 @@ static int answered_with_text(const struct record *record) {
   sf_priority_flags priority;
   const char *text = record->text;
   size_t length = record->length, times = record->times, required = 0;
-  size_t size = SF_CANONICAL_SIZE(length) + SF_REFUSAL_IN_TEXT_SIZE(length);
+  size_t size = SF_APPENDED_SIZE(length, 1) + SF_REFUSAL_IN_TEXT_SIZE(length);
   char *buffer = allocated(size);
   if (is(record, "c_normalise")) {
     calls_begin();
@@ -120,6 +134,17 @@ static int answered_with_text(const struct record *record) {
     for (size_t i = 0; i < times; ++i) {
       add_status(sf_priority_change(&seed, text, length, &priority, buffer, size, &required,
                                     &refusal));
+      add(required);
+    }
+  } else if (is(record, "c_append")) {
+    sf_hop hop;
+    memset(&hop, 0, sizeof hop);
+    hop.name.length = 1;
+    hop.outcome = SF_HIT;
+    calls_begin();
+    for (size_t i = 0; i < times; ++i) {
+      add_status(sf_cache_status_append(&seed, SF_RFC9651, text, length, &hop, "c", 1, buffer, size,
+                                        &required, &refusal));
       add(required);
     }
   } else {
@@ -199,6 +224,19 @@ static int answered_with_nodes(const struct record *record) {
       add(path.hops);
     }
     calls_end();
+  } else if (is(record, "c_hop_text")) {
+    path.hops = 0;
+    add_status(sf_cache_status(&seed, text, length, hops, length / 2 + 1, bytes, size, &path,
+                               &refusal));
+    char *written = allocated(SF_HOP_SIZE(size));
+    calls_begin();
+    for (size_t i = 0; i < times * path.hops; ++i) {
+      add_status(sf_hop_text(&seed, &hops[i % path.hops], bytes, path.bytes, written,
+                             SF_HOP_SIZE(size), &required));
+      add(required);
+    }
+    calls_end();
+    free(written);
   } else {
     is_known = 0;
   }

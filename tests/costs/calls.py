@@ -16,21 +16,27 @@ TEXTS = [
     *calls_of("parse_text, parse_text_in, feed, feed 1, feed 7, feed 64, feed 512, parse_reader"),
     *calls_of("normalise, accepts, scan, field_nodes, parse_declined"),
     *calls_of("c_check, c_normalise, c_parse, c_equal"),
-    *calls_of("c_cache_status", LIST),
-    *calls_of("c_cache_control, c_priority, c_priority_change, c_select", DICT),
+    *calls_of("item_cursor, hop_cursor, c_cache_status, c_append", LIST),
+    *calls_of("dict_cursor, of_cache_control", DICT),
+    *calls_of("c_cache_control, c_cache_rules, c_select, c_select_rules", DICT),
+    *calls_of("c_priority, c_response_priority, c_priority_change", DICT),
 ]
 # Calls on texts that are refused, and on texts that are accepted.
 MESSAGES = calls_of("message, c_refusal_in_text")
 VALUES = [
-    *calls_of("to_field, to_text, write_field, copy, copy 3, same, set_field, c_write"),
-    *calls_of("append_hop", LIST),
-    *calls_of("get, update_priority, priority_field, c_find", DICT),
+    *calls_of("to_field, view_text, of_field, flatten"),
+    *calls_of("to_text, write_field, copy, copy 3, same, remove, set_field, c_write"),
+    *calls_of("append_hop, c_hop_text", LIST),
+    *calls_of("entry, get, update_priority, priority_field, c_find", DICT),
 ]
 LINES = [
-    *calls_of("feed_line, parse_lines, normalise_lines, from_headers, c_join"),
-    *calls_of("cache_status", LIST),
-    *calls_of("directives, priority, select", DICT),
+    *calls_of("feed_line, parse_lines, parse_from, normalise_lines, append_line, from_headers"),
+    *calls_of("c_join"),
+    *calls_of("cache_status, ask_from, append_to_lines", LIST),
+    *calls_of("directives, targeted_rules, priority, select, select_rules", DICT),
+    *calls_of("of_cache_control_lines, fallback_rules", DICT),
 ]
+LINE_MESSAGES = calls_of("message_in_lines")
 COMMANDS = [
     *calls_of("sf_check, sf_normalise, sf_show, sflint"),
     *calls_of("sf_cache_status", LIST),
@@ -50,7 +56,7 @@ NAMES = {
 
 def calls_on(shape):
     """The calls that are made on a shape."""
-    calls = LINES + COMMANDS
+    calls = LINES + COMMANDS + (LINE_MESSAGES if shape.mistake else [])
     if b"\n" not in shape.make(2):
         calls = calls + TEXTS + (MESSAGES if shape.mistake else VALUES)
     return [call for call, kinds in calls if shape.kind in kinds]

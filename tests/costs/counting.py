@@ -52,11 +52,22 @@ def crates_below(crate, dependencies=None):
     return found
 
 
+def is_built(program):
+    """Whether there is a program that LLVM compiled. `rt run --backend rattle` leaves one of the same
+    name that Rattle's own compiler made. That inlines also functions with `inline(never)`, as the
+    marks between which calls are counted."""
+    if not os.path.exists(program):
+        return False
+    with open(program, "rb") as file:
+        return b"backend=rattle" not in file.read()
+
+
 def built(crate, *words):
-    """A program of the repository. If there is none, or a source is newer, it is proved and built:
-    `rt run` runs it with these words. It is taken as it is where BUILT_ONLY is set."""
+    """A program of the repository. If there is none that LLVM compiled, or a source is newer, it is
+    proved and built: `rt run` runs it with these words. It is taken as it is where BUILT_ONLY is
+    set."""
     program = f"{TOP}/crates/{crate}/out/{crate}"
-    if os.environ.get("BUILT_ONLY") and os.path.exists(program):
+    if os.environ.get("BUILT_ONLY") and is_built(program):
         return program
     sources = [f"{TOP}/crates/{it}/src" for it in crates_below(crate)]
     newest = max(
@@ -65,11 +76,11 @@ def built(crate, *words):
         for folder, _, names in os.walk(source)
         for name in names
     )
-    if not os.path.exists(program) or os.path.getmtime(program) < newest:
-        stop_if_built_only(program)
+    if not is_built(program) or os.path.getmtime(program) < newest:
+        stop_if_built_only(f"no {program} that LLVM compiled")
         if shutil.which("rt") is None:
             stop(f"no {program}, and no rt to build it: the Rattle toolchain is not on the PATH")
-        run = ["rt", "run", *(["--", *words] if words else [])]
+        run = ["rt", "run", "--backend", "llvm", *(["--", *words] if words else [])]
         where = {"cwd": f"{TOP}/crates/{crate}", "stdin": subprocess.DEVNULL}
         if subprocess.run(run, stdout=sys.stderr, **where).returncode:
             stop(f"{crate} is not proved")
@@ -81,15 +92,15 @@ def made(folder, target):
     words = ["make", "--no-print-directory", "-C", f"{TOP}/{folder}", target]
     if os.environ.get("BUILT_ONLY") and os.path.exists(f"{TOP}/{folder}/{target}"):
         return
-    stop_if_built_only(f"{folder}/{target}")
+    stop_if_built_only(f"no {folder}/{target}")
     if subprocess.run(words, stdout=sys.stderr).returncode:
         stop(f"{folder}/{target} is not made")
 
 
-def stop_if_built_only(what):
+def stop_if_built_only(why):
     """Ends a script that would prove and build something, where the variable BUILT_ONLY is set."""
     if os.environ.get("BUILT_ONLY"):
-        stop(f"{what} is not built")
+        stop(why)
 
 
 def compiled(source, to, *flags):
@@ -139,7 +150,8 @@ def counted(program, records, folder):
             found = [int(line.split()[1]) for line in lines if line.startswith(b"summary:")]
     # The last count is of what comes after the last record.
     if len(found) != len(records) + 1:
-        stop(f"{os.path.basename(program)}: {len(found)} counts of {len(records)} records")
+        name = os.path.basename(program)
+        stop(f"{name}: {len(found) - 1} pairs of marks were found for {len(records)} records")
     return found[:-1]
 
 

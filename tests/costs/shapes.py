@@ -124,6 +124,8 @@ SHAPES = [
     Shape("64 long keys of one tag, and the last", "dict", 50,
           lambda n: entries(one_often(n, 200))),
     Shape("keys of one hash", "dict", 200, lambda n: entries(keys_of_one_hash(n))),
+    Shape("directives", "dict", 150,
+          lambda n: members([b'max-age=60, no-store, private="a, b", max-age=5'] * n)),
     # Parameters.
     Shape("parameters", "item", 300, lambda n: b"a" + parameters(n)),
     Shape("parameters with long keys", "item", 200,
@@ -192,6 +194,9 @@ SHAPES = [
     Shape("a mistake, then quotes", "list", 2000, lambda n: b"x=" + b',""' * n, "early"),
     Shape("a mistake, then blanks", "item", 8000, lambda n: b"a=" + b" " * n, "early"),
     Shape("a mistake, then semicolons", "item", 8000, lambda n: b"a;=" + b";" * n, "early"),
+    Shape("two commas, then commas", "dict", 8000, lambda n: b"a," + b"," * n, "early"),
+    Shape("a bad escape, then escapes", "dict", 2000,
+          lambda n: b'x="' + b"\\a" * n + b'"', "early"),
     Shape("a mistake in a key, then entries", "dict", 400,
           lambda n: b"K=1, " + entries(numbered(n)), "early"),
     Shape("a mistake in an Inner List, then Items", "list", 800,

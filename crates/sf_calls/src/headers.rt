@@ -2,15 +2,16 @@
 
 use crate::record::Record;
 use crate::session::Session;
-use http_header::{HeaderMap, HeaderName, HeaderValue};
+use http_header::{HeaderMap, HeaderName};
 use sf_field::{from_headers, set_field};
 use sf_parse::parse_text;
-use sf_use::{Choice, select};
+use sf_use::{Choice, RulesChoice, select, select_rules};
 
 /// Makes the calls of an operation on a header map; `false` if it is no such operation.
 pub(crate) fn answer(session: &mut Session, record: &Record) -> anyhow::Result<bool> {
     match record.operation {
         "select" => select_fields(session, record)?,
+        "select_rules" => select_all_rules(session, record)?,
         "from_headers" => read_headers(session, record)?,
         "set_field" => set_fields(session, record)?,
         _ => return Ok(false),
@@ -23,19 +24,8 @@ fn name() -> HeaderName {
     HeaderName::from_static("cdn-cache-control")
 }
 
-/// The header map with the lines of a text.
-fn headers_of(session: &Session, record: &Record) -> anyhow::Result<HeaderMap> {
-    let mut headers = HeaderMap::with_hasher(session.alloc, session.seed);
-    for line in record.text.split(|byte| *byte == b'\n') {
-        let mut value = Vec::new(session.alloc);
-        value.extend_from_slice(line)?;
-        headers.append(name(), HeaderValue::from_vec(value)?)?;
-    }
-    Ok(headers)
-}
-
 fn select_fields(session: &mut Session, record: &Record) -> anyhow::Result<()> {
-    let headers = headers_of(session, record)?;
+    let headers = session.headers_of(record, name())?;
     let targets = [name()];
     session.calls_begin();
     for _ in 0..record.times {
@@ -48,8 +38,22 @@ fn select_fields(session: &mut Session, record: &Record) -> anyhow::Result<()> {
     Ok(())
 }
 
+fn select_all_rules(session: &mut Session, record: &Record) -> anyhow::Result<()> {
+    let headers = session.headers_of(record, name())?;
+    let targets = [name()];
+    session.calls_begin();
+    for _ in 0..record.times {
+        match select_rules(session.alloc, &session.seed, &targets, &headers)? {
+            RulesChoice::Field { index, .. } => session.digest.number(index as u64),
+            RulesChoice::Fallback => session.digest.number(7),
+        }
+    }
+    session.calls_end();
+    Ok(())
+}
+
 fn read_headers(session: &mut Session, record: &Record) -> anyhow::Result<()> {
-    let headers = headers_of(session, record)?;
+    let headers = session.headers_of(record, name())?;
     let name = name();
     session.calls_begin();
     for _ in 0..record.times {

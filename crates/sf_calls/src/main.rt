@@ -3,10 +3,14 @@
 //! what a record is.
 #![tactic(auto)]
 
+mod cache_control;
 mod commands;
+mod cursors;
 mod digest;
 mod headers;
+mod hops;
 mod lines;
+mod nodes;
 mod record;
 mod session;
 mod texts;
@@ -46,9 +50,13 @@ fn main(rt: HostRuntime) -> anyhow::Result<()> {
 /// Makes the calls of a record.
 fn answer(session: &mut Session, record: &Record) -> anyhow::Result<()> {
     let is_known = texts::answer(session, record)?
+        || cursors::answer(session, record)
+        || nodes::answer(session, record)?
         || lines::answer(session, record)?
+        || hops::answer(session, record)?
         || values::answer(session, record)?
         || headers::answer(session, record)?
+        || cache_control::answer(session, record)?
         || commands::answer(session, record)?;
     if is_known {
         Ok(())

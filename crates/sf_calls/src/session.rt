@@ -1,8 +1,10 @@
 //! What all calls share.
 
 use crate::digest::Digest;
+use crate::record::Record;
 use anyhow::anyhow;
-use sf_parse::Refusal;
+use http_header::{HeaderMap, HeaderName, HeaderValue};
+use sf_parse::{Refusal, parse_text};
 use sf_value::Field;
 use std::alloc::Global;
 use std::hash::RandomState;
@@ -57,6 +59,29 @@ impl Session {
     #[inline(never)]
     pub(crate) fn calls_end(&mut self) {
         self.digest.number(2);
+    }
+
+    /// The value of the record's text, which is accepted.
+    pub(crate) fn value_of(&self, record: &Record) -> anyhow::Result<Field> {
+        match parse_text(self.alloc, &self.seed, record.kind, record.text) {
+            Ok(field) => Ok(field),
+            Err(refusal) => Err(anyhow!("{refusal}")),
+        }
+    }
+
+    /// The header map in which each line of a text is a value of this name.
+    pub(crate) fn headers_of(
+        &self,
+        record: &Record,
+        name: HeaderName,
+    ) -> anyhow::Result<HeaderMap> {
+        let mut headers = HeaderMap::with_hasher(self.alloc, self.seed);
+        for line in record.text.split(|byte| *byte == b'\n') {
+            let mut value = Vec::new(self.alloc);
+            value.extend_from_slice(line)?;
+            headers.append(name.clone()?, HeaderValue::from_vec(value)?)?;
+        }
+        Ok(headers)
     }
 
     /// Adds the number of members, or the refusal.

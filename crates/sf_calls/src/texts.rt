@@ -1,11 +1,10 @@
 //! Calls on a text.
 
 use crate::record::Record;
-use crate::session::{Session, count_of};
-use sf_nodes::FieldNodes;
+use crate::session::Session;
 use sf_parse::{Parser, Refusal, parse_reader, parse_text, parse_text_in};
 use sf_value::{Dialect, Field, Reading};
-use sf_view::{Node, View, accepts, node_buffer, normalise, parse_declined};
+use sf_view::{accepts, normalise, parse_declined};
 
 /// Makes the calls of an operation on a text; `false` if it is no such operation.
 pub(crate) fn answer(session: &mut Session, record: &Record) -> anyhow::Result<bool> {
@@ -16,9 +15,6 @@ pub(crate) fn answer(session: &mut Session, record: &Record) -> anyhow::Result<b
         "parse_reader" => parse_readers(session, record)?,
         "normalise" => normalise_texts(session, record)?,
         "accepts" => accept_texts(session, record),
-        "scan" => scan_texts(session, record)?,
-        "to_field" => build_fields(session, record)?,
-        "field_nodes" => build_nodes(session, record)?,
         "parse_declined" => parse_declined_texts(session, record)?,
         "message" => write_messages(session, record)?,
         _ => return Ok(false),
@@ -116,64 +112,6 @@ fn accept_texts(session: &mut Session, record: &Record) {
         session.digest.number(u64::from(accepted));
     }
     session.calls_end();
-}
-
-/// Whether the text is scanned into these nodes.
-fn is_scanned(record: &Record, nodes: &mut [Node]) -> bool {
-    View::scan(Dialect::Rfc9651, record.kind, record.text, nodes).is_ok()
-}
-
-fn scan_texts(session: &mut Session, record: &Record) -> anyhow::Result<()> {
-    let mut nodes = node_buffer(session.alloc, record.text)?;
-    session.calls_begin();
-    for _ in 0..record.times {
-        let scanned = is_scanned(record, nodes.as_mut_slice());
-        session.digest.number(u64::from(scanned));
-    }
-    session.calls_end();
-    Ok(())
-}
-
-/// Builds the field of the text's nodes so many times, if the text is scanned.
-fn build_fields(session: &mut Session, record: &Record) -> anyhow::Result<()> {
-    let mut nodes = node_buffer(session.alloc, record.text)?;
-    let Ok(view) = View::scan(
-        Dialect::Rfc9651,
-        record.kind,
-        record.text,
-        nodes.as_mut_slice(),
-    ) else {
-        session.calls_begin();
-        session.calls_end();
-        return Ok(());
-    };
-    session.calls_begin();
-    for _ in 0..record.times {
-        match view.to_field(session.alloc, &session.seed, record.kind)? {
-            Some(field) => session.digest.number(count_of(&field)),
-            None => session.digest.number(0),
-        }
-    }
-    session.calls_end();
-    Ok(())
-}
-
-fn build_nodes(session: &mut Session, record: &Record) -> anyhow::Result<()> {
-    session.calls_begin();
-    for _ in 0..record.times {
-        match FieldNodes::of_text(
-            session.alloc,
-            &session.seed,
-            Dialect::Rfc9651,
-            record.kind,
-            record.text,
-        ) {
-            Ok(nodes) => session.digest.number(nodes.view().nodes.len() as u64),
-            Err(refusal) => session.add_refusal(refusal)?,
-        }
-    }
-    session.calls_end();
-    Ok(())
 }
 
 fn parse_declined_texts(session: &mut Session, record: &Record) -> anyhow::Result<()> {

@@ -3,9 +3,8 @@
 use crate::record::Record;
 use crate::session::{Session, count_of};
 use anyhow::anyhow;
-use sf_parse::parse_text;
-use sf_use::{Hop, Name, Outcome, Priority, append_hop, merge, priority_field, update_priority};
-use sf_value::{Bare, Dict, Field, Item, Key, Token, Writing, copy};
+use sf_use::{Priority, merge, priority_field, update_priority};
+use sf_value::{Bare, Dict, Field, Item, Key, Writing, copy};
 use sf_write::{to_text, write_field};
 use std::hash::RandomState;
 
@@ -20,7 +19,7 @@ pub(crate) fn answer(session: &mut Session, record: &Record) -> anyhow::Result<b
         "copy" => copy_values(session, record)?,
         "same" => compare_values(session, record)?,
         "get" => look_up(session, record)?,
-        "append_hop" => append_hops(session, record)?,
+        "remove" => remove_first(session, record)?,
         "update_priority" => update_priorities(session, record)?,
         "priority_field" => write_priorities(session, record)?,
         _ => return Ok(false),
@@ -28,16 +27,8 @@ pub(crate) fn answer(session: &mut Session, record: &Record) -> anyhow::Result<b
     Ok(true)
 }
 
-/// The value of the record's text.
-fn value_of(session: &Session, record: &Record) -> anyhow::Result<Field> {
-    match parse_text(session.alloc, &session.seed, record.kind, record.text) {
-        Ok(field) => Ok(field),
-        Err(refusal) => Err(anyhow!("{refusal}")),
-    }
-}
-
 fn write_texts(session: &mut Session, record: &Record) -> anyhow::Result<()> {
-    let field = value_of(session, record)?;
+    let field = session.value_of(record)?;
     session.calls_begin();
     for _ in 0..record.times {
         let text = to_text(session.alloc, &field)?;
@@ -48,7 +39,7 @@ fn write_texts(session: &mut Session, record: &Record) -> anyhow::Result<()> {
 }
 
 fn write_fields(session: &mut Session, record: &Record) -> anyhow::Result<()> {
-    let field = value_of(session, record)?;
+    let field = session.value_of(record)?;
     session.calls_begin();
     for _ in 0..record.times {
         let mut sink = Writing::new(Vec::with_capacity(session.alloc, record.text.len())?);
@@ -62,7 +53,7 @@ fn write_fields(session: &mut Session, record: &Record) -> anyhow::Result<()> {
 /// Copies a value with another seed so many times, and adds as many members as the parameter says
 /// to each copy, at most eight.
 fn copy_values(session: &mut Session, record: &Record) -> anyhow::Result<()> {
-    let field = value_of(session, record)?;
+    let field = session.value_of(record)?;
     session.calls_begin();
     for _ in 0..record.times {
         let mut copied = copy(session.alloc, &session.other_seed, &field)?;
@@ -94,7 +85,7 @@ fn with_more(session: &Session, field: Field, key: &[u8]) -> anyhow::Result<Fiel
 }
 
 fn compare_values(session: &mut Session, record: &Record) -> anyhow::Result<()> {
-    let field = value_of(session, record)?;
+    let field = session.value_of(record)?;
     let copied = copy(session.alloc, &session.seed, &field)?;
     session.calls_begin();
     for _ in 0..record.times {
@@ -106,7 +97,7 @@ fn compare_values(session: &mut Session, record: &Record) -> anyhow::Result<()> 
 
 /// Looks up each key of a Dictionary in its copy, which has another seed, so many times.
 fn look_up(session: &mut Session, record: &Record) -> anyhow::Result<()> {
-    let field = value_of(session, record)?;
+    let field = session.value_of(record)?;
     let copied = copy(session.alloc, &session.other_seed, &field)?;
     session.calls_begin();
     for _ in 0..record.times {
@@ -128,31 +119,43 @@ fn found_in(one: &Field, other: &Field) -> u64 {
     found
 }
 
-/// Appends a hop so many times.
-fn append_hops(session: &mut Session, record: &Record) -> anyhow::Result<()> {
-    let Field::List(list) = value_of(session, record)? else {
-        return Err(anyhow!("no List"));
-    };
-    let mut list = list;
-    let hop = Hop {
-        name: Name::Token(Token::new(session.alloc, b"edge.example")?),
-        outcome: Outcome::Hit,
-        ttl: None,
-        key: None,
-        detail: None,
-    };
+/// Removes the first member, or the first parameter of an Item, once.
+fn remove_first(session: &mut Session, record: &Record) -> anyhow::Result<()> {
+    let mut field = session.value_of(record)?;
+    let key = first_key(session, &field)?;
     session.calls_begin();
-    for _ in 0..record.times {
-        append_hop(session.alloc, &session.seed, &mut list, &hop)?;
-    }
+    let is_removed = match &mut field {
+        Field::Item(item) => item.params.remove(key.as_slice()).is_some(),
+        Field::Dict(dict) => dict.members.remove(key.as_slice()).is_some(),
+        Field::List(list) => {
+            let has_one = !list.members.is_empty();
+            if has_one {
+                list.members.remove(0);
+            }
+            has_one
+        }
+    };
     session.calls_end();
-    session.digest.number(list.members.len() as u64);
+    session.digest.number(u64::from(is_removed));
+    session.digest.number(count_of(&field));
     Ok(())
+}
+
+/// The first key of a Dictionary, or of the parameters of an Item; empty if there is none.
+fn first_key(session: &Session, field: &Field) -> anyhow::Result<Vec<u8>> {
+    let key = match field {
+        Field::Item(item) => item.params.at(0).map_or(b"".as_slice(), |(key, _)| key),
+        Field::Dict(dict) => dict.members.at(0).map_or(b"".as_slice(), |(key, _)| key),
+        Field::List(_) => b"".as_slice(),
+    };
+    let mut copied = Vec::new(session.alloc);
+    copied.extend_from_slice(key)?;
+    Ok(copied)
 }
 
 /// Updates the priority in a Dictionary so many times.
 fn update_priorities(session: &mut Session, record: &Record) -> anyhow::Result<()> {
-    let Field::Dict(dict) = value_of(session, record)? else {
+    let Field::Dict(dict) = session.value_of(record)? else {
         return Err(anyhow!("no Dictionary"));
     };
     let mut dict = dict;
@@ -169,7 +172,7 @@ fn update_priorities(session: &mut Session, record: &Record) -> anyhow::Result<(
 
 /// Makes the Dictionary of what a Priority field asks for so many times.
 fn write_priorities(session: &mut Session, record: &Record) -> anyhow::Result<()> {
-    let Field::Dict(dict) = value_of(session, record)? else {
+    let Field::Dict(dict) = session.value_of(record)? else {
         return Err(anyhow!("no Dictionary"));
     };
     session.calls_begin();

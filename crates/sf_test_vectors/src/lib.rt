@@ -13,4 +13,6 @@ mod readers;
 #[cfg(test)]
 mod refusals;
 #[cfg(test)]
+mod thresholds;
+#[cfg(test)]
 mod whole_members;

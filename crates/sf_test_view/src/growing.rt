@@ -1,7 +1,7 @@
 //! Nodes that are added while a text is read: how many there are, and that they are those of the text.
 use sf_parse::parse_text;
 use sf_value::{Dialect, Kind, OutOfMemory};
-use sf_view::{normalise, scan_settled, view_text};
+use sf_view::{canonical_text, normalise, scan_settled, settled_text, view_text};
 use sf_write::to_text;
 use std::alloc::Global;
 use std::hash::RandomState;
@@ -224,6 +224,140 @@ fn nodes_that_are_added_are_of_the_text(rt: HostRuntime) -> Result<(), Fail> {
         assert!(&rt; view_text(alloc, &view, *kind)?.as_slice() == canonical.as_slice());
         let normal = normalise(alloc, &seed, Dialect::Rfc9651, *kind, text.as_slice())?;
         assert!(&rt; normal.as_slice() == canonical.as_slice());
+    }
+    Ok(())
+}
+
+/// A canonical text: a beginning, a part with one node that is repeated, numbered where its key must
+/// differ, and an end.
+#[derive(Clone, Copy, Drop)]
+struct Canonical<'a> {
+    kind: Kind,
+    first: &'a [u8],
+    part: &'a [u8],
+    is_numbered: bool,
+    last: &'a [u8],
+    // How many nodes the beginning and the end have.
+    others: usize,
+}
+
+// An Inner List and an Item in it have their nodes before those of their parts, but these are written
+// first.
+static CANONICAL: [Canonical; 9] = [
+    Canonical {
+        kind: Kind::Item,
+        first: b"1",
+        part: b";k",
+        is_numbered: true,
+        last: b"",
+        others: 1,
+    },
+    Canonical {
+        kind: Kind::List,
+        first: b"0",
+        part: b", 1",
+        is_numbered: false,
+        last: b"",
+        others: 1,
+    },
+    Canonical {
+        kind: Kind::List,
+        first: b"0",
+        part: b", 1",
+        is_numbered: false,
+        last: b", ()",
+        others: 2,
+    },
+    Canonical {
+        kind: Kind::List,
+        first: b"0",
+        part: b", 1",
+        is_numbered: false,
+        last: b", (2;x)",
+        others: 4,
+    },
+    Canonical {
+        kind: Kind::List,
+        first: b"0",
+        part: b", 1",
+        is_numbered: false,
+        last: b", (2;x;z);y",
+        others: 6,
+    },
+    Canonical {
+        kind: Kind::List,
+        first: b"(0",
+        part: b" 1",
+        is_numbered: false,
+        last: b");y",
+        others: 3,
+    },
+    Canonical {
+        kind: Kind::List,
+        first: b"(0",
+        part: b" 1",
+        is_numbered: false,
+        last: b" 2;x;z), 3",
+        others: 6,
+    },
+    Canonical {
+        kind: Kind::Dict,
+        first: b"a",
+        part: b", k",
+        is_numbered: true,
+        last: b"",
+        others: 1,
+    },
+    Canonical {
+        kind: Kind::Dict,
+        first: b"a",
+        part: b", k",
+        is_numbered: true,
+        last: b", b=(2;x;z);y",
+        others: 6,
+    },
+];
+
+// How many nodes a text has: on both sides of the number on the stack, and of the number that a scan
+// begins with.
+static NODES: [usize; 14] = [
+    29, 30, 31, 32, 33, 34, 35, 4_093, 4_094, 4_095, 4_096, 4_097, 4_098, 4_099,
+];
+
+/// The text with so many nodes.
+fn with_nodes(alloc: Global, made: Canonical, nodes: usize) -> Result<Vec<u8>, OutOfMemory> {
+    let mut text = Vec::from_slice(alloc, made.first)?;
+    for index in made.others..nodes {
+        text.extend_from_slice(made.part)?;
+        if made.is_numbered {
+            text.extend_from_slice(format!(in alloc; "{index}")?.as_bytes())?;
+        }
+    }
+    text.extend_from_slice(made.last)?;
+    Ok(text)
+}
+
+#[test]
+fn canonical_texts_of_as_many_nodes_as_there_are(rt: HostRuntime) -> Result<(), Fail> {
+    let seed = RandomState::new(&rt)?;
+    let alloc = rt.alloc();
+    let dialect = Dialect::Rfc9651;
+    for made in &CANONICAL {
+        for nodes in &NODES {
+            let made_text = with_nodes(alloc, *made, *nodes)?;
+            let text = made_text.as_slice();
+            let normal = normalise(alloc, &seed, dialect, made.kind, text)?;
+            assert!(&rt; normal.as_slice() == text);
+            for found in [
+                canonical_text(alloc, dialect, made.kind, text)?,
+                settled_text(alloc, dialect, made.kind, text)?,
+            ] {
+                assert!(&rt; found.is_some_and(|found| found.as_slice() == text));
+            }
+            let mut buffer = Vec::new(alloc);
+            let view = scan_settled(alloc, dialect, made.kind, text, &mut buffer);
+            assert!(&rt; view.is_some_and(|view| view.nodes.len() == *nodes));
+        }
     }
     Ok(())
 }
