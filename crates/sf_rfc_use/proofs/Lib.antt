@@ -3,3 +3,6 @@ pub mod CacheStatusAgrees
 pub mod OutcomesAgree
 pub mod TargetedAgrees
 pub mod PriorityAgrees
+pub mod DirectivesAgree
+pub mod CachingAgrees
+pub mod StalenessAgrees
