@@ -6,3 +6,4 @@ pub mod PriorityAgrees
 pub mod DirectivesAgree
 pub mod CachingAgrees
 pub mod StalenessAgrees
+pub mod SemanticsAgree
