@@ -1,6 +1,7 @@
 pub mod LookUps
 pub mod CacheStatusAgrees
 pub mod OutcomesAgree
+pub mod AddingAgrees
 pub mod TargetedAgrees
 pub mod PriorityAgrees
 pub mod DirectivesAgree
