@@ -210,3 +210,70 @@ fn more_names_than_a_map_holds(rt: HostRuntime) -> Result<(), Fail> {
     expect_whole(&rt, &seed, &request, (b"c", b"refused line 0\n", REFUSED));
     Ok(())
 }
+
+fn decide_by(alloc: Global, name: HeaderName, age: u64) -> Result<Request, AllocError> {
+    let mut names = Vec::new(alloc);
+    names.push(name)?;
+    Ok(Request::Decide(names, age))
+}
+
+/// What a cache decides by the field that it obeys, or by `Cache-Control`, by both dialects.
+#[test]
+fn decisions(rt: HostRuntime) -> Result<(), Fail> {
+    let seed = RandomState::new(&rt)?;
+    let rows: [Row; 8] = [
+        // The field is obeyed, and Cache-Control is not.
+        (
+            b"CDN-Cache-Control: max-age=60, s-maxage=90\nCache-Control: no-store\n",
+            b"by RFC 8941 and RFC 9651:\nfield 0 cdn-cache-control\n\
+              lifetime shared 90\nlifetime private 60\n\
+              shared fresh 80 s-maxage\nprivate fresh 50 max-age\n",
+            ACCEPTED,
+        ),
+        // Cache-Control decides, by its own grammar (RFC 9111 section 5.2).
+        (
+            b"Cache-Control: No-Store,, Max-Age=\"60\",\n",
+            b"by RFC 8941 and RFC 9651:\nfallback cache-control\n\
+              lifetime shared 60\nlifetime private 60\nno-store\n\
+              shared not-stored no-store\nprivate not-stored no-store\n",
+            ACCEPTED,
+        ),
+        (
+            b"cdn-cache-control:\ncache-control: private\ncache-control: must-revalidate, max-age=5\n",
+            b"by RFC 8941 and RFC 9651:\nfallback cache-control\n\
+              lifetime shared 5\nlifetime private 5\nmust-revalidate\nprivate\n\
+              shared not-stored private\nprivate revalidate must-revalidate\n",
+            ACCEPTED,
+        ),
+        // It is absent, and it is no list of directives.
+        (
+            b"",
+            b"by RFC 8941 and RFC 9651:\nfallback cache-control\n\
+              lifetime shared none\nlifetime private none\n\
+              shared unspecified nothing\nprivate unspecified nothing\n",
+            ACCEPTED,
+        ),
+        (
+            b"cache-control: max-age=60 no-cache\n",
+            b"by RFC 8941 and RFC 9651:\nfallback cache-control\n\
+              lifetime shared none\nlifetime private none\nno-store\n\
+              shared not-stored no-store\nprivate not-stored no-store\n",
+            ACCEPTED,
+        ),
+        // RFC 8941 has no Dates, so the field is passed over by it.
+        (
+            b"CDN-Cache-Control: max-age=60, x=@1\nCache-Control: max-age=10\n",
+            b"by RFC 8941:\nfallback cache-control\nlifetime shared 10\nlifetime private 10\n\
+              shared stale max-age\nprivate stale max-age\n\
+              by RFC 9651:\nfield 0 cdn-cache-control\nlifetime shared 60\nlifetime private 60\n\
+              shared fresh 50 max-age\nprivate fresh 50 max-age\n",
+            ACCEPTED,
+        ),
+        // A line of Cache-Control is read, too; others are not.
+        (b"Cache-Control: \x01\n", b"refused line 0\n", REFUSED),
+        (b"Expires: \x01\nnonsense\n", b"refused line 1\n", REFUSED),
+    ];
+    let request = decide_by(rt.alloc(), HeaderName::from_static("cdn-cache-control"), 10)?;
+    expect_rows(&rt, &seed, &request, &rows);
+    Ok(())
+}

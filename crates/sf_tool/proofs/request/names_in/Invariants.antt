@@ -2,7 +2,7 @@ use Rattle.std.proofs.Common.{◌≡◌, true, map, take}
 use Rattle.std.specs.List.{list_all}
 use Rattle.http_header.specs.Token.{lowercase}
 use Rattle.sf_tool.specs.Fields.{is_header_name}
-use Rattle.sf_tool.proofs.request.targeted.Given as goal
+use Rattle.sf_tool.proofs.request.names_in.Given as goal
 
 abbrev pub invariant-loop-word : goal.invariant-loop-word
 invariant-loop-word l = record {

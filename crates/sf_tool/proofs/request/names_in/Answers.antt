@@ -4,7 +4,7 @@ use Rattle.http_header.specs.Token.{lowercase}
 use Rattle.clap.specs.Walk.{Text}
 use Rattle.sf_tool.specs.Fields.{is_header_name}
 use Rattle.sf_tool.proofs.CommandLine.{names-more, lowercase-more, not-names, texts, text-at}
-use Rattle.sf_tool.proofs.request.targeted.Goals as goal
+use Rattle.sf_tool.proofs.request.names_in.Goals as goal
 
 pub returns-in_default : goal.returns-in_default
 returns-in_default c =
