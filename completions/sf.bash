@@ -37,7 +37,13 @@ _sf() {
       ;;
     esac
     ;;
-  targeted) _sf_words 'cdn-cache-control' "$word" ;;
+  targeted)
+    case $before in
+    --fallback) _sf_words 'cache-control' "$word" ;;
+    --age) ;;
+    *) _sf_words '--fallback --age cdn-cache-control' "$word" ;;
+    esac
+    ;;
   esac
 }
 
