@@ -168,6 +168,51 @@ no-age f r s e is none age given =
     let P : Option Text → Type 0 = λ o. IsGivenAge o age in
     not-given s.now none age (subst P (value-some f (codes "age") r s e is) given)
 
+-- a fallback
+
+no-word : (o : Option Text) → IsGivenAge o None → o ≡ None
+no-word None given = refl
+no-word (Some word) given = absurd given
+
+-- neither is given
+pub neither : (rows : List Row) → first_of (codes "fallback") rows ≡ None
+    → IsGivenAge (first_of (codes "age") rows) None → NamesFallback rows None
+neither rows absent given = (absent, no-word (first_of (codes "age") rows) given)
+
+-- an age that is none
+pub age-fails : (rows : List Row)
+    → ((age : Option ℕ) → ¬ (IsGivenAge (first_of (codes "age") rows) age))
+    → (age : Option ℕ) → ¬ (NamesFallback rows age)
+age-fails rows none None names =
+    let P : Option Text → Type 0 = λ o. IsGivenAge o None in
+    none None (subst P (sym names.1) tt)
+age-fails rows none (Some seconds) names = none names.1.0 names.1.1
+
+-- an age without a fallback
+pub age-alone : (rows : List Row) (seconds : ℕ) → first_of (codes "fallback") rows ≡ None
+    → IsGivenAge (first_of (codes "age") rows) (Some seconds)
+    → (age : Option ℕ) → ¬ (NamesFallback rows age)
+age-alone rows seconds absent given None names =
+    let P : Option Text → Type 0 = λ o. IsGivenAge o (Some seconds) in
+    subst P names.1 given
+age-alone rows seconds absent given (Some other) names =
+    let both : None ≡ Some (codes "cache-control") = sym absent ∙ names.0 in cc
+
+-- a word that is no fallback
+pub other-fallback : (f : Found) (r : Option (Bor Text)) (s : Bor Text)
+    → option_map (λ s. s.now) r ≡ first_value f (codes "fallback") → r ≡ Some s
+    → ¬ (s.now ≡ codes "cache-control") → (age : Option ℕ) → ¬ (NamesFallback (rows_of f) age)
+other-fallback f r s e is other None names =
+    let both : Some s.now ≡ None = sym (value-some f (codes "fallback") r s e is) ∙ names.0 in cc
+other-fallback f r s e is other (Some seconds) names =
+    other (some-same _ _ (sym (value-some f (codes "fallback") r s e is) ∙ names.0))
+
+pub fallback-fault : (rows : List Row) (fault : RequestFault)
+    → (fault ≡ Usage) × ((age : Option ℕ) → ¬ (NamesFallback rows age))
+    → IsCommandFault (codes "targeted") rows fault
+fallback-fault rows Usage (is, none) = no-fallback rows none
+fallback-fault rows OutOfMemory (is, none) = absurd cc
+
 -- one name more
 
 -- the texts of words, and the one at a place

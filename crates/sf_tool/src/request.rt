@@ -235,7 +235,10 @@ fn with_names<'a>(alloc: Global, name: &'a str) -> Result<Command<'a>, AllocErro
         .action(ArgAction::Append);
     let fallback = Arg::new(alloc, "fallback").long("fallback");
     let age = Arg::new(alloc, "age").long("age");
-    Command::new(alloc, name).arg(names)?.arg(fallback)?.arg(age)
+    Command::new(alloc, name)
+        .arg(names)?
+        .arg(fallback)?
+        .arg(age)
 }
 
 /// Returns the request of a command and its arguments.
