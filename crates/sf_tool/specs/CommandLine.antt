@@ -1,6 +1,6 @@
 -- The arguments of the command line, as clap parses them.
 use Rattle.std.specs.Prelude.{◌≡◌, ◌<◌, ◌≤◌, ◌⊎◌, ◌^◌, ℕ, true, false, List, [], ◌∷◌, map, length}
-use Rattle.std.specs.Prelude.{codes, slice_get, Option, Some, None, ⊤}
+use Rattle.std.specs.Prelude.{codes, slice_get, Option, Some, None, unwrap_or, ⊤}
 use Rattle.std.specs.List.{list_all}
 use Rattle.std.specs.Str.Parse.{IsNumeral, digits_value, without_leading_plus}
 use Rattle.clap.specs.Lexer.{usize_max}
@@ -46,18 +46,17 @@ name_list = record (new_rule (codes "name")) {
 abbrev pub kind_command : Text → Shape
 kind_command word = record (new_shape word) { rules = kind_option ∷ dialect_option ∷ [] }
 
--- `--fallback`, the field that decides if none of the names does
-abbrev pub fallback_option : Rule
-fallback_option = record (new_rule (codes "fallback")) { long = Some (codes "fallback") }
+-- an option of this name with a value, which may be absent
+abbrev pub option_of : Text → Rule
+option_of word = record (new_rule word) { long = Some word }
 
--- `--age`, the age of a response
-abbrev pub age_option : Rule
-age_option = record (new_rule (codes "age")) { long = Some (codes "age") }
-
--- a command that takes names, a fallback and an age
+-- a command that takes names, the field that decides if none of them does, and the age of a
+-- response
 abbrev pub names_command : Text → Shape
 names_command word =
-    record (new_shape word) { rules = name_list ∷ fallback_option ∷ age_option ∷ [] }
+    record (new_shape word) {
+      rules = name_list ∷ option_of (codes "fallback") ∷ option_of (codes "age") ∷ [];
+    }
 
 -- the program: one of six commands must be named
 abbrev pub command_line : App
@@ -106,19 +105,15 @@ IsGivenAge None (Some seconds) = ⊥
 IsGivenAge (Some word) None = ⊥
 IsGivenAge (Some word) (Some seconds) = IsSeconds word seconds
 
--- an age that is not given is 0
-abbrev pub age_or_zero : Option ℕ → ℕ
-age_or_zero None = 0
-age_or_zero (Some seconds) = seconds
-
--- neither a fallback nor an age is given; or the fallback is Cache-Control, and this is the age
+-- neither a fallback nor an age is given; or the fallback is Cache-Control, and this is the age,
+-- which is 0 if it is not given
 abbrev pub NamesFallback : List Row → Option ℕ → Type 0
 NamesFallback rows None =
     (first_of (codes "fallback") rows ≡ None) × (first_of (codes "age") rows ≡ None)
 NamesFallback rows (Some age) =
     (first_of (codes "fallback") rows ≡ Some (codes "cache-control"))
     × ((given : Option ℕ) × IsGivenAge (first_of (codes "age") rows) given
-    × (age ≡ age_or_zero given))
+    × (age ≡ unwrap_or given 0))
 
 -- header names, as many as a request may have, whose letters may be of either case
 abbrev pub AreNames : List Text → List Text → Type 0

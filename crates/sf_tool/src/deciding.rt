@@ -1,6 +1,7 @@
 //! What a cache decides by the field that it obeys, or by `Cache-Control`, as a text.
-ghost use Rattle.std.specs.Prelude.{◌≡◌, IfOk};
+ghost use Rattle.std.specs.Prelude.{◌≡◌, ◌++◌, IfOk};
 ghost use Rattle.sf_write.specs.Writing.{Follows};
+ghost use Rattle.sf_use.specs.declared.caching.Reuse.TheVariants as reuse_is;
 ghost use Rattle.sf_tool.specs.Deciding.{IsChoiceText, IsDecisionText, IsDecisionTextIn};
 ghost use Rattle.sf_tool.specs.Deciding.{IsRulesPlaceOf, cache_word, cause_text, decision_line};
 ghost use Rattle.sf_tool.specs.Deciding.{dialects_text, different_text, fallback_lines};
@@ -63,19 +64,25 @@ fn cause_word(by: Cause) -> &'static str
     }
 }
 
+/// Writes that a response stays fresh for so many seconds.
+fn put_fresh<W: Sink>(seconds: u64, before: Sent, out: &mut W) -> Sent
+    ensures { Follows W.state W.send_gives out.old out.new before result
+        (reuse_text (reuse_is.Fresh seconds)) }
+{
+    let sent = put(b"fresh ", before, out);
+    put_number(seconds, sent, out)
+}
+
 /// Writes how a response may be used.
 fn put_reuse<W: Sink>(reuse: Reuse, before: Sent, out: &mut W) -> Sent
     ensures { Follows W.state W.send_gives out.old out.new before result (reuse_text reuse) }
 {
     match reuse {
-        Reuse::NotStored => put(b"not-stored", before, out),
-        Reuse::Fresh { seconds } => {
-            let sent = put(b"fresh ", before, out);
-            return put_number(seconds, sent, out);
-        }
-        Reuse::Stale => put(b"stale", before, out),
-        Reuse::MustRevalidate => put(b"revalidate", before, out),
-        Reuse::Unspecified => put(b"unspecified", before, out),
+        Reuse::NotStored => return put(b"not-stored", before, out),
+        Reuse::Fresh { seconds } => return put_fresh(seconds, before, out),
+        Reuse::Stale => return put(b"stale", before, out),
+        Reuse::MustRevalidate => return put(b"revalidate", before, out),
+        Reuse::Unspecified => return put(b"unspecified", before, out),
     }
 }
 
@@ -176,24 +183,29 @@ fn decision_text_in(
     choice_text(alloc, names, age, headers, choice)
 }
 
+/// Returns a text after another one.
+fn after(alloc: Global, first: &[u8], text: &[u8]) -> Result<Vec<u8>, OutOfMemory>
+    ensures { IfOk result (λ all. all.items ≡ first.now ++ text.now) }
+{
+    let mut all = Vec::from_slice(alloc, first)?;
+    all.extend_from_slice(text)?;
+    Ok(all)
+}
+
 /// Returns the answer that both dialects give.
 fn same(alloc: Global, text: &[u8]) -> Result<Vec<u8>, OutOfMemory>
     ensures { IfOk result (λ all. all.items ≡ same_text text.now) }
 {
-    let mut all = Vec::from_slice(alloc, b"by RFC 8941 and RFC 9651:\n")?;
-    all.extend_from_slice(text)?;
-    Ok(all)
+    after(alloc, b"by RFC 8941 and RFC 9651:\n", text)
 }
 
 /// Returns the answers of both dialects.
 fn different(alloc: Global, older: &[u8], newer: &[u8]) -> Result<Vec<u8>, OutOfMemory>
     ensures { IfOk result (λ all. all.items ≡ different_text older.now newer.now) }
 {
-    let mut all = Vec::from_slice(alloc, b"by RFC 8941:\n")?;
-    all.extend_from_slice(older)?;
-    all.extend_from_slice(b"by RFC 9651:\n")?;
-    all.extend_from_slice(newer)?;
-    Ok(all)
+    let newer = after(alloc, b"by RFC 9651:\n", newer)?;
+    let both = after(alloc, older, newer.as_slice())?;
+    after(alloc, b"by RFC 8941:\n", both.as_slice())
 }
 
 /// Returns what a cache decides about a response of this age, in seconds, by the first of the fields

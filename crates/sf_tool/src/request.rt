@@ -10,6 +10,8 @@ ghost use Rattle.sf_tool.specs.declared.request.RequestFault.TheVariants.{Usage}
 ghost use Rattle.sf_tool.specs.Request.{HasFewNames};
 ghost use Rattle.sf_tool.specs.Status.{fault_line, status_of};
 ghost use Rattle.sf_tool.specs.CommandLine.{command_line, kind_command, names_command};
+ghost use Rattle.sf_tool.specs.CommandLine.{name_list, option_of};
+ghost use Rattle.clap.specs.Simple.{new_app, with_rule};
 ghost use Rattle.sf_tool.specs.CommandLine.{NamesKind, NamesDialect, AsksFor, IsRequestOf};
 ghost use Rattle.sf_tool.specs.CommandLine.{AreNames, IsGivenAge, NamesFallback};
 ghost use Rattle.sf_tool.specs.CommandLine.{IsUsageOf, IsStray, IsOption, IsCommand};
@@ -229,16 +231,33 @@ fn with_names<'a>(alloc: Global, name: &'a str) -> Result<Command<'a>, AllocErro
     ensures { IfOk result
         (λ c. app_of c ≡ record { top = names_command name.entry.now; subs = [] }) }
 {
+    let command = with_name_list(alloc, name)?;
+    let command = with_option(alloc, command, "fallback")?;
+    with_option(alloc, command, "age")
+}
+
+/// Returns a command that takes one option more, with a value.
+fn with_option<'a>(
+    alloc: Global,
+    command: Command<'a>,
+    name: &'a str,
+) -> Result<Command<'a>, AllocError>
+    ensures { IfOk result
+        (λ c. app_of c ≡ with_rule (app_of command) (option_of name.entry.now)) }
+{
+    command.arg(Arg::new(alloc, name).long(name))
+}
+
+/// Returns a command that takes one name or more.
+fn with_name_list<'a>(alloc: Global, name: &'a str) -> Result<Command<'a>, AllocError>
+    // It takes one name or more, and has no subcommands.
+    ensures { IfOk result (λ c. app_of c ≡ with_rule (new_app name.entry.now) name_list) }
+{
     let names = Arg::new(alloc, "name")
         .required(true)
         .num_args(1..)
         .action(ArgAction::Append);
-    let fallback = Arg::new(alloc, "fallback").long("fallback");
-    let age = Arg::new(alloc, "age").long("age");
-    Command::new(alloc, name)
-        .arg(names)?
-        .arg(fallback)?
-        .arg(age)
+    Command::new(alloc, name).arg(names)
 }
 
 /// Returns the request of a command and its arguments.

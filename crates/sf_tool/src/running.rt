@@ -534,7 +534,9 @@ fn explain_decided(
     ensures { IfSome result
         (λ text. ExplainsLine (names_with names.now.items) input.now text.items) }
 {
-    let read = with_cache_control(alloc, names.as_slice()).ok()?;
+    let Ok(read) = with_cache_control(alloc, names.as_slice()) else {
+        return None;
+    };
     explain_line(alloc, seed, read.as_slice(), input)
 }
 
