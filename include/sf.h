@@ -1116,6 +1116,21 @@ typedef struct sf_rules {
 uint32_t sf_cache_rules(const sf_seed *seed, uint32_t dialect, const void *text, size_t text_length,
                         sf_rules *rules, sf_refusal *refusal) SF_USE_RESULT;
 
+/*
+ * Reads the text of Cache-Control, its lines joined, for sf_decide: the field that decides if each
+ * field of the target list is ignored (RFC 9213 section 2.2). It is no structured field, and is read
+ * by RFC 9111 section 5.2: names of directives have no case, an argument is a token or a quoted
+ * string, and empty elements of the list are skipped. Two values of max-age, or of s-maxage, that
+ * differ are invalid. An empty text, as of an absent field, has no directives.
+ *
+ *   SF_OK         *rules is written
+ *   SF_REFUSED    the text is no list of directives; *rules is written as by no-store, since such a
+ *                 directive may be lost in it
+ *
+ * Does not allocate.
+ */
+uint32_t sf_fallback_rules(const void *text, size_t text_length, sf_rules *rules) SF_USE_RESULT;
+
 /* A range of bytes in one of the caller's buffers. */
 typedef struct sf_span {
   size_t at;     /* offset of its first byte */

@@ -134,8 +134,26 @@ static uint64_t age_of(ngx_http_request_t *r) {
   return (uint64_t)age;
 }
 
+/* What Cache-Control decides, in a shared cache, if no field of the target list does: for the variables
+ * alone, since nginx reads Cache-Control by itself when it stores. */
+static ngx_int_t fall_back(ngx_http_request_t *r, sf_target *target) {
+  static const ngx_str_t name = ngx_string("cache-control");
+  ngx_str_t text;
+  if (join_lines(r, &r->headers_out.headers, &name, &text) != NGX_OK)
+    return NGX_ERROR;
+  sf_rules rules;
+  uint32_t status = sf_fallback_rules(text.data, text.len, &rules);
+  if (status == SF_REFUSED)
+    ngx_log_error(NGX_LOG_INFO, r->connection->log, 0, "Cache-Control is no list of directives");
+  else if (status != SF_OK)
+    return NGX_ERROR;
+  sf_response response = {.age = age_of(r)};
+  return sf_decide(&rules, SF_SHARED_CACHE, &response, &target->decision) == SF_OK ? NGX_OK
+                                                                                   : NGX_ERROR;
+}
+
 /* What the first field of the target list that is well-formed and not empty decides, in a shared
- * cache. */
+ * cache; target->name is empty if there is none, and Cache-Control decides. */
 static ngx_int_t read_targets(ngx_http_request_t *r, sf_target *target) {
   const sf_settings *settings = ngx_http_get_module_loc_conf(r, ngx_http_sf_module);
   ngx_memzero(target, sizeof *target);
@@ -158,7 +176,7 @@ static ngx_int_t read_targets(ngx_http_request_t *r, sf_target *target) {
     if (passed(r, status, &names[i], &text, &refusal) != NGX_OK)
       return NGX_ERROR;
   }
-  return NGX_OK;
+  return fall_back(r, target);
 }
 
 /* Sets a variable to a text that outlives the request, or that is from its pool. */

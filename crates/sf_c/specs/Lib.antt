@@ -14,6 +14,7 @@ pub mod PriorityChanges
 pub mod Policies
 pub mod Rules
 pub mod Decisions
+pub mod Fallbacks
 pub mod Joining
 pub mod Spans
 pub mod Finding

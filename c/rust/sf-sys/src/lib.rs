@@ -399,6 +399,7 @@ extern "C" {
         rules: *mut Rules,
         refusal: *mut Refusal,
     ) -> u32;
+    pub fn sf_fallback_rules(text: *const c_void, length: usize, rules: *mut Rules) -> u32;
     pub fn sf_select_rules(
         seed: *const [u8; 16],
         dialect: u32,

@@ -269,6 +269,26 @@ impl CacheRules {
         Parser::new().cache_rules(text)
     }
 
+    /// Reads the text of `Cache-Control`, its lines joined, which decides if each field of the
+    /// target list is ignored ([`RulesChoice::Fallback`]). It is no structured field, and is read by
+    /// RFC 9111 section 5.2. If the text is no list of directives, the rules are those of
+    /// `no-store`, since such a directive may be lost in it.
+    ///
+    /// ```
+    /// use sf::{Cache, CacheRules, Response, Reuse};
+    /// let reuse = |text| {
+    ///     let rules = CacheRules::of_cache_control(text);
+    ///     rules.decide(Cache::Shared, Response::default()).reuse
+    /// };
+    /// assert_eq!(reuse("No-Store, Max-Age=0,,"), Reuse::NotStored);
+    /// assert_eq!(reuse("max-age=\"60\""), Reuse::Fresh { seconds: 60 });
+    /// assert_eq!(reuse("max-age=60 private"), Reuse::NotStored);
+    /// ```
+    #[must_use]
+    pub fn of_cache_control(text: impl AsRef<[u8]>) -> CacheRules {
+        ffi::fallback_rules(text.as_ref()).into()
+    }
+
     /// Decides what a cache does with a response by these directives and its age (RFC 9111 sections
     /// 3, 4.2 and 5.2.2). Of directives that conflict, the most restrictive one decides. Ages and
     /// lifetimes above 2^31 seconds count as 2^31.

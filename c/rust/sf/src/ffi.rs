@@ -397,6 +397,14 @@ pub(crate) fn cache_rules(
     }
 }
 
+/// The directives of `Cache-Control`, for a decision.
+pub(crate) fn fallback_rules(text: &[u8]) -> raw::Rules {
+    let mut rules = NO_RULES;
+    // Of a text that is no list of directives the rules are written, too.
+    let _ = unsafe { raw::sf_fallback_rules(start(text), text.len(), &mut rules) };
+    rules
+}
+
 /// What a cache decides.
 pub(crate) fn decide(
     rules: &raw::Rules,

@@ -12,6 +12,9 @@ use http::header::{AsHeaderName, HeaderMap, HeaderName, HeaderValue};
 const CACHE_STATUS: &str = "cache-status";
 const PRIORITY: &str = "priority";
 
+/// The name of RFC 9111.
+const CACHE_CONTROL: &str = "cache-control";
+
 /// The lines of a field, joined; empty if the head does not have the field.
 fn text_of(headers: &HeaderMap, name: impl AsHeaderName) -> Result<Vec<u8>, Error> {
     join(headers.get_all(name))
@@ -217,6 +220,24 @@ impl CacheRules {
             }
         }
         Ok(RulesChoice::Fallback)
+    }
+
+    /// Reads the `Cache-Control` of a head, which decides after [`RulesChoice::Fallback`]: see
+    /// [`CacheRules::of_cache_control`]. A head without it has no directives.
+    ///
+    /// # Errors
+    ///
+    /// [`Error::OutOfMemory`] only.
+    ///
+    /// ```
+    /// let mut headers = http::HeaderMap::new();
+    /// headers.append("cache-control", http::HeaderValue::from_static("Max-Age=60"));
+    /// headers.append("cache-control", http::HeaderValue::from_static("No-Store"));
+    /// let rules = sf::CacheRules::fallback_from_headers(&headers).unwrap();
+    /// assert!(rules.policy.no_store);
+    /// ```
+    pub fn fallback_from_headers(headers: &HeaderMap) -> Result<CacheRules, Error> {
+        Ok(CacheRules::of_cache_control(text_of(headers, CACHE_CONTROL)?))
     }
 }
 
