@@ -12,6 +12,10 @@
  *            built with it: see Makefile
  *   peak     the most bytes that one call had allocated at a time, over the bytes of its text, for
  *            the text of the set with the greatest ratio
+ *   blocks   the most calls of malloc and realloc that one call made
+ *
+ * Rows of 16 nodes or 8 hops are of buffers that are too small for most texts: then the call only
+ * counts. A row of a writer is of its text beside the walk of that text.
  *
  * Linked with --wrap=malloc, --wrap=realloc and --wrap=free, which count what calls allocate.
  */
@@ -57,11 +61,12 @@ void *__wrap_realloc(void *block, size_t size);
 void __wrap_free(void *block);
 
 static int counting;
-static size_t held, peak;
+static size_t held, peak, taken;
 
 static void took(void *block) {
   if (!counting || block == NULL)
     return;
+  ++taken;
   held += malloc_usable_size(block);
   if (held > peak)
     peak = held;
@@ -93,11 +98,14 @@ void __wrap_free(void *block) {
 /* The calls. Each works on one text, in buffers that are large enough for the longest of the set. */
 
 static sf_seed seed = {{7}};
-static uint32_t status; /* of the last call, which is not read: each text is well-formed */
+static uint32_t status; /* of the last call */
 static sf_node *nodes;
 static sf_hop *hops;
 static unsigned char *bytes;
 static size_t nodes_capacity, bytes_capacity;
+
+/* Buffers that are too small for most texts. */
+enum { FEW_NODES = 16, FEW_HOPS = 8 };
 
 static uint32_t kind_of(const struct text *t) {
   return t->letter == 'i' ? SF_ITEM : t->letter == 'l' ? SF_LIST : SF_DICT;
@@ -118,6 +126,13 @@ static void parse(const struct text *t) {
   sf_refusal refusal;
   status = sf_parse(&seed, SF_RFC9651, kind_of(t), t->bytes, t->length, nodes, nodes_capacity, bytes,
                     bytes_capacity, &sizes, &refusal);
+}
+
+static void parse_few(const struct text *t) {
+  sf_sizes sizes;
+  sf_refusal refusal;
+  status = sf_parse(&seed, SF_RFC9651, kind_of(t), t->bytes, t->length, nodes, FEW_NODES, bytes, 0,
+                    &sizes, &refusal);
 }
 
 static void normalise(const struct text *t) {
@@ -144,6 +159,40 @@ static void cache_status(const struct text *t) {
   sf_refusal refusal;
   status = sf_cache_status(&seed, t->bytes, t->length, hops, nodes_capacity, bytes, bytes_capacity,
                            &path, &refusal);
+}
+
+static void cache_status_few(const struct text *t) {
+  sf_path path;
+  sf_refusal refusal;
+  status = sf_cache_status(&seed, t->bytes, t->length, hops, FEW_HOPS, bytes, 0, &path, &refusal);
+}
+
+static void priority_change(const struct text *t) {
+  static const sf_priority_flags to = {.urgency = 2, .has_urgency = 1};
+  size_t required;
+  sf_refusal refusal;
+  status = sf_priority_change(&seed, t->bytes, t->length, &to, bytes, bytes_capacity, &required,
+                              &refusal);
+}
+
+/* The first hop of the text. */
+static void hop_text(const struct text *t) {
+  static const void *last;
+  static sf_hop hop;
+  static unsigned char own[256];
+  if (last != t->bytes) {
+    sf_path path;
+    sf_refusal refusal;
+    status = sf_cache_status(&seed, t->bytes, t->length, hops, nodes_capacity, bytes,
+                             bytes_capacity, &path, &refusal);
+    if (status != SF_OK || path.bytes > sizeof own)
+      abort();
+    hop = hops[0];
+    memcpy(own, bytes, path.bytes);
+    last = t->bytes;
+  }
+  size_t required;
+  status = sf_hop_text(&seed, &hop, own, sizeof own, bytes, bytes_capacity, &required);
 }
 
 #ifdef WITH_SFPARSE
@@ -217,14 +266,17 @@ static double time_of(const struct set *set, call f) {
   return ns;
 }
 
-/* The greatest ratio of what a call allocates to the length of its text. */
-static double memory_of(const struct set *set, call f) {
+/* The greatest ratio of what a call allocates to the length of its text, and the most blocks. */
+static double memory_of(const struct set *set, call f, size_t *blocks) {
   double greatest = 0;
+  *blocks = 0;
   for (size_t i = 0; i < set->count; ++i) {
-    held = peak = 0;
+    held = peak = taken = 0;
     counting = 1;
     f(&set->texts[i]);
     counting = 0;
+    if (taken > *blocks)
+      *blocks = taken;
     double ratio = (double)peak / (double)(set->texts[i].length + !set->texts[i].length);
     if (ratio > greatest)
       greatest = ratio;
@@ -239,11 +291,19 @@ static void row(const struct set *set, const char *name, call f, double scanned,
     printf("%.2f | ", ns / walked);
   else
     printf("- | ");
-  printf("%.1f |\n", memory_of(set, f));
+  size_t blocks;
+  double memory = memory_of(set, f, &blocks);
+  printf("%.1f | %zu |\n", memory, blocks);
 }
 
-/* A table of the calls; own is the call that the texts of the set are for, if there is one. */
-static void table(const struct set *set, const char *own_name, call own) {
+/* A call that the texts of a set are for. */
+struct own {
+  const char *name;
+  call call;
+};
+
+/* A table of the calls, with those that the texts of the set are for, up to one without a name. */
+static void table(const struct set *set, const struct own *own) {
   nodes_capacity = SF_NODES_SIZE(set->longest) + 1;
   bytes_capacity = SF_BYTES_SIZE(set->longest) + 1;
   nodes = malloc(nodes_capacity * sizeof *nodes);
@@ -259,12 +319,13 @@ static void table(const struct set *set, const char *own_name, call own) {
          scanned);
   if (walked > 0)
     printf(", walk %.0f ns, scan to walk %.2f", walked, scanned / walked);
-  printf("\n\n| call | ns | to scan | to walk | peak |\n|---|---|---|---|---|\n");
+  printf("\n\n| call | ns | to scan | to walk | peak | blocks |\n|---|---|---|---|---|---|\n");
   row(set, "sf_check", check, scanned, walked);
   row(set, "sf_parse", parse, scanned, walked);
+  row(set, "sf_parse, 16 nodes", parse_few, scanned, walked);
   row(set, "sf_normalise", normalise, scanned, walked);
-  if (own != NULL)
-    row(set, own_name, own, scanned, walked);
+  for (; own->name != NULL; ++own)
+    row(set, own->name, own->call, scanned, walked);
   free(nodes);
   free(hops);
   free(bytes);
@@ -351,6 +412,9 @@ static const char *const paths[] = {
     "ReverseProxyCache; hit, ForwardProxyCache; fwd=uri-miss; collapsed; stored",
     NULL};
 
+static const char *const hop[] = {
+    "\"edge.example\"; fwd=vary-miss; stored; key=\"/a?b=c\"; detail=pool-7", NULL};
+
 static const char *const inputs[] = {
     "sig1=(\"@method\" \"@authority\" \"@path\" \"content-digest\" \"content-type\")"
     ";created=1700000000;keyid=\"key-ed25519-7\"",
@@ -382,42 +446,59 @@ static void add_strings(struct set *set, size_t count) {
   free(all);
 }
 
+static const struct own none[] = {{NULL, NULL}};
+static const struct own of_priorities[] = {
+    {"sf_priority", priority}, {"sf_priority_change", priority_change}, {NULL, NULL}};
+static const struct own of_policies[] = {{"sf_cache_control", cache_control}, {NULL, NULL}};
+static const struct own of_paths[] = {{"sf_cache_status", cache_status},
+                                      {"sf_cache_status, 8 hops", cache_status_few},
+                                      {NULL, NULL}};
+static const struct own of_hops[] = {{"sf_hop_text", hop_text}, {NULL, NULL}};
+static const struct own of_dicts[] = {
+    {"sf_priority", priority}, {"sf_cache_control", cache_control}, {NULL, NULL}};
+
 int main(int argc, char **argv) {
   struct set *set = begin("Priority fields");
   add_all(set, 'd', priorities);
-  table(set, "sf_priority", priority);
+  table(set, of_priorities);
   set = begin("Targeted fields");
   add_all(set, 'd', policies);
-  table(set, "sf_cache_control", cache_control);
+  table(set, of_policies);
   set = begin("Cache-Status fields");
   add_all(set, 'l', paths);
-  table(set, "sf_cache_status", cache_status);
+  table(set, of_paths);
+  set = begin("A hop");
+  add_all(set, 'l', hop);
+  table(set, of_hops);
   set = begin("Signature-Input fields");
   add_all(set, 'd', inputs);
-  table(set, NULL, NULL);
+  table(set, none);
   set = begin("A List of 512 Inner Lists");
   add_inner_lists(set, 512);
-  table(set, NULL, NULL);
+  table(set, none);
   set = begin("A Dictionary of 256 Strings");
   add_strings(set, 256);
-  table(set, NULL, NULL);
+  table(set, none);
   set = begin("A List of 64 KiB of a;b,");
   add_repeated(set, 'l', "a;b,", 64 * KIB);
-  table(set, NULL, NULL);
+  table(set, of_paths);
   set = begin("A Dictionary of 8,192 keys");
   add_keys(set, 8 * KIB, 0);
-  table(set, NULL, NULL);
+  table(set, none);
   set = begin("A Dictionary of 8,192 keys, every eighth the first one");
   add_keys(set, 8 * KIB, 1);
-  table(set, NULL, NULL);
+  table(set, none);
   set = begin("A malformed List of 64 KiB");
   add_repeated(set, 'l', "a;b,", 64 * KIB);
   set->texts[0].bytes[set->longest - 1] = '=';
-  table(set, NULL, NULL);
+  table(set, of_paths);
+  set = begin("A malformed Dictionary of 8 KiB of a,");
+  add_repeated(set, 'd', "a,", 8 * KIB + 1);
+  table(set, of_dicts);
   for (int i = 1; i < argc; ++i) {
     set = begin(argv[i]);
     add_file(set, argv[i]);
-    table(set, NULL, NULL);
+    table(set, none);
   }
   return 0;
 }

@@ -505,16 +505,20 @@ typedef struct sf_sizes {
  *   SF_NO_MEMORY, SF_BAD_CALL
  *
  * Nodes point to keys and bytes in the text; only Strings with escapes, Byte Sequences and Display
- * Strings are decoded into bytes. All keys and bytes are copied there if a key is repeated, if a
- * Dictionary has 16,000 members or more or a part as many parameters, and rarely for another
- * Dictionary of more than eight nodes or part of more than eight parameters: the more often, the
- * more keys there are. The nodes are valid as long as the text and bytes are.
+ * Strings are decoded into bytes. All keys and bytes are copied there if a key of parameters is
+ * repeated, if a part has 16,000 parameters or more, and rarely for another part of more than eight
+ * parameters: the more often, the more there are. They are copied, too, if a key of a Dictionary is
+ * repeated and its members, those that are overwritten included, have more nodes than
+ * nodes_capacity. The nodes are valid as long as the text and bytes are.
  * Buffers of SF_NODES_SIZE(text_length) nodes and SF_BYTES_SIZE(text_length) bytes are always large
  * enough. If the text is well-formed and the buffers are large enough, the call allocates only if
- * keys are copied.
+ * keys are copied or, for a Dictionary of more than 32 nodes, if a key is repeated or, rarely, if
+ * there are many.
  *
  * The caller can limit the number of nodes of a value by nodes_capacity. After SF_TOO_MANY and
- * SF_SHORT, buffers of the sizes in *sizes are large enough.
+ * SF_SHORT, buffers of the sizes in *sizes are large enough. The text is then only counted, in about
+ * the time of sf_check. That allocates only if a key is repeated or, rarely, if a Dictionary or a
+ * part has more than a hundred: then for each different key.
  *
  * After SF_OK, the contents of the nodes and bytes beyond *sizes are unspecified; after any other
  * status, those of all nodes and bytes are. Unless SF_OK, SF_TOO_MANY or SF_SHORT is returned,

@@ -950,19 +950,22 @@ static int is_row(const value *v, const sf_node *node, const row *expected) {
 }
 
 /* The nodes of a text, in each buffer that is too small, in buffers of exactly their size, and in
- * longer ones. If no key is repeated, so many bytes are decoded, and the call does not allocate;
- * otherwise all keys and bytes are in the buffer. */
+ * longer ones. If a key is repeated, a scan needs more nodes than the value has. With so many nodes,
+ * so many bytes are decoded; with fewer, all keys and bytes are in the buffer. If no key is repeated,
+ * the call does not allocate, also if a buffer is too small. */
 static void parsed(uint32_t kind, const char *from, const row *rows, size_t count, size_t decoded,
-                   int is_repeated) {
+                   size_t scanned) {
   const char *about = from;
   uint32_t status;
   size_t length = strlen(from), all_bytes = 0;
   for (size_t i = 0; i < count; ++i)
     all_bytes += strlen(rows[i].key) + strlen(rows[i].text);
-  size_t size = is_repeated ? all_bytes : decoded;
+  int is_repeated = scanned != count;
+  size_t most = is_repeated && scanned != SIZE_MAX ? scanned : count;
   unsigned char *text = take_buffer(from, length);
   sf_refusal refusal = untouched;
-  for (size_t n = 0; n <= count + 1; ++n) {
+  for (size_t n = 0; n <= most + 1; ++n) {
+    size_t size = n < scanned && is_repeated ? all_bytes : decoded;
     for (size_t b = 0; b <= size + 1; ++b) {
       value v = {text, length, take_buffer(NULL, n * sizeof *v.nodes), take_buffer(NULL, b),
                  {4711, 4712}};
@@ -970,7 +973,7 @@ static void parsed(uint32_t kind, const char *from, const row *rows, size_t coun
                     &refusal));
       CHECK(status == (n < count ? SF_TOO_MANY : b < size ? SF_SHORT : SF_OK));
       CHECK(v.sizes.nodes == count && v.sizes.bytes == (status == SF_OK ? size : all_bytes));
-      CHECK(status != SF_OK || is_repeated || n < SF_NODES_SIZE(length) || calls == 0);
+      CHECK(is_repeated || calls == 0);
       for (size_t i = 0; status == SF_OK && i < count; ++i)
         CHECK(is_row(&v, &v.nodes[i], &rows[i]));
       give_value(v);
@@ -983,17 +986,22 @@ static void parsed(uint32_t kind, const char *from, const row *rows, size_t coun
              take_buffer(NULL, SF_BYTES_SIZE(length)), {4711, 4712}};
   CALL(sf_parse(&seed, SF_RFC9651, kind, text, length, v.nodes, SF_NODES_SIZE(length), v.bytes,
                 SF_BYTES_SIZE(length), &v.sizes, &refusal));
+  size_t size = SF_NODES_SIZE(length) < scanned && is_repeated ? all_bytes : decoded;
   CHECK(status == SF_OK && v.sizes.nodes == count && v.sizes.bytes == size);
-  CHECK(is_repeated || calls == 0);
+  CHECK(scanned == SIZE_MAX || calls == 0);
   give_value(v);
   CHECK(is_untouched(&refusal));
   give_buffer(text);
 }
 
 #define PARSED(kind, text, rows, decoded)                                                          \
-  parsed(kind, text, rows, sizeof rows / sizeof *rows, decoded, 0)
+  parsed(kind, text, rows, sizeof rows / sizeof *rows, decoded, sizeof rows / sizeof *rows)
+/* A key of a Dictionary is repeated, and its members have so many nodes one by one. */
+#define PARSED_SETTLED(kind, text, rows, decoded, scanned)                                         \
+  parsed(kind, text, rows, sizeof rows / sizeof *rows, decoded, scanned)
+/* A key of parameters is repeated. */
 #define PARSED_REPEATED(kind, text, rows)                                                          \
-  parsed(kind, text, rows, sizeof rows / sizeof *rows, 0, 1)
+  parsed(kind, text, rows, sizeof rows / sizeof *rows, 0, SIZE_MAX)
 
 static void nodes_of_values(void) {
   static const row integer[] = {{SF_MEMBER, SF_INTEGER, -7, "", "", 1}};
@@ -1029,7 +1037,7 @@ static void nodes_of_values(void) {
                              {SF_INNER_PARAMETER, SF_BYTE_SEQUENCE, 0, "y", "a", 1},
                              {SF_MEMBER, SF_BOOLEAN, 1, "b", "", 2},
                              {SF_PARAMETER, SF_BOOLEAN, 1, "x", "", 1}};
-  PARSED_REPEATED(SF_DICT, "a=1,b;x, a=(1  2 );y=:YQ:", dict);
+  PARSED_SETTLED(SF_DICT, "a=1,b;x, a=(1  2 );y=:YQ:", dict, 1, 7);
   PARSED(SF_DICT, "a=(1  2 );y=:YQ:,b;x", dict, 1);
   static const row list[] = {{SF_MEMBER, SF_TOKEN, 0, "", "abc", 4},
                              {SF_PARAMETER, SF_INTEGER, 1, "a", "", 1},
@@ -1171,7 +1179,7 @@ static void many_keys(void) {
   }
 }
 
-/* Of very many keys it is not found out whether they differ, so that they are copied. */
+/* Of very many keys it is found out with memory whether they differ. */
 static void very_many_keys(void) {
   enum { COUNT = 16384, LENGTH = COUNT * 6 - 1 };
   const char *about = "very many keys";
@@ -1186,11 +1194,65 @@ static void very_many_keys(void) {
   sf_refusal refusal = untouched;
   CALL(sf_parse(&seed, SF_RFC9651, SF_DICT, text, LENGTH, v.nodes, COUNT, v.bytes, COUNT * 6,
                 &v.sizes, &refusal));
-  CHECK(status == SF_OK && calls > 0 && v.sizes.nodes == COUNT && v.sizes.bytes == COUNT * 5);
+  CHECK(status == SF_OK && calls > 0 && v.sizes.nodes == COUNT && v.sizes.bytes == 0);
   CHECK_MEMORY(LENGTH);
   free(v.nodes);
   free(v.bytes);
   free(text);
+}
+
+/* Buffers that are much too small for many members: the text is counted, without memory unless a key
+ * is repeated, and then with memory for the different keys. */
+static void limits(void) {
+  enum { LENGTH = 65535 };
+  static const struct {
+    uint32_t kind;
+    const char *members;
+    int is_repeated;
+  } rows[] = {
+      {SF_LIST, "a;b,", 0},
+      {SF_LIST, "a,", 0},
+      {SF_LIST, "(a :YWJj:;b),", 0},
+      {SF_LIST, "\"\\\"\",", 0},
+      {SF_DICT, "a,", 1},
+      {SF_DICT, "a=1;b,", 1},
+      {SF_LIST, "a;b;b,", 1},
+  };
+  for (size_t i = 0; i < sizeof rows / sizeof *rows; ++i) {
+    const char *about = rows[i].members;
+    uint32_t status;
+    size_t size = strlen(about), length = LENGTH / size * size - 1;
+    char *text = malloc(LENGTH);
+    if (text == NULL)
+      abort();
+    for (size_t at = 0; at < length; ++at)
+      text[at] = about[at % size];
+    sf_refusal refusal = untouched;
+    sf_sizes sizes = {4711, 4712};
+    CALL(sf_parse(&seed, SF_RFC9651, rows[i].kind, text, length, NULL, 0, NULL, 0, &sizes,
+                  &refusal));
+    CHECK(status == SF_TOO_MANY && is_untouched(&refusal));
+    CHECK(rows[i].is_repeated ? peak <= 1024 : calls == 0);
+    size_t nodes = sizes.nodes, bytes = sizes.bytes;
+    value v = {(unsigned char *)text, length, malloc(SF_NODES_SIZE(length) * sizeof *v.nodes),
+               malloc(SF_BYTES_SIZE(length)), {4711, 4712}};
+    CALL(sf_parse(&seed, SF_RFC9651, rows[i].kind, text, length, v.nodes, SF_NODES_SIZE(length),
+                  v.bytes, SF_BYTES_SIZE(length), &v.sizes, &refusal));
+    size_t keys_and_texts = 0;
+    for (size_t n = 0; n < v.sizes.nodes; ++n)
+      keys_and_texts += v.nodes[n].key_length + v.nodes[n].text_length;
+    CHECK(status == SF_OK && nodes == v.sizes.nodes && bytes == keys_and_texts);
+    free(v.nodes);
+    free(v.bytes);
+    if (rows[i].kind == SF_LIST && text[0] == 'a') {
+      sf_hop hops[8];
+      sf_path path = {4711, 4712, 4713, 4714, 4715};
+      FREE_CALL(sf_cache_status(&seed, text, length, hops, 8, NULL, 0, &path, &refusal));
+      CHECK(status == SF_SHORT && path.hops == (length + 1) / size && path.bytes == path.hops);
+      CHECK(path.nameless == 4714 && path.is_served == 0 && is_untouched(&refusal));
+    }
+    free(text);
+  }
 }
 
 /* A call that refuses the text at its last byte, and has less memory than twice its length. */
@@ -2132,8 +2194,8 @@ static int is_hop(const unsigned char *bytes, size_t size, const sf_hop *hop, co
          hop->detail_is_token == row->detail_is_token;
 }
 
-/* A path in each buffer that is too small, in buffers of exactly its size, and in longer ones; if
- * they are not too small, the call does not allocate. */
+/* A path in each buffer that is too small, in buffers of exactly its size, and in longer ones. The
+ * call does not allocate. */
 static void told(const char *from, const hop_row *rows, size_t count, size_t size, long served) {
   const char *about = from;
   uint32_t status;
@@ -2148,10 +2210,11 @@ static void told(const char *from, const hop_row *rows, size_t count, size_t siz
       CALL(sf_cache_status(&seed, text, length, hops, n, bytes, b, &path, &refusal));
       CHECK(path.hops == count && path.bytes == size && path.nameless == 4714);
       CHECK(path.is_served == (served >= 0) && path.served == (served < 0 ? 0 : (size_t)served));
+      CHECK(calls == 0);
       if (n < count || b < size) {
         CHECK(status == SF_SHORT);
       } else {
-        CHECK(status == SF_OK && calls == 0);
+        CHECK(status == SF_OK);
         for (size_t i = 0; i < count; ++i)
           CHECK(is_hop(bytes, size, &hops[i], &rows[i]));
       }
@@ -3072,11 +3135,12 @@ static void want_of_memory(void) {
                                  &path, &refusal),
                  path.hops == 8 && path.served == 1 && path.is_served == 1 &&
                      path.nameless == 4714 && hops[2].why == SF_OTHER && is_untouched(&refusal));
-  EACH_REFUSAL_OF(SF_SHORT,
-                  (path.hops = 4711, sf_cache_status(&seed, caches, sizeof caches - 1, hops, 7,
-                                                     buffer, sizeof buffer, &path, &refusal)),
-                  path.hops == 8 && path.served == 1 && path.nameless == 4714,
-                  path.hops == 4711 && is_untouched(&refusal));
+  path.hops = 4711;
+  refused_from = 1;
+  FREE_CALL(sf_cache_status(&seed, caches, sizeof caches - 1, hops, 7, buffer, sizeof buffer, &path,
+                            &refusal));
+  refused_from = 0;
+  CHECK(status == SF_SHORT && path.hops == 8 && path.served == 1 && path.nameless == 4714);
   static const char nameless[] = "origin; key=\"a key of more than sixteen bytes\", (a), b";
   EACH_REFUSAL_OF(SF_NOT_A_CACHE,
                   (path.nameless = 4714, sf_cache_status(&seed, nameless, sizeof nameless - 1, hops,
@@ -3179,6 +3243,7 @@ static void all(void) {
     nodes_of_values();
     many_keys();
     very_many_keys();
+    limits();
     lean_refusals();
     finding();
     building();

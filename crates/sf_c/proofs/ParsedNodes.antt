@@ -1,6 +1,6 @@
 -- What is in the buffers after a text was parsed.
 use Rattle.std.proofs.Common.{◌≡◌, ℕ, ◌+◌, ◌^◌, ◌<◌, ◌≤◌, List, [], ◌∷◌, ◌++◌, length, take}
-use Rattle.std.proofs.Common.{sym, ap, ◌∙◌, subst, arith, length-append}
+use Rattle.std.proofs.Common.{refl, sym, ap, ◌∙◌, subst, arith, length-append, inr, Some}
 use Rattle.std.proofs.lemmas.List.{length-take-le, append-nil}
 use Rattle.std.proofs.Math.Seq.{take-append_seam}
 use Rattle.sf_value.specs.declared.dialect.Dialect.{Dialect}
@@ -13,7 +13,13 @@ use Rattle.sf_view.specs.Accepts.{Accepts}
 use Rattle.sf_view.specs.View.{DescribesField}
 use Rattle.sf_c.specs.declared.parsing.Sizes.{Sizes}
 use Rattle.sf_c.specs.Decodings.{AreDecoded, IsUncoded}
-use Rattle.sf_c.specs.Flattening.{HasSizes, IsSmall, IsHeld}
+use Rattle.sf_view.specs.declared.counting.Counts.{Counts}
+use Rattle.sf_view.specs.Counting.{HasCounts}
+use Rattle.sf_c.specs.declared.refusal.SyntaxRefusal.{SyntaxRefusal}
+use Rattle.sf_c.specs.declared.status.Status.{Status}
+use Rattle.sf_c.specs.declared.status.Status.TheVariants.{Short, TooLong, TooMany}
+use Rattle.sf_c.specs.Exceeding.{Exceeds}
+use Rattle.sf_c.specs.Flattening.{Flattens, HasSizes, IsSmall, IsHeld}
 use Rattle.sf_nodes.specs.NodeBytes.{IsDecoded, IsInOne}
 use Rattle.sf_nodes.specs.Laws.{NodesAreFew, BytesAreFew, NodesAreTheirs}
 use Rattle.sf_nodes.specs.NodeCounts.{field_nodes, field_bytes}
@@ -148,3 +154,45 @@ written_held d k t v ts nodes bytes sizes few small only e n b nodes_fit bytes_f
     count = flat_nodes v ts sizes.nodes e n;
   },
 )
+
+-- a value that exceeds the buffers
+pub exceeding : (d : Dialect) (k : Kind) (t : List ℕ) (c : Counts) (nodes : List Node)
+    (bytes : List ℕ) (old new : Sizes) (refusal : SyntaxRefusal) (status : Status) → NodesAreFew
+    → BytesAreFew → HasCounts d k t c
+    → Exceeds t c (length nodes) (length bytes) old new (Some status)
+    → Flattens (record { nodes = nodes; bytes = bytes; sizes = old; refusal = refusal })
+    (record { nodes = nodes; bytes = bytes; sizes = new; refusal = refusal }) t d k status
+exceeding d k t c nodes bytes old new refusal TooLong few small h (same, long) = (
+  inr (h.value, h.only, subst (λ y. 2 ^ 32 ≤ length t + y) h.bytes long),
+  (refl, refl),
+  same,
+  refl,
+)
+exceeding d k t c nodes bytes old new refusal TooMany few small h ((e, f, fits), less) = (
+  (
+    h.value,
+    h.only,
+    is_small few small d k t h.value h.only,
+    e ∙ h.nodes,
+    f ∙ h.bytes,
+    subst (λ y. length t + y < 2 ^ 32) (sym f) fits,
+  ),
+  subst (λ y. length nodes < y) (sym e) less,
+  (refl, refl),
+  refl,
+)
+exceeding d k t c nodes bytes old new refusal Short few small h ((e, f, fits), enough, less) = (
+  (
+    h.value,
+    h.only,
+    is_small few small d k t h.value h.only,
+    e ∙ h.nodes,
+    f ∙ h.bytes,
+    subst (λ y. length t + y < 2 ^ 32) (sym f) fits,
+  ),
+  subst (λ y. y ≤ length nodes) (sym e) enough,
+  subst (λ y. length bytes < y) (sym f) less,
+  (refl, refl),
+  refl,
+)
+exceeding d k t c nodes bytes old new refusal status few small h e = absurd e

@@ -2,7 +2,7 @@
 use Rattle.std.proofs.Common.{◌≡◌, ◌≢◌, ℕ, ◌+◌, ◌<◌, ◌≤◌, true, false, List as Seq, [], ◌∷◌}
 use Rattle.std.proofs.Common.{◌++◌, length, take, set, map, Option, Some, None, Ok, refl, sym, ap}
 use Rattle.std.proofs.Common.{◌∙◌, subst, arith, append_assoc}
-use Rattle.std.proofs.Common.{option_copied}
+use Rattle.std.proofs.Common.{option_copied, length-append, ◌⊎◌, ⊎_elim, inl, inr}
 use Rattle.std.specs.Prelude.{position, is_none, is_some, unwrap_or}
 use Rattle.std.specs.List.{filter_map, position_or_len}
 use Rattle.std.proofs.lemmas.Bool.Decides.{nat_tests}
@@ -36,11 +36,13 @@ use Rattle.sf_c.specs.declared.hop_scan.PathSizes.{PathSizes}
 use Rattle.sf_c.specs.declared.hops.HopNode.{HopNode}
 use Rattle.sf_c.specs.declared.span.Span.{Span}
 use Rattle.sf_c.specs.Hops.{bytes_of, detail_bytes, end_of, hops_size, outcome_number, says_by}
-use Rattle.sf_c.specs.Hops.{hop_content, hop_content_by, why_token, HopsHoldUp, PutsSpan}
+use Rattle.sf_c.specs.Hops.{hop_content, hop_content_by, hop_size, why_token, HopsHoldUp, PutsSpan}
 use Rattle.sf_c.specs.Laws.{HopsAreFew, HopBytesAreFew}
-use Rattle.sf_c.specs.Paths.{IsShort}
+use Rattle.sf_c.specs.Paths.{IsShort, ReportsPath}
+use Rattle.sf_c.specs.declared.refusal.SyntaxRefusal.{SyntaxRefusal}
+use Rattle.sf_c.specs.declared.status.Status.TheVariants.{Short}
 use Rattle.sf_c.specs.Refusals.{flag_number}
-use Rattle.sf_c.specs.ScannedHops.{says_in, IsHopPut, IsPathOf, PutsBehind}
+use Rattle.sf_c.specs.ScannedHops.{says_in, HasPathSizes, IsHopPut, IsPathOf, PutsBehind}
 use Rattle.sf_c.proofs.HopLemmas.{prefix_of, hop_held, hop_content_is, PutsHop, TextsOf}
 use Rattle.sf_c.proofs.ShownHops.{says_shown, token_shown}
 
@@ -295,3 +297,152 @@ read_few k t nodes bytes s p nameless few small r e =
     let a = few k List t r.value r.path r.only.spelled r.means in
     let b = small k List t r.value r.path r.only.spelled r.means in
     (omega arith, omega arith)
+
+-- the lengths of the texts of a hop together
+pub hop_long : (v : HopView) (h : Hop) (n1 n2 n3 n4 : ℕ) (s1 s2 s3 s4 : Slice) → ShowsHop v h
+    → ((d : Dialect) (m : Name) → BorrowsName d v.name m → HasBytes d s1 (bytes_of m))
+    → ((d : Dialect) → HasBytes d s2 (unwrap_or (option_copied v.params.fwd) []))
+    → ((d : Dialect) (t : Option (Seq ℕ)) → ShowsText d v.params.key t
+    → HasBytes d s3 (unwrap_or t []))
+    → ((d : Dialect) (m : Option Name) → ShowsName d v.params.detail m
+    → HasBytes d s4 (detail_bytes m))
+    → ((d : Dialect) (t : Seq ℕ) → HasBytes d s1 t → n1 ≡ length t)
+    → ((d : Dialect) (t : Seq ℕ) → HasBytes d s2 t → n2 ≡ length t)
+    → ((d : Dialect) (t : Seq ℕ) → HasBytes d s3 t → n3 ≡ length t)
+    → ((d : Dialect) (t : Seq ℕ) → HasBytes d s4 t → n4 ≡ length t)
+    → n1 + n2 + n3 + n4 ≡ hop_size (hop_content h)
+hop_long v h n1 n2 n3 n4 s1 s2 s3 s4 s f1 f2 f3 f4 p1 p2 p3 p4 =
+    let d = s.dialect in
+    let q1 : n1 ≡ length (bytes_of h.name) =
+    p1 d (bytes_of s.name) (f1 d s.name s.shows_name)
+    ∙ ap (λ x. length (bytes_of x.name)) (sym s.made) in
+    let q2 : n2 ≡ length (why_token (passed_by h.outcome)) =
+    p2 d (unwrap_or (option_copied v.params.fwd) []) (f2 d) ∙ ap length (token_shown v h s) in
+    let q3 : n3 ≡ length (unwrap_or h.key []) =
+    p3 d (unwrap_or s.parts.key []) (f3 d s.parts.key s.shows_parts.key)
+    ∙ ap (λ x. length (unwrap_or x.key [])) (sym s.made) in
+    let q4 : n4 ≡ length (detail_bytes h.detail) =
+    p4 d (detail_bytes s.parts.detail) (f4 d s.parts.detail s.shows_parts.detail)
+    ∙ ap (λ x. length (detail_bytes x.detail)) (sym s.made) in
+    omega arith
+
+-- the number of what the cache did
+pub outcome_shown : (v : HopView) (h : Hop) → ShowsHop v h
+    → (says_in v).outcome ≡ outcome_number h.outcome
+outcome_shown v h s = ap (λ y. y.outcome) (says_shown v h s)
+
+hops_size_push : (hs : Seq Hop) (h : Hop)
+    → hops_size (map hop_content (hs ++ h ∷ []))
+    ≡ hops_size (map hop_content hs) + hop_size (hop_content h)
+hops_size_push [] h = omega arith
+hops_size_push (g ∷ hs) h = let i = hops_size_push hs h in omega arith
+
+-- hops that were counted, as PathSoFar
+pub record CountedSoFar (k : Dialect) (text : Seq ℕ) (c : HopCursor) (z : PathSizes) : Type 0 where
+  pub members : Seq Member
+  pub path : Seq Hop
+  pub means : map member_hop members ≡ map Some path
+  pub count : z.hops ≡ length path
+  pub size : z.bytes ≡ hops_size (map hop_content path)
+  pub place : z.served ≡ served path
+  pub reads : (ms : Seq Member) → RemainsInPath c ms
+      → SpellsWhole (SpellsMember k) text (members ++ ms)
+
+pub none_counted : (k : Dialect) (text : Seq ℕ) (c : HopCursor) (z : PathSizes)
+    → ((ms : Seq Member) → RemainsInPath c ms → SpellsWhole (SpellsMember k) text ms)
+    → z.hops ≡ 0 → z.bytes ≡ 0 → z.served ≡ None → CountedSoFar k text c z
+none_counted k text c z h e f g = record {
+  members = [];
+  path = [];
+  means = refl;
+  count = e;
+  size = f;
+  place = g;
+  reads = h;
+}
+
+pub hop_counted : (k : Dialect) (text : Seq ℕ) (c e : HopCursor) (v : HopView) (old new : PathSizes)
+    → CountedSoFar k text c old → ReadsNextHop c e (Some v) → new.hops ≡ old.hops + 1
+    → ((h : Hop) → ShowsHop v h → new.bytes ≡ old.bytes + hop_size (hop_content h))
+    → ((h : Hop) → ShowsHop v h → outcome_number h.outcome ≡ 1 → new.served ≡ Some old.hops)
+    → ((h : Hop) → ShowsHop v h → outcome_number h.outcome ≢ 1 → new.served ≡ old.served)
+    → CountedSoFar k text e new
+hop_counted k text c e v old new s (m, h, means, shown, remains) more bytes hit other =
+    let i = s.count in
+    let j = s.size in
+    let long = length-append s.path (h ∷ []) in
+    let own = bytes h shown in
+    let sum = hops_size_push s.path h in
+    record {
+      members = s.members ++ m ∷ [];
+      path = s.path ++ h ∷ [];
+      means =
+          map-append member_hop s.members (m ∷ [])
+          ∙ ap (λ y. y ++ member_hop m ∷ []) s.means
+          ∙ ap (λ y. map Some s.path ++ y ∷ []) means
+          ∙ sym (map-append Some s.path (h ∷ []));
+      count = omega arith;
+      size = omega arith;
+      place =
+          served_more s.path h (outcome_number h.outcome) old.hops old.served new.served refl
+          s.count s.place (hit h shown) (other h shown);
+      reads = λ ms r.
+          subst (SpellsWhole (SpellsMember k) text) (sym (append_assoc s.members (m ∷ []) ms))
+          (s.reads (m ∷ ms) (remains ms r));
+    }
+
+pub path_counted : (k : Dialect) (text : Seq ℕ) (c e : HopCursor) (o : Option HopView)
+    (z : PathSizes) → CountedSoFar k text c z → ReadsNextHop c e o → o ≡ None
+    → HasPathSizes k text z
+path_counted k text c e o z s r none =
+    let left : RemainsInPath c [] = subst (ReadsNextHop c e) none r in
+    let spelled : SpellsField k List text (list_of s.members) =
+    subst (SpellsWhole (SpellsMember k) text) (append-nil s.members) (s.reads [] left) in
+    record {
+      value = list_of s.members;
+      path = s.path;
+      only = record {
+        spelled = spelled;
+        only = λ w i. one_value k List text w (list_of s.members) i spelled;
+      };
+      means =
+          ap (λ o. unless o (filter_map member_hop s.members)) (all_named s.members s.path s.means)
+          ∙ ap Ok (each_meant s.members s.path s.means);
+      count = s.count;
+      size = s.size;
+      place = s.place;
+    }
+
+pub counted_few : (k : Dialect) (t : Seq ℕ) (s : PathSizes) (p : Path) (nameless : ℕ)
+    → HopsAreFew → HopBytesAreFew → HasPathSizes k t s → p ≡ path_by nameless s → IsShort t p
+counted_few k t s p nameless few small r e =
+    let count = ap (λ y. y.hops) e ∙ r.count in
+    let size = ap (λ y. y.bytes) e ∙ r.size in
+    let a = few k List t r.value r.path r.only.spelled r.means in
+    let b = small k List t r.value r.path r.only.spelled r.means in
+    (omega arith, omega arith)
+
+-- a path that is too long for the buffers
+pub counted_short : (k : Dialect) (t : Seq ℕ) (s : PathSizes) (nodes : Seq HopNode)
+    (bytes : Seq ℕ) (old new : Path) (refusal : SyntaxRefusal)
+    → HasPathSizes k t s → new ≡ path_by old.nameless s
+    → (length nodes < s.hops) ⊎ (length bytes < s.bytes)
+    → ReportsPath (record { hops = nodes; bytes = bytes; path = old; refusal = refusal })
+    (record { hops = nodes; bytes = bytes; path = new; refusal = refusal }) t k Short
+counted_short k t s nodes bytes old new refusal r e short = (
+  r.value,
+  r.path,
+  r.only,
+  r.means,
+  (
+    ap (λ y. y.hops) e ∙ r.count,
+    ap (λ y. y.bytes) e ∙ r.size,
+    ap (λ y. y.served) e ∙ ap (λ o. unwrap_or o 0) r.place,
+    ap (λ y. y.is_served) e ∙ ap (λ o. flag_number (is_some o)) r.place,
+  ),
+  ap (λ y. y.nameless) e,
+  ⊎_elim (λ h. inl (subst (λ y. length nodes < y) (sym (ap (λ y. y.hops) e)) h))
+      (λ h. inr (subst (λ y. length bytes < y) (sym (ap (λ y. y.bytes) e)) h)) short,
+  (refl, refl),
+  refl,
+)

@@ -18,6 +18,7 @@ pub mod Joining
 pub mod Spans
 pub mod Finding
 pub mod Flattening
+pub mod Exceeding
 pub mod Decodings
 pub mod Hops
 pub mod ScannedHops

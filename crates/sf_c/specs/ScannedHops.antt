@@ -77,3 +77,13 @@ pub record IsPathOf (k : Dialect) (t : Seq ℕ) (nodes : Seq HopNode) (bytes : S
   pub size : s.bytes ≡ hops_size (map hop_content path)
   pub place : s.served ≡ served path
   pub hops : HopsAtStart (map hop_content path) nodes bytes
+
+-- in the dialect the text spells a List, and no other value, whose hops have these sizes
+pub record HasPathSizes (k : Dialect) (t : Seq ℕ) (s : PathSizes) : Type 0 where
+  pub value : Field
+  pub path : Seq Hop
+  pub only : IsOnly k List t value
+  pub means : hops value ≡ Ok path
+  pub count : s.hops ≡ length path
+  pub size : s.bytes ≡ hops_size (map hop_content path)
+  pub place : s.served ≡ served path

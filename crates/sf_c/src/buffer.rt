@@ -27,3 +27,10 @@ pub(crate) fn put_text(text: &[u8], buffer: &mut [u8], required: &mut usize) -> 
     put(buffer, 0, text);
     Status::Answered
 }
+
+/// Whether a buffer of so many nodes or hops, and one of so many bytes, hold what any text of this
+/// length needs: four fifths of it, and eight fifths.
+pub(crate) fn are_large(text: &[u8], count: usize, bytes: usize) -> bool {
+    let length = text.len();
+    count >= length - length / 5 && bytes >= (length / 5).saturating_mul(8)
+}

@@ -1,6 +1,6 @@
 //! The hops of a Cache-Status field, read from its text in one pass into the caller's buffers.
-ghost use Rattle.std.specs.Prelude.{◌≡◌, ◌≢◌, ◌≤◌, ℕ, List, [], length, unwrap_or};
-ghost use Rattle.std.specs.Prelude.{Option as Maybe, Some, IfSome};
+ghost use Rattle.std.specs.Prelude.{◌≡◌, ◌≢◌, ◌+◌, ◌<◌, ◌≤◌, ◌⊎◌, ℕ, List, [], length, unwrap_or};
+ghost use Rattle.std.specs.Prelude.{Option as Maybe, Some, IfSome, IsTrue};
 ghost use Rattle.std.specs.Option.{option_copied, option_map};
 ghost use Rattle.sf_value.specs.declared.dialect.Dialect.{Dialect as Which};
 ghost use Rattle.sf_view.specs.Decoding.{HasBytes};
@@ -9,8 +9,9 @@ ghost use Rattle.sf_use.specs.declared.cache_status.hop.Hop.{Hop};
 ghost use Rattle.sf_use.specs.declared.cache_status.hop.Name.{Name};
 ghost use Rattle.sf_use.specs.CacheStatus.Hops.{status_of as status_in};
 ghost use Rattle.sf_use.specs.CacheStatus.Views.{BorrowsName, ShowsHop, ShowsName};
-ghost use Rattle.sf_c.specs.Hops.{bytes_of, detail_bytes, end_of, says_by};
-ghost use Rattle.sf_c.specs.ScannedHops.{IsHopPut, IsPathOf, PutsBehind};
+ghost use Rattle.sf_c.specs.Hops.{bytes_of, detail_bytes, end_of, hop_content, hop_size};
+ghost use Rattle.sf_c.specs.Hops.{outcome_number, says_by};
+ghost use Rattle.sf_c.specs.ScannedHops.{HasPathSizes, IsHopPut, IsPathOf, PutsBehind};
 ghost use Rattle.sf_c.specs.ScannedHops.{is_token_view, says_in, token_number};
 
 use crate::buffer::put;
@@ -29,6 +30,15 @@ pub(crate) struct PathSizes {
     pub(crate) bytes: usize,
     /// The place of the hop that the response came from.
     pub(crate) served: Option<usize>,
+}
+
+impl PathSizes {
+    /// Whether one of them is greater than that of its buffer.
+    pub(crate) fn exceeds(&self, hops: usize, bytes: usize) -> bool
+        ensures { IsTrue result → (hops < self.now.hops) ⊎ (bytes < self.now.bytes) }
+    {
+        hops < self.hops || bytes < self.bytes
+    }
 }
 
 /// The bytes of a part that is absent.
@@ -67,6 +77,51 @@ pub(crate) fn scan_hops(
         hops: count,
         bytes: used,
         served,
+    })
+}
+
+/// Reads the hops of a text, and counts them and their bytes; `None` says nothing.
+pub(crate) fn count_hops(dialect: Dialect, text: &[u8]) -> Option<PathSizes>
+    // In the dialect the text spells a List, of whose hops these are the sizes.
+    ensures { IfSome result (HasPathSizes dialect text.now) }
+{
+    let mut cursor = HopCursor::new_in(dialect, text);
+    let mut sizes = PathSizes {
+        hops: 0,
+        bytes: 0,
+        served: None,
+    };
+    while let Some(hop) = cursor.next()? {
+        sizes = with_hop(sizes, hop)?;
+    }
+    Some(sizes)
+}
+
+/// The sizes with those of one more hop.
+#[inline]
+fn with_hop(sizes: PathSizes, hop: HopView) -> Option<PathSizes>
+    ensures hops { IfSome result (λ s. s.hops ≡ sizes.hops + 1) }
+    // Whatever hop is borrowed, its bytes count.
+    ensures bytes { (h : Hop) → ShowsHop hop.entry h
+        → IfSome result (λ s. s.bytes ≡ sizes.bytes + hop_size (hop_content h)) }
+    ensures hit { (h : Hop) → ShowsHop hop.entry h → outcome_number h.outcome ≡ 1
+        → IfSome result (λ s. s.served ≡ Some sizes.hops) }
+    ensures other { (h : Hop) → ShowsHop hop.entry h → outcome_number h.outcome ≢ 1
+        → IfSome result (λ s. s.served ≡ sizes.served) }
+{
+    let params = hop.params;
+    let name = name_slice(hop.name).decoded_len();
+    let why_token = token_slice(params.fwd).decoded_len();
+    let key = text_slice(params.key).decoded_len();
+    let detail = detail_slice(params.detail).decoded_len();
+    let own = name
+        .checked_add(why_token)?
+        .checked_add(key)?
+        .checked_add(detail)?;
+    Some(PathSizes {
+        hops: sizes.hops.checked_add(1)?,
+        bytes: sizes.bytes.checked_add(own)?,
+        served: last_hit(sizes.served, sizes.hops, outcome_of(hop)),
     })
 }
 
@@ -190,14 +245,13 @@ fn node_of(hop: HopView, name: Span, why_token: Span, key: Span, detail: Span) -
     let status = status_of(params.fwd.and(params.fwd_status));
     let stored = params.fwd.and(params.stored);
     let collapsed = params.fwd.and(params.collapsed);
-    let is_hit = params.hit.unwrap_or(false);
     HopNode {
         name,
         why_token,
         key,
         detail,
         ttl: params.ttl.unwrap_or(0),
-        outcome: u16::from(is_hit) + 2 * u16::from(params.fwd.is_some()),
+        outcome: outcome_of(hop),
         why: why_number(params.fwd),
         status: status.unwrap_or(0),
         has_status: u8::from(status.is_some()),
@@ -211,6 +265,15 @@ fn node_of(hop: HopView, name: Span, why_token: Span, key: Span, detail: Span) -
         name_is_token: u8::from(is_token(hop.name)),
         detail_is_token: u8::from(params.detail.is_some_and(|detail| is_token(detail))),
     }
+}
+
+/// What the cache did, as a number.
+#[inline(always)]
+fn outcome_of(hop: HopView) -> u16
+    ensures { result ≡ (says_in hop.entry).outcome }
+{
+    let is_hit = hop.params.hit.unwrap_or(false);
+    u16::from(is_hit) + 2 * u16::from(hop.params.fwd.is_some())
 }
 
 /// Whether a name is a Token.

@@ -8,7 +8,7 @@ ghost use Rattle.sf_nodes.specs.Owned.{AreNodesOf, nodes_in};
 use crate::flattening::flatten;
 use sf_parse::Refusal;
 use sf_value::{Dialect, Field, Kind, OutOfMemory};
-use sf_view::{Node, View, node_buffer, parse_declined, scan_text};
+use sf_view::{Node, View, node_buffer, parse_declined, scan_into};
 use std::alloc::Global;
 use std::borrow::CowSlice;
 use std::hash::RandomState;
@@ -115,7 +115,7 @@ fn scan_nodes(
         (λ found. IfSome found (λ n. AreNodesOf dialect kind text.now (nodes_in text.now n.items))) }
 {
     let mut nodes = node_buffer(alloc, text)?;
-    let Some(count) = scan_text(dialect, kind, text, nodes.as_mut_slice()) else {
+    let Some(count) = scan_into(alloc, dialect, kind, text, nodes.as_mut_slice()) else {
         return Ok(None);
     };
     nodes.truncate(count);

@@ -8,6 +8,8 @@ mod canonical;
 #[cfg(test)]
 mod copies;
 #[cfg(test)]
+mod counting;
+#[cfg(test)]
 mod cursors;
 #[cfg(test)]
 mod declined;

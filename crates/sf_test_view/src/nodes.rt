@@ -12,7 +12,7 @@ use std::test::Fail;
 
 // Each has a repeated key: in a Dictionary, in the parameters of an Item, of a member, of an Inner
 // List, or of an Item in one.
-static REPEATED: [(Kind, &[u8]); 14] = [
+pub(crate) static REPEATED: [(Kind, &[u8]); 14] = [
     (Kind::Dict, b"a=1, b, a=2"),
     (Kind::Dict, b"a, a"),
     (Kind::Dict, b"a=1;x=1, b=2, a=3;y, b"),

@@ -1,6 +1,6 @@
 -- Bytes are decoded.
 use Rattle.std.proofs.Common.{◌≡◌, ◌≢◌, ℕ, ◌+◌, ◌*◌, ◌/◌, ◌%◌, ◌<◌, Bool, true, false, List, []}
-use Rattle.std.proofs.Common.{append_assoc}
+use Rattle.std.proofs.Common.{append_assoc, length, length-append}
 use Rattle.std.proofs.Common.{◌∷◌, ◌++◌, refl, sym, ap, ◌∙◌, subst, arith, inl, inr, ◌⊎◌}
 use Rattle.sf_value.specs.Ascii.{quote, backslash, percent}
 use Rattle.sf_value.specs.Grammar.Words.{Every}
@@ -425,3 +425,40 @@ decoded_all code rest done done' run t takes e d =
 pub decoded_taken : (code : Coding) (rest done t : List ℕ) → Decoded code rest done t
     → TakesRun done (Remains code rest) t
 decoded_taken code rest done t d = record { left = d.left; split = d.split; remains = d.remains }
+
+-- so many bytes were read, and the rest spells those after them
+pub record CountedSoFar (code : Coding) (rest : List ℕ) (count : ℕ) (t : List ℕ) : Type 0 where
+  pub left : List ℕ
+  pub size : length t ≡ count + length left
+  pub remains : Remains code rest left
+
+pub counted_none : (code : Coding) (rest t : List ℕ) → Remains code rest t
+    → CountedSoFar code rest 0 t
+counted_none code rest t r = record { left = t; size = omega arith; remains = r }
+
+pub counted_run : (code : Coding) (rest behind run t : List ℕ) (count more : ℕ)
+    → ((s : List ℕ) → Remains code rest s → TakesRun run (Remains code behind) s)
+    → more ≡ count + length run → CountedSoFar code rest count t
+    → CountedSoFar code behind more t
+counted_run code rest behind run t count more takes e d =
+    let h = takes d.left d.remains in
+    let size = d.size in
+    let split = ap length h.split ∙ length-append run h.left in
+    record { left = h.left; size = omega arith; remains = h.remains }
+
+pub counted_byte : (code next : Coding) (rest later t : List ℕ) (b count more : ℕ)
+    → ((s : List ℕ) → Remains code rest s → TakesByte b (Remains next later) s)
+    → more ≡ count + 1 → CountedSoFar code rest count t → CountedSoFar next later more t
+counted_byte code next rest later t b count more takes e d =
+    let h = takes d.left d.remains in
+    let size = d.size in
+    let split = ap length h.split in
+    record { left = h.left; size = omega arith; remains = h.remains }
+
+pub counted_all : (code : Coding) (rest t : List ℕ) (count : ℕ)
+    → ((s : List ℕ) → Remains code rest s → s ≡ []) → CountedSoFar code rest count t
+    → count ≡ length t
+counted_all code rest t count none d =
+    let size = d.size in
+    let empty = ap length (none d.left d.remains) in
+    omega arith

@@ -105,7 +105,7 @@ value_scans d whole text named after behind rest place p b k e x =
     }
 
 -- one more parameter
-raw_push : (d : Dialect) (f g : List ℕ) (raw : Pairs Bare) (k : List ℕ) (x : Bare)
+pub raw_push : (d : Dialect) (f g : List ℕ) (raw : Pairs Bare) (k : List ℕ) (x : Bare)
     → SpellsRaw d f raw → SpellsParam d g k x → SpellsRaw d (f ++ g) (raw ++ (k, x) ∷ [])
 raw_push d f g [] k x e p = (g, [], ap (λ y. y ++ g) e ∙ sym (append-nil g), p, refl)
 raw_push d f g (q ∷ raw) k x (prefix, suffix, e, h, r) p = (

@@ -1,6 +1,6 @@
 //! The bytes of Strings, Byte Sequences and Display Strings, read from their text.
 ghost use Rattle.std.specs.Iterator.{at_most};
-ghost use Rattle.std.specs.Prelude.{◌≡◌, ◌++◌, ◌∷◌, [], ◌≤◌, ◌<◌, ◌/◌, ◌%◌, ℕ, List, length, take, IfSome, IfNone, true, false};
+ghost use Rattle.std.specs.Prelude.{◌≡◌, ◌+◌, ◌++◌, ◌∷◌, [], ◌≤◌, ◌<◌, ◌/◌, ◌%◌, ℕ, List, length, take, IfSome, IfNone, true, false};
 ghost use Rattle.sf_value.specs.declared.dialect.Dialect.{Dialect as Which};
 ghost use Rattle.sf_view.specs.declared.bytes.Coding.TheVariants as coding_is;
 ghost use Rattle.sf_value.specs.Grammar.ByteSequences.{letter};
@@ -107,6 +107,19 @@ impl<'a> Slice<'a> {
         };
         Some(count)
     }
+
+    /// The number of the bytes, decoded if they are coded. It does not allocate.
+    #[inline]
+    pub fn decoded_len(&self) -> usize
+        // Whatever bytes the slice has, it has so many.
+        ensures { (d : Which) (t : List ℕ) → HasBytes d self.now t → result ≡ length t }
+    {
+        if !self.coded {
+            return self.bytes.len();
+        }
+        let start = self.bytes();
+        count_bytes(start.coding, start.rest)
+    }
 }
 
 impl Iterator for Bytes<'_> {
@@ -171,6 +184,25 @@ pub(crate) fn fill(start: Coding, text: &[u8], buffer: &mut [u8]) -> Option<usiz
     }
 }
 
+/// The number of the bytes that a text spells.
+fn count_bytes(start: Coding, text: &[u8]) -> usize
+    ensures { (t : List ℕ) → Remains start text.now t → result ≡ length t }
+{
+    let mut coding = start;
+    let mut rest = text;
+    let mut count = 0;
+    loop {
+        let (run, behind) = take_run(coding, rest);
+        count += run.len();
+        let Some((_, next, later)) = take_byte(coding, behind) else {
+            return count;
+        };
+        count += 1;
+        coding = next;
+        rest = later;
+    }
+}
+
 /// What was decoded into a buffer: how many bytes, and how the rest of the text spells those after
 /// them, of which there are none if they are whole.
 #[derive(Clone, Copy, Drop)]
@@ -226,6 +258,7 @@ pub(crate) fn take_run(coding: Coding, rest: &[u8]) -> (&[u8], &[u8])
     ensures takes { (s : List ℕ) → Remains coding rest.now s
         → TakesRun result.0.now (Remains coding result.1.now) s }
     ensures within { length result.1.now ≤ length rest.now }
+    ensures whole { length result.0.now + length result.1.now ≡ length rest.now }
 {
     match coding {
         Coding::Escaped => return long_prefix::<Unescaped>(rest),

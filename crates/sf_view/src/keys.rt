@@ -158,12 +158,12 @@ pub(crate) fn tag(key: &[u8]) -> u32
 }
 
 /// The number of slots that are searched for a tag.
-const PROBES: usize = 64;
+pub(crate) const PROBES: usize = 64;
 
 /// Puts a tag into the table; `false` if the table has it already, or if none of its slots is
 /// empty.
 #[inline]
-fn enter(table: &mut [u32], tag: u32) -> bool
+pub(crate) fn enter(table: &mut [u32], tag: u32) -> bool
     ensures same { length table.new ≡ length table.old }
     ensures kept { (t : ℕ) → Holds table.old t → Holds table.new t }
     ensures entered { IsTrue result → Enters table.old table.new tag }

@@ -6,6 +6,7 @@ ghost use Rattle.sf_value.specs.declared.dialect.Dialect.{Dialect as Which};
 ghost use Rattle.sf_value.specs.declared.value.Member.{Member};
 ghost use Rattle.sf_value.specs.Grammar.Pairs.{Pairs, settle as settled_pairs};
 ghost use Rattle.sf_view.specs.Scans.{Puts};
+ghost use Rattle.sf_view.specs.Accepts.{Accepts};
 ghost use Rattle.sf_view.specs.View.{DescribesEntries};
 ghost use Rattle.sf_view.specs.Views.{IsViewed};
 ghost use Rattle.sf_view.specs.Keys.{tag_of};
@@ -17,6 +18,7 @@ use crate::item::put;
 use crate::keys::{bytes_at, tag};
 use crate::lookup::hop;
 use crate::node::Node;
+use crate::series::scan_parts;
 use crate::view::View;
 use sf_value::{Dialect, Kind, OutOfMemory};
 use std::alloc::Global;
@@ -380,6 +382,72 @@ pub fn scan_settled<'a>(
         Ok(view) => return view,
         Err(_) => return None,
     }
+}
+
+/// Scans a whole text as a field of this kind into a buffer, as [`crate::scan_text`] does, but also
+/// if a key is repeated in a Dictionary, or there are many keys, as [`scan_settled`]. It returns the
+/// number of nodes; the buffer needs one for each member of the text, those that are overwritten
+/// included. `None` claims nothing. It allocates only for more than 32 nodes of which some are
+/// overwritten or, rarely, which are many.
+///
+/// ```
+/// let mut nodes = [Node::NONE; 16];
+/// let count = scan_into(alloc, Dialect::Rfc9651, Kind::Dict, b"u=1, i, u=2", &mut nodes)?; // 2
+/// ```
+#[inline]
+pub fn scan_into(
+    alloc: Global,
+    dialect: Dialect,
+    kind: Kind,
+    text: &[u8],
+    nodes: &mut [Node],
+) -> Option<usize>
+    ensures same { length nodes.new ≡ length nodes.old }
+    // The text spells a field, and no other, and the first nodes, as many as returned, describe it.
+    ensures accepts { IfSome result (λ n. Accepts dialect kind text.now nodes.new n) }
+{
+    let mut repeated = false;
+    let count = scan_parts(dialect, kind, &mut repeated, text, nodes)?;
+    if repeated {
+        return settle_into(alloc, text, nodes, count);
+    }
+    Some(count)
+}
+
+/// Settles the first `count` nodes of a buffer in it.
+#[inline(never)]
+fn settle_into(alloc: Global, source: &[u8], nodes: &mut [Node], count: usize) -> Option<usize>
+    requires there { count ≤ length nodes.old }
+    ensures same { length nodes.new ≡ length nodes.old }
+    ensures within { IfSome result (λ n. n ≤ length nodes.new) }
+    ensures settled { (d : Which) (ps : Pairs Member)
+        → DescribesEntries d source.now (take count nodes.old) ps
+        → IfSome result (λ n. DescribesEntries d source.now (take n nodes.new)
+        (settled_pairs ps)) }
+{
+    if count <= FEW {
+        return settle_copies(source, nodes, count);
+    }
+    let (raw, _) = nodes.split_at(count);
+    let settled = settled_nodes(alloc, source, source.len(), raw, false)?;
+    let stay = put_run(settled.as_slice(), nodes, 0)?;
+    Some(stay)
+}
+
+/// The same of up to 32 nodes, copied to the stack.
+#[inline(never)]
+fn settle_copies(source: &[u8], nodes: &mut [Node], count: usize) -> Option<usize>
+    requires there { count ≤ length nodes.old }
+    ensures same { length nodes.new ≡ length nodes.old }
+    ensures within { IfSome result (λ n. n ≤ length nodes.new) }
+    ensures settled { (d : Which) (ps : Pairs Member)
+        → DescribesEntries d source.now (take count nodes.old) ps
+        → IfSome result (λ n. DescribesEntries d source.now (take n nodes.new)
+        (settled_pairs ps)) }
+{
+    let mut few = [Node::NONE; FEW];
+    let copied = put_run(&nodes[..count], &mut few, 0)?;
+    settle_few(source, &few[..copied], nodes)
 }
 
 /// As [`scan_settled`]; the flag is set if the nodes had to be settled. It fails only if an allocation

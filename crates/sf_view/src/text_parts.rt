@@ -68,7 +68,7 @@ fn slice_of(text: &[u8], part: Part) -> Option<Slice>
 
 /// A key, and the rest.
 #[inline(always)]
-fn read_key(text: &[u8]) -> Option<(&[u8], &[u8])>
+pub(crate) fn read_key(text: &[u8]) -> Option<(&[u8], &[u8])>
     ensures { IfSome result (λ r. (text.now ≡ r.0.now ++ r.1.now) × IsKey r.0.now) }
 {
     let (first, more) = split(text)?;

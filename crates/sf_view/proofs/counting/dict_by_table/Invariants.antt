@@ -1,0 +1,12 @@
+use Rattle.std.proofs.Common.{option_copied}
+use Rattle.sf_view.specs.Cursors.{left_in}
+use Rattle.sf_view.proofs.CountedParts.{DictSoFar, AreInTable}
+use Rattle.sf_view.proofs.counting.dict_by_table.Given as goal
+
+abbrev pub invariant-loop-start : goal.invariant-loop-start
+invariant-loop-start l =
+    DictSoFar l.dialect (AreInTable l.table) l.text (option_copied l.start) l.counts.nodes
+    l.counts.bytes
+
+abbrev pub decreases-loop-start : goal.decreases-loop-start
+decreases-loop-start l = left_in (option_copied l.start)
