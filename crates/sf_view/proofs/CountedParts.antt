@@ -2,13 +2,12 @@
 use Rattle.std.proofs.Common.{◌≡◌, ◌≢◌, ℕ, ◌+◌, true, List, [], ◌∷◌, ◌++◌, Option, Some, None}
 use Rattle.std.proofs.Common.{length, refl, sym, ap, ap₂, ◌∙◌, subst, arith, append_assoc, append-nil}
 use Rattle.std.proofs.Common.{length-append, inl, inr, if◌then◌else◌, Bool, false}
+use Rattle.std.specs.Prelude.{IfOk, Result, Ok, Err}
 use Rattle.std.specs.List.{IsDistinct}
 use Rattle.std.specs.Map.{keys_of}
 use Rattle.std.specs.Str.{bytes_eq}
-use Rattle.sf_value.specs.Ascii.{semicolon}
 use Rattle.sf_value.specs.declared.dialect.Dialect.{Dialect}
 use Rattle.sf_value.specs.declared.value.Bare.{Bare}
-use Rattle.sf_value.specs.declared.value.Item.{Item}
 use Rattle.sf_value.specs.declared.value.Member.{Member}
 use Rattle.sf_value.specs.declared.value.Member.TheVariants as member
 use Rattle.sf_value.specs.declared.value.Field.TheVariants as field
@@ -16,13 +15,14 @@ use Rattle.sf_value.specs.declared.value.Kind.TheVariants as kind
 use Rattle.sf_value.specs.Grammar.Classes.{is_sp}
 use Rattle.sf_value.specs.Grammar.Pairs.{Pairs, latest, without, settle}
 use Rattle.sf_value.specs.Grammar.Tokens.{IsKey}
-use Rattle.sf_value.specs.Grammar.Parameters.{SpellsRaw, SpellsParams}
-use Rattle.sf_value.specs.Grammar.Items.{SpellsItem, item}
+use Rattle.sf_value.specs.Grammar.Parameters.{SpellsRaw}
+use Rattle.sf_value.specs.Grammar.Items.{item}
 use Rattle.sf_value.specs.Grammar.InnerLists.{SpellsMember, inner}
 use Rattle.sf_value.specs.Grammar.Series.{SpellsWhole}
 use Rattle.sf_value.specs.Grammar.Fields.{SpellsEntry, flag, list_of, dict_of}
 use Rattle.sf_value.proofs.Settling.{settle-distinct, settle_settle}
 use Rattle.sf_view.specs.declared.counting.Counts.{Counts}
+use Rattle.sf_view.specs.declared.counting.Uncounted.{Uncounted}
 use Rattle.sf_view.specs.declared.view.BareView.{BareView}
 use Rattle.sf_view.specs.Scans.{Behind}
 use Rattle.sf_view.specs.Views.{IsBorrowed}
@@ -32,10 +32,10 @@ use Rattle.sf_view.specs.Cursors.{IsFirst, IsNext, Remains}
 use Rattle.sf_view.specs.declared.keys.Marks.{Marks}
 use Rattle.sf_view.specs.Marks.{mark_of, HaveMarks}
 use Rattle.sf_view.specs.Keys.{HoldsEach, Holds, Enters, tag_of}
-use Rattle.sf_view.specs.NodeCounts.{item_nodes, items_nodes, member_nodes, members_nodes}
-use Rattle.sf_view.specs.NodeCounts.{entries_nodes, params_bytes, item_bytes}
-use Rattle.sf_view.specs.NodeCounts.{items_bytes, member_bytes, members_bytes, entries_bytes}
-use Rattle.sf_view.specs.Counting.{HasCounts, CountsPart, CountsParams, CountsItem, CountsInner}
+use Rattle.sf_view.specs.NodeCounts.{member_nodes, members_nodes}
+use Rattle.sf_view.specs.NodeCounts.{entries_nodes, params_bytes}
+use Rattle.sf_view.specs.NodeCounts.{member_bytes, members_bytes, entries_bytes}
+use Rattle.sf_view.specs.Counting.{HasCounts, CountsParams, CountsItem, CountsInner}
 use Rattle.sf_view.specs.Counting.{CountsMember, CountsItems, CountsEntry, sum_nodes, sum_bytes}
 use Rattle.sf_view.proofs.Inners.{spaces_before, item_before}
 use Rattle.sf_view.proofs.Members.{only_of}
@@ -666,6 +666,13 @@ dict_map_all d text kept c s e f =
       nodes = e ∙ ap sum_nodes is ∙ h.0;
       bytes = f ∙ ap sum_bytes is ∙ h.1;
     }
+
+pub dict_map_ok : (d : Dialect) (text : List ℕ) (kept : Pairs Counts)
+    (r : Result Counts Uncounted) → DictMap d text None kept
+    → IfOk r (λ c. c.nodes ≡ sum_nodes kept) → IfOk r (λ c. c.bytes ≡ sum_bytes kept)
+    → IfOk r (HasCounts d kind.Dict text)
+dict_map_ok d text kept (Ok c) s e f = dict_map_all d text kept c s e f
+dict_map_ok d text kept (Err w) s e f = tt
 
 -- an Item and the spaces around it
 pub item_field : (d : Dialect) (text start rest left : List ℕ) (c : Counts)

@@ -22,7 +22,7 @@ use Rattle.sf_view.specs.View.{slice_at, DescribesMember, DescribesEntries}
 use Rattle.sf_view.specs.Finding.{IsHop, NoHop}
 use Rattle.sf_view.specs.Keys.{tag_of}
 use Rattle.sf_view.specs.Settling.{first_part, first_key_of, run_from, key_from, runs_of}
-use Rattle.sf_view.specs.Settling.{RunsDescribe, IsPlace, HoldsPlace, HoldsPlaces, IsIndex, slot_in}
+use Rattle.sf_view.specs.Settling.{RunsDescribe, IsPlace, HoldsPlace, HoldsPlaces, IsIndex}
 use Rattle.sf_view.specs.Scans.{Puts}
 use Rattle.sf_view.proofs.Putting.{puts_then}
 use Rattle.sf_view.proofs.KeyMarks.{same_or_other}

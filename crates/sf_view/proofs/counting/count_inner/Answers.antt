@@ -1,4 +1,4 @@
-use Rattle.std.proofs.Common.{◌+◌, ◌∙◌, ap, arith}
+use Rattle.std.proofs.Common.{arith}
 use Rattle.sf_view.proofs.CountedParts.{inner_counts}
 use Rattle.sf_view.proofs.counting.count_inner.Goals as goal
 

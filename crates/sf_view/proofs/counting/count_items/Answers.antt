@@ -12,3 +12,8 @@ loop-left-preserved c =
     items_next _ _ _ _ _ _ _ _ _ _ _ _ c.loop-left.invariant c.in_ok-item.ensures c.in-Some-behind.ensures
     c.behind_spaces-rest-in-loop-left.ensures c.in_ok-counts.ensures.nodes
     c.in_ok-counts.ensures.bytes
+
+pub returns-in_default-behind : goal.returns-in_default-behind
+returns-in_default-behind c =
+    items_last _ _ _ _ _ _ _ _ _ _ _ c.loop-left.invariant c.in_ok-item.ensures
+    c.in-Some-behind-2.ensures c.in_ok-counts.ensures.nodes c.in_ok-counts.ensures.bytes

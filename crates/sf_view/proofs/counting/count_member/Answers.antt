@@ -5,4 +5,4 @@ pub returns-then-is_some : goal.returns-then-is_some
 returns-then-is_some c = member_inner _ _ _ _ _ c.in_ok-counts.ensures
 
 pub returns : goal.returns
-returns c = member_item _ _ _ _ _ c.in_ok-counts.ensures
+returns c = member_item _ _ _ _ _ c.in_ok-counts-2.ensures

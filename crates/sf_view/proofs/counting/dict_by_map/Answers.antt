@@ -1,10 +1,12 @@
-use Rattle.std.proofs.Common.{◌≡◌, None}
+use Rattle.std.proofs.Common.{◌≡◌, None, sym, subst}
 use Rattle.sf_view.proofs.Cursors.{less_left}
-use Rattle.sf_view.proofs.CountedParts.{dict_map_none, dict_map_more, dict_map_all}
+use Rattle.sf_view.proofs.CountedParts.{DictMap, dict_map_none, dict_map_more, dict_map_ok}
 use Rattle.sf_view.proofs.counting.dict_by_map.Goals as goal
 
 pub loop-start-init : goal.loop-start-init
-loop-start-init c = dict_map_none _ _ _ c.first_start-start.ensures
+loop-start-init c =
+    subst (DictMap c.args.dialect c.args.text.now _) (sym c.new-kept.ensures)
+    (dict_map_none c.args.dialect c.args.text.now _ c.first_start-start.ensures)
 
 pub loop-start-smaller : goal.loop-start-smaller
 loop-start-smaller c =
@@ -23,4 +25,5 @@ pub returns : goal.returns
 returns c =
     let is = c.in_default.is in
     let none : c.loop-start.start ≡ None = cc in
-    dict_map_all _ _ _ _ (rw none at c.loop-start.invariant) ? ?
+    dict_map_ok _ _ _ c.sum.result (rw none at c.loop-start.invariant) c.sum.ensures.nodes
+    c.sum.ensures.bytes

@@ -16,7 +16,7 @@ pub loop-start-preserved : goal.loop-start-preserved
 loop-start-preserved c =
     dict_more _ (AreMarked c.loop-start.marks.bits) (AreMarked c.with-marks.result.bits) _ _ _ _ _ _ _ _ _ _ _
     (rw c.in-Some.is at c.loop-start.invariant) c.in_ok-key.ensures
-    (λ ks. marked_more c.loop-start.marks c.with-marks.result ks _ _ c.mark.ensures c.with-marks.ensures ?)
+    (λ ks. marked_more c.loop-start.marks c.with-marks.result ks _ _ c.mark.ensures c.with-marks.ensures c.if-marks.false)
     c.in-Some-next_start.ensures c.in_ok-counts.ensures.nodes c.in_ok-counts.ensures.bytes
 
 pub returns : goal.returns

@@ -1,8 +1,11 @@
-use Rattle.sf_view.proofs.CountedParts.{map_none, map_more, map_params}
+use Rattle.std.proofs.Common.{sym, subst}
+use Rattle.sf_view.proofs.CountedParts.{RawMap, map_none, map_more, map_params}
 use Rattle.sf_view.proofs.counting.params_by_map.Goals as goal
 
 pub loop-more-init : goal.loop-more-init
-loop-more-init c = map_none _ _
+loop-more-init c =
+    subst (RawMap c.args.dialect c.args.text.now c.args.text.now) (sym c.new-kept.ensures)
+    (map_none c.args.dialect c.args.text.now)
 
 pub set_named-requires : goal.set_named-requires
 set_named-requires c = c.in-Some-read_param.ensures.spelled.4

@@ -10,7 +10,7 @@ pub loop-more-preserved : goal.loop-more-preserved
 loop-more-preserved c =
     counts_more _ (AreMarked c.loop-more.marks.bits) (AreMarked c.with-marks.result.bits) _ _ _ _ _ _ _ _ _ _
     c.loop-more.invariant c.in-Some.ensures c.in-Some-read_param.ensures
-    (λ ks. marked_more c.loop-more.marks c.with-marks.result ks _ _ c.mark.ensures c.with-marks.ensures ?)
+    (λ ks. marked_more c.loop-more.marks c.with-marks.result ks _ _ c.mark.ensures c.with-marks.ensures c.if-marks.false)
     (c.in_ok-counts.ensures.nodes
     ∙ ap (λ y. c.loop-more.counts.nodes + y) c.of_bare.ensures.nodes)
     (λ e y h. c.in_ok-counts.ensures.bytes
