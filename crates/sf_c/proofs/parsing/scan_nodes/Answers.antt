@@ -6,9 +6,9 @@ use Rattle.sf_c.proofs.parsing.scan_nodes.Goals as goal
 pub returns-then-none_coded-clause-held : goal.returns-then-none_coded-clause-held
 returns-then-none_coded-clause-held c =
     let first = c.split_at_mut-prefix.ensures.front in
-    let prefix : c.split_at_mut-prefix.result.0.now ≡ take c.in_ok-count.count c.scan_text.new.nodes
+    let prefix : c.split_at_mut-prefix.result.0.now ≡ take c.in_ok-count.count c.scan_into.new.nodes
     = first_of (cc, search rules) in
-    uncoded_held c.args.dialect c.args.kind c.args.text.now c.scan_text.new.nodes
+    uncoded_held c.args.dialect c.args.kind c.args.text.now c.scan_into.new.nodes
     c.split_at_mut-prefix.result.0.now c.split_at_mut-prefix.result.1.now _ c.args.bytes.now
     c.in_ok-count.count c.nodes_are_few.ensures.nodes c.nodes_are_few.ensures.bytes
     c.nodes_are_theirs.ensures c.in_ok-count.ensures.accepts prefix
@@ -17,9 +17,9 @@ returns-then-none_coded-clause-held c =
 pub returns-clause-held : goal.returns-clause-held
 returns-clause-held c =
     let first = c.split_at_mut-prefix.ensures.front in
-    let prefix : c.split_at_mut-prefix.result.0.now ≡ take c.in_ok-count.count c.scan_text.new.nodes
+    let prefix : c.split_at_mut-prefix.result.0.now ≡ take c.in_ok-count.count c.scan_into.new.nodes
     = first_of (cc, search rules) in
-    scanned_held c.args.dialect c.args.kind c.args.text.now c.scan_text.new.nodes
+    scanned_held c.args.dialect c.args.kind c.args.text.now c.scan_into.new.nodes
     c.decode_nodes.new.nodes c.split_at_mut-prefix.result.1.now _ c.decode_nodes.new.bytes
     (record { nodes = c.in_ok-count.count; bytes = c.in_ok-used.used })
     c.nodes_are_few.ensures.nodes c.nodes_are_few.ensures.bytes c.nodes_are_theirs.ensures
