@@ -1,17 +1,15 @@
 //! The member of a Cache-Status field for a hop.
 ghost use Rattle.std.specs.Prelude.{◌≡◌, [], ◌∷◌, Some, IfOk, IfErr, MatchResult};
-ghost use Rattle.sf_value.specs.declared.dialect.Dialect.TheVariants.{Rfc9651};
-ghost use Rattle.sf_value.specs.declared.value.Kind.TheVariants as kind_is;
 ghost use Rattle.sf_value.specs.Grammar.Fields.{list_of};
-ghost use Rattle.sf_value.specs.Grammar.Valid.{Valid};
 ghost use Rattle.sf_use.specs.CacheStatus.Members.{entry};
 ghost use Rattle.sf_c.specs.GivenHops.{AreBytes, GivesFlag, GivesHop, GivesInteger, GivesMaybe};
 ghost use Rattle.sf_c.specs.GivenHops.{GivesName, GivesNone, GivesOutcome, GivesPassed};
-ghost use Rattle.sf_c.specs.GivenHops.{fault_status, hop_text, is_invalid as is_invalid_part};
+ghost use Rattle.sf_c.specs.GivenHops.{fault_status, is_invalid as is_invalid_part};
 ghost use Rattle.sf_c.specs.GivenHops.{GivesStatus, GivesString, GivesToken, GivesWhy, WritesHop};
 ghost use Rattle.sf_c.specs.Statuses.{status_at};
 ghost use Rattle.sf_c.specs.declared.status.Status.TheVariants.{Invalid};
 
+use crate::block::OnStack;
 use crate::buffer::put_text;
 use crate::hops::HopNode;
 use crate::seed::Seed;
@@ -64,23 +62,28 @@ fn write(
     let Some(state) = seed.state() else {
         return Status::OutOfMemory;
     };
-    match text_of(alloc, &state, &hop) {
-        Ok(text) => put_text(text.as_slice(), buffer, required),
-        Err(_) => Status::OutOfMemory,
+    let Ok(field) = field_of(alloc, &state, &hop) else {
+        return Status::OutOfMemory;
+    };
+    let mut stack = OnStack::new();
+    if let Some(text) = stack.text_of(&field) {
+        return put_text(text, buffer, required);
     }
+    let Ok(text) = to_text(alloc, &field) else {
+        return Status::OutOfMemory;
+    };
+    put_text(text.as_slice(), buffer, required)
 }
 
-/// The text of a List whose only member is that of the hop.
-fn text_of(alloc: Global, seed: &RandomState, hop: &Hop) -> Result<Vec<u8>, OutOfMemory>
-    ensures text { IfOk result (λ text. text.items ≡ hop_text hop.now) }
-    ensures valid { IfOk result
-        (λ _. Valid Rfc9651 kind_is.List (list_of (entry hop.now ∷ []))) }
+/// A List whose only member is that of the hop, as a field.
+fn field_of(alloc: Global, seed: &RandomState, hop: &Hop) -> Result<Field, OutOfMemory>
+    ensures { IfOk result (λ field. field ≡ list_of (entry hop.now ∷ [])) }
 {
     let mut list = List {
         members: Sequence::new(alloc),
     };
     append_hop(alloc, seed, &mut list, hop)?;
-    to_text(alloc, &Field::List(list))
+    Ok(Field::List(list))
 }
 
 /// The hop that the struct describes.

@@ -9,6 +9,7 @@
 #![tactic(auto)]
 
 mod append;
+mod block;
 mod buffer;
 mod cache_status;
 mod call;

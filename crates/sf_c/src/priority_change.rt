@@ -1,14 +1,11 @@
 //! A Priority field that is forwarded with another priority.
 ghost use Rattle.std.specs.Prelude.{◌≡◌, Some, IfOk};
-ghost use Rattle.sf_value.specs.declared.dialect.Dialect.TheVariants.{Rfc9651};
 ghost use Rattle.sf_value.specs.declared.value.Field.TheVariants as field_is;
-ghost use Rattle.sf_value.specs.declared.value.Kind.TheVariants as kind_is;
-ghost use Rattle.sf_value.specs.Grammar.Canonical.{canon};
-ghost use Rattle.sf_value.specs.Grammar.Valid.{Valid};
 ghost use Rattle.sf_use.specs.PriorityUpdate.{updated};
 ghost use Rattle.sf_c.specs.PriorityChanges.{ChangesBy, ChangesPriority};
 ghost use Rattle.sf_c.specs.Statuses.{status_at};
 
+use crate::block::OnStack;
 use crate::buffer::put_text;
 use crate::call::{Scan, parse_dict};
 use crate::priority::PriorityFlags;
@@ -90,25 +87,27 @@ fn change(
     let Some(state) = seed.state() else {
         return Status::OutOfMemory;
     };
-    let Ok(canonical) = changed_text(alloc, &state, dict, priority.asked()) else {
+    let Ok(changed) = changed_field(alloc, &state, dict, priority.asked()) else {
+        return Status::OutOfMemory;
+    };
+    let mut stack = OnStack::new();
+    if let Some(text) = stack.text_of(&changed) {
+        return put_text(text, buffer, required);
+    }
+    let Ok(canonical) = to_text(alloc, &changed) else {
         return Status::OutOfMemory;
     };
     put_text(canonical.as_slice(), buffer, required)
 }
 
-/// The canonical text of the Dictionary with a priority put into it.
-fn changed_text(
+/// The Dictionary with a priority put into it, as a field.
+fn changed_field(
     alloc: Global,
     seed: &RandomState,
     dict: Dict,
     asked: Asked,
-) -> Result<Vec<u8>, OutOfMemory>
-    ensures text { IfOk result (λ text. text.items ≡ canon (field_is.Dict (updated asked dict))) }
-    ensures valid { IfOk result
-        (λ _. Valid Rfc9651 kind_is.Dict (field_is.Dict (updated asked dict))) }
+) -> Result<Field, OutOfMemory>
+    ensures { IfOk result (λ field. field ≡ field_is.Dict (updated asked dict)) }
 {
-    to_text(
-        alloc,
-        &Field::Dict(update_priority(alloc, seed, dict, asked)?),
-    )
+    Ok(Field::Dict(update_priority(alloc, seed, dict, asked)?))
 }
