@@ -461,9 +461,9 @@ typedef struct sf_sizes {
  * there are many.
  *
  * The caller can limit the number of nodes of a value by nodes_capacity. After SF_TOO_MANY and
- * SF_SHORT, buffers of the sizes in *sizes are large enough. The text is then only counted, in about
- * the time of sf_check. That allocates only if a key is repeated or, rarely, if a Dictionary or a
- * part has more than a hundred: then for each different key.
+ * SF_SHORT, buffers of the sizes in *sizes are large enough. The text is then only counted. That
+ * allocates only if a key is repeated or, rarely, if a Dictionary or a part has more than a
+ * hundred: then for each different key.
  *
  * After SF_OK, the contents of the nodes and bytes beyond *sizes are unspecified; after any other
  * status, those of all nodes and bytes are. Unless SF_OK, SF_TOO_MANY or SF_SHORT is returned,
@@ -1015,7 +1015,7 @@ typedef struct sf_path {
  * The bytes are, for each hop in order, its name, why_token, key and detail, with nothing between
  * them; an empty range is at the offset at which it would begin. Buffers of
  * SF_NODES_SIZE(text_length) hops and SF_BYTES_SIZE(text_length) bytes are always large enough. A
- * call that returns SF_OK does not allocate, unless the text has 4 GiB or more.
+ * call that returns SF_OK or SF_SHORT does not allocate, unless the text has 4 GiB or more.
  *
  * After SF_OK, the contents of the hops and bytes beyond these sizes are unspecified; after any
  * other status, those of all are. With SF_OK and SF_SHORT, all of *path but nameless is written;

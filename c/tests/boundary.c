@@ -951,9 +951,9 @@ static int is_row(const value *v, const sf_node *node, const row *expected) {
 }
 
 /* The nodes of a text, in each buffer that is too small, in buffers of exactly their size, and in
- * longer ones. If a key is repeated, a scan needs more nodes than the value has. With so many nodes,
- * so many bytes are decoded; with fewer, all keys and bytes are in the buffer. If no key is repeated,
- * the call does not allocate, also if a buffer is too small. */
+ * longer ones. If a key is repeated, a scan needs more nodes than the value has. With so many
+ * nodes, so many bytes are decoded; with fewer, all keys and bytes are in the buffer. If no key is
+ * repeated, the call does not allocate, also if a buffer is too small. */
 static void parsed(uint32_t kind, const char *from, const row *rows, size_t count, size_t decoded,
                    size_t scanned) {
   const char *about = from;
@@ -1201,8 +1201,8 @@ static void very_many_keys(void) {
   free(text);
 }
 
-/* Buffers that are much too small for many members: the text is counted, without memory unless a key
- * is repeated, and then with memory for the different keys. */
+/* Buffers that are much too small for many members: the text is counted, without memory unless a
+ * key is repeated, and then with memory for the different keys. */
 static void limits(void) {
   enum { LENGTH = 65535 };
   static const struct {

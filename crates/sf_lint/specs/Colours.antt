@@ -2,7 +2,7 @@
 use Rattle.std.specs.Prelude.{ℕ, Bool, true, ◌&&◌, ◌==◌, if◌then◌else◌, List, ◌++◌, codes, length}
 use Rattle.std.specs.Prelude.{Option, Some, None}
 use Rattle.sf_lint.specs.declared.colours.Verdict.{Verdict}
-use Rattle.sf_lint.specs.declared.colours.Verdict.TheVariants.{Ok, Refused, Ignored}
+use Rattle.sf_lint.specs.declared.colours.Verdict.TheVariants.{Ok, Refused, Ignored, Invalid}
 use Rattle.sf_lint.specs.declared.settings.Settings.{Settings}
 
 -- the word for a field or a line
@@ -10,6 +10,7 @@ abbrev pub word_of : Verdict → List ℕ
 word_of Ok = codes "ok"
 word_of Refused = codes "refused"
 word_of Ignored = codes "ignored"
+word_of Invalid = codes "invalid"
 
 -- the sequence that sets the colour of what follows (ECMA-48 section 8.3.117): green, red and
 -- yellow
@@ -17,6 +18,7 @@ abbrev pub colour_of : Verdict → List ℕ
 colour_of Ok = codes "\u{1b}[32m"
 colour_of Refused = codes "\u{1b}[31m"
 colour_of Ignored = codes "\u{1b}[33m"
+colour_of Invalid = codes "\u{1b}[33m"
 
 -- the word in its colour, and the terminal's default colour after it
 abbrev pub in_colour : Verdict → List ℕ

@@ -1,7 +1,7 @@
 -- The meanings of fields to a cache or a server, in the lines that the command `sf` prints.
 use Rattle.std.specs.Prelude.{◌≡◌, ℕ, suc, Bool, true, false, ◌&&◌, List as Seq, [], ◌∷◌, ◌++◌}
-use Rattle.std.specs.Prelude.{Result, Ok, Err, Option, is_some, is_none, codes, decimal}
-use Rattle.std.specs.Prelude.{if◌then◌else◌, ⊤}
+use Rattle.std.specs.Prelude.{Result, Ok, Err, Option, Some, None, is_some, is_none, codes, decimal}
+use Rattle.std.specs.Prelude.{if◌then◌else◌, not, ⊤}
 use Rattle.std.specs.Str.{bytes_eq}
 use Rattle.std.specs.declared.vec.Vec.{Vec}
 use Rattle.std.specs.declared.alloc.Global.{Global}
@@ -19,11 +19,12 @@ use Rattle.sf_use.specs.CacheStatus.Parameters.{boolean_at, integer_at, name_at,
 use Rattle.sf_use.specs.declared.priority.Asked.{Asked}
 use Rattle.sf_use.specs.declared.targeted.Policy.{Policy}
 use Rattle.sf_use.specs.Priority.{params_of_dict, priority_with_defaults}
+use Rattle.sf_use.specs.Ranges.{is_valid_status}
 use Rattle.sf_use.specs.Targeted.{policy}
 use Rattle.sf_tool.specs.ChoiceLines.{policy_lines}
 use Rattle.sf_tool.specs.PathLines.{path_lines}
 use Rattle.sf_tool.specs.PriorityLine.{priority_line}
-use Rattle.sf_lint.specs.declared.colours.Verdict.TheVariants.{Ignored}
+use Rattle.sf_lint.specs.declared.colours.Verdict.TheVariants.{Ignored, Invalid}
 use Rattle.sf_lint.specs.declared.settings.Settings.{Settings}
 use Rattle.sf_lint.specs.Colours.{verdict_text}
 use Rattle.sf_lint.specs.Settings.{is_targeted}
@@ -65,12 +66,38 @@ ignored_params s n params =
     ++ (ignored_at s n params text_at (codes "key")
     ++ ignored_at s n params name_at (codes "detail")))))))
 
--- the lines for the ignored parameters of the n-th member; an Inner List names no cache
+-- the line for parameters that are read, but invalid
+abbrev pub invalid_line : Settings → Seq ℕ → Bool → Seq ℕ
+invalid_line s what true = verdict_text s Invalid ++ (codes " " ++ (what ++ codes "\n"))
+invalid_line s what false = []
+
+-- hit and fwd are both read: "only one of them should appear on each list member" (2.1)
+abbrev pub has_both : Pairs Bare → Bool
+has_both params =
+    is_some (boolean_at (codes "hit") params) && is_some (token_at (codes "fwd") params)
+
+-- a status code that is invalid: "Values outside the range 100..599 are invalid" (RFC 9110 section
+-- 15). One without three digits is ignored
+abbrev pub is_invalid_status : Option ℕ → Bool
+is_invalid_status (Some n) = not (is_valid_status n)
+is_invalid_status None = false
+
+abbrev pub has_invalid_status : Pairs Bare → Bool
+has_invalid_status params = is_invalid_status (status_at (codes "fwd-status") params)
+
+-- the lines for the invalid parameters of the n-th member
+abbrev pub invalid_params : Settings → ℕ → Pairs Bare → Seq ℕ
+invalid_params s n params =
+    invalid_line s (hop_key n (codes "hit fwd")) (has_both params)
+    ++ invalid_line s (hop_key n (codes "fwd-status")) (has_invalid_status params)
+
+-- the lines for the ignored and the invalid parameters of the n-th member; an Inner List names no
+-- cache
 abbrev pub ignored_member : Settings → ℕ → Member → Seq ℕ
-ignored_member s n (member.Item i) = ignored_params s n i.params
+ignored_member s n (member.Item i) = ignored_params s n i.params ++ invalid_params s n i.params
 ignored_member s n (member.Inner l) = []
 
--- the lines for the ignored parameters of members, whose first is the n-th
+-- the lines for the ignored and the invalid parameters of members, whose first is the n-th
 abbrev pub ignored_members : Settings → ℕ → Seq Member → Seq ℕ
 ignored_members s n [] = []
 ignored_members s n (m ∷ ms) = ignored_member s n m ++ ignored_members s (suc n) ms

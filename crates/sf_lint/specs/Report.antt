@@ -3,7 +3,10 @@ use Rattle.std.specs.Prelude.{◌≡◌, ℕ, suc, zero, ◌+◌, ◌⊎◌, Boo
 use Rattle.std.specs.Prelude.{List, [], ◌++◌, length, get_or, Option, Some, None, codes}
 use Rattle.std.specs.Prelude.{decimal, Result, Ok, Err}
 use Rattle.std.specs.Str.Lines.{lines}
+use Rattle.sf_value.specs.declared.dialect.Dialect.{Dialect}
+use Rattle.sf_value.specs.declared.dialect.Dialect.TheVariants.{Rfc8941, Rfc9651}
 use Rattle.sf_value.specs.declared.value.Field.{Field as Value}
+use Rattle.sf_value.specs.declared.value.Kind.{Kind}
 use Rattle.sf_value.specs.Grammar.Canonical.{canon}
 use Rattle.sf_parse.specs.declared.refusal.Refusal.{Refusal}
 use Rattle.sf_parse.specs.declared.refusal.Refusal.TheVariants as refusal
@@ -88,11 +91,45 @@ ReportsRefusal s name n lines r text refused others =
     (¬ (r ≡ refusal.OutOfMemory))
     × IsReport (refused_text s n name lines r) true 0 text refused others
 
--- the result of parsing the values of a field
-abbrev pub ReportsParsed : Settings → List ℕ → ℕ → List (List ℕ) → Result Value Refusal
+-- the line between what a field is by RFC 8941, which reads it, and what it is by RFC 9651
+abbrev pub dialects_line : List ℕ
+dialects_line = codes "above by RFC 8941, below by RFC 9651:\n"
+
+-- what a field that RFC 8941 refuses is by RFC 9651: its value and meaning, or that a member names
+-- no cache
+abbrev pub newer_text : Settings → List ℕ → Value → Result (List ℕ) ℕ → List ℕ
+newer_text s name v (Ok text) = dialects_line ++ (accepted_text s name v ++ text)
+newer_text s name v (Err index) = dialects_line ++ no_cache_text s name index
+
+-- a field that RFC 8941 refuses, and what RFC 9651 makes of it: if that accepts it, both are told;
+-- a failed allocation is no refusal of a field
+abbrev pub ReportsBoth : Settings → List ℕ → ℕ → List (List ℕ) → Refusal → Result Value Refusal
     → List ℕ → Bool → ℕ → Type 0
-ReportsParsed s name n lines (Ok v) = ReportsValue s name v (meaning_of s name v)
-ReportsParsed s name n lines (Err r) = ReportsRefusal s name n lines r
+ReportsBoth s name n lines r (Ok v) text refused others =
+    (¬ (r ≡ refusal.OutOfMemory))
+    × IsReport (refused_text s n name lines r ++ shown s (newer_text s name v (meaning_of s name v)))
+    true 0 text refused others
+ReportsBoth s name n lines r (Err e) text refused others =
+    (¬ (e ≡ refusal.OutOfMemory)) × ReportsRefusal s name n lines r text refused others
+
+abbrev pub ReportsOlder : Settings → Kind → List ℕ → ℕ → List (List ℕ) → Refusal
+    → List ℕ → Bool → ℕ → Type 0
+ReportsOlder s kind name n lines r text refused others =
+    (newer : Result Value Refusal)
+    × ParsesLines Rfc9651 kind (values_in name lines) newer
+    × ReportsBoth s name n lines r newer text refused others
+
+-- a refusal by a dialect: fields that RFC 8941 accepts have the same value by RFC 9651
+abbrev pub ReportsRefused : Settings → FieldType → List ℕ → ℕ → List (List ℕ) → Refusal
+    → Dialect → List ℕ → Bool → ℕ → Type 0
+ReportsRefused s type name n lines r Rfc9651 = ReportsRefusal s name n lines r
+ReportsRefused s type name n lines r Rfc8941 = ReportsOlder s type.kind name n lines r
+
+-- the result of parsing the values of a field
+abbrev pub ReportsParsed : Settings → FieldType → List ℕ → ℕ → List (List ℕ)
+    → Result Value Refusal → List ℕ → Bool → ℕ → Type 0
+ReportsParsed s type name n lines (Ok v) = ReportsValue s name v (meaning_of s name v)
+ReportsParsed s type name n lines (Err r) = ReportsRefused s type name n lines r type.dialect
 
 -- a structured field, whose first line is the n-th of the input and the first of these lines of its
 -- message: the values of its lines, joined, spell a value, or are refused
@@ -101,7 +138,7 @@ abbrev pub ReportsField : Settings → FieldType → List ℕ → ℕ → List (
 ReportsField s type name n lines t r o =
     (parsed : Result Value Refusal)
     × ParsesLines type.dialect type.kind (values_in name lines) parsed
-    × ReportsParsed s name n lines parsed t r o
+    × ReportsParsed s type name n lines parsed t r o
 
 -- a field line, of a field of this type, if it is structured: the field is reported at its first
 -- line

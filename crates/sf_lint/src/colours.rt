@@ -14,6 +14,8 @@ pub(crate) enum Verdict {
     Refused,
     /// A member or a parameter is ignored.
     Ignored,
+    /// Parameters are read, but not as their specification requires them.
+    Invalid,
 }
 
 impl Verdict {
@@ -26,12 +28,14 @@ impl Verdict {
                 Verdict::Ok => "\x1b[32mok\x1b[0m",
                 Verdict::Refused => "\x1b[31mrefused\x1b[0m",
                 Verdict::Ignored => "\x1b[33mignored\x1b[0m",
+                Verdict::Invalid => "\x1b[33minvalid\x1b[0m",
             }
         } else {
             match self {
                 Verdict::Ok => "ok",
                 Verdict::Refused => "refused",
                 Verdict::Ignored => "ignored",
+                Verdict::Invalid => "invalid",
             }
         }
     }

@@ -7,7 +7,9 @@ ghost use Rattle.sf_use.specs.CacheStatus.Hops.{status_of as status_in};
 ghost use Rattle.sf_use.specs.CacheStatus.Parameters.{boolean_at, integer_at, name_at};
 ghost use Rattle.sf_use.specs.CacheStatus.Parameters.{text_at, token_at};
 ghost use Rattle.sf_lint.specs.Meanings.{hop_key, ignored_line, is_ignored, status_at};
+ghost use Rattle.sf_lint.specs.Meanings.{has_both, has_invalid_status, invalid_line};
 ghost use Rattle.sf_lint.specs.Meanings.{ignored_params as params_in};
+ghost use Rattle.sf_lint.specs.Meanings.{invalid_params as invalid_params_in};
 ghost use Rattle.sf_lint.specs.Meanings.{ignored_member as member_in};
 ghost use Rattle.sf_lint.specs.Meanings.{ignored_members as members_in};
 
@@ -136,6 +138,85 @@ fn ignored_params(
     with_ignored(alloc, settings, text, number, "detail", is_ignored)
 }
 
+/// Returns whether `hit` and `fwd` are both read, while "only one of them should appear on each list
+/// member" (RFC 9211 section 2.1).
+fn is_both(params: &Entries<Bare>) -> bool
+    ensures { result ≡ has_both params.now }
+{
+    match (params.get(b"hit"), params.get(b"fwd")) {
+        (Some(hit), Some(fwd)) => hit.as_boolean().is_some() && fwd.as_token().is_some(),
+        _ => false,
+    }
+}
+
+/// Returns whether `fwd-status` is a status code that is not valid: 600 to 999 (RFC 9110 section
+/// 15).
+fn is_invalid_status(params: &Entries<Bare>) -> bool
+    ensures { result ≡ has_invalid_status params.now }
+{
+    let Some(bare) = params.get(b"fwd-status") else {
+        return false;
+    };
+    match status_of(bare) {
+        Some(status) => !status.is_valid(),
+        None => false,
+    }
+}
+
+/// Returns the line for parameters of the member of this number that are invalid; nothing if they
+/// are not.
+fn invalid_text(
+    alloc: Global,
+    settings: &Settings,
+    number: usize,
+    what: &str,
+    is_invalid: bool,
+) -> Result<Vec<u8>, OutOfMemory>
+    ensures { IfOk result
+        (λ text. text.items ≡ invalid_line settings.now (hop_key number what.now) is_invalid) }
+{
+    if !is_invalid {
+        return Ok(Vec::new(alloc));
+    }
+    let invalid = Verdict::Invalid.text(settings);
+    let line = format!(in alloc; "{invalid} hop {number} {what}\n")?;
+    Ok(line.into_bytes())
+}
+
+/// Returns the lines for the parameters of the member of this number that are read, but invalid.
+fn invalid_params(
+    alloc: Global,
+    settings: &Settings,
+    number: usize,
+    params: &Entries<Bare>,
+) -> Result<Vec<u8>, OutOfMemory>
+    ensures { IfOk result (λ text. text.items ≡ invalid_params_in settings.now number params.now) }
+{
+    let mut text = invalid_text(alloc, settings, number, "hit fwd", is_both(params))?;
+    let status = is_invalid_status(params);
+    let status = invalid_text(alloc, settings, number, "fwd-status", status)?;
+    text.extend_from_slice(status.as_slice())?;
+    Ok(text)
+}
+
+/// Returns the lines for the parameters of the member of this number that are ignored, and for
+/// those that are invalid.
+fn told_params(
+    alloc: Global,
+    settings: &Settings,
+    number: usize,
+    params: &Entries<Bare>,
+) -> Result<Vec<u8>, OutOfMemory>
+    ensures { IfOk result (λ text. text.items
+        ≡ params_in settings.now number params.now ++ invalid_params_in settings.now number
+        params.now) }
+{
+    let mut text = ignored_params(alloc, settings, number, params)?;
+    let invalid = invalid_params(alloc, settings, number, params)?;
+    text.extend_from_slice(invalid.as_slice())?;
+    Ok(text)
+}
+
 /// Returns the same for a member of Cache-Status.
 fn ignored_member(
     alloc: Global,
@@ -146,7 +227,7 @@ fn ignored_member(
     ensures { IfOk result (λ text. text.items ≡ member_in settings.now number member.now) }
 {
     match member {
-        Member::Item(item) => ignored_params(alloc, settings, number, &item.params),
+        Member::Item(item) => told_params(alloc, settings, number, &item.params),
         Member::Inner(_) => Ok(Vec::new(alloc)),
     }
 }

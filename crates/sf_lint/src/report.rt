@@ -10,6 +10,7 @@ ghost use Rattle.sf_lint.specs.Head.{IsRepeated, is_start as is_start_in, values
 ghost use Rattle.sf_lint.specs.Report.{ReportsLine, ReportsField, ReportsLines, Reports, shown as shown_in};
 ghost use Rattle.sf_lint.specs.Meanings.{meaning_of};
 ghost use Rattle.sf_lint.specs.Report.{no_cache_text, ReportsValue, ReportsRefusal};
+ghost use Rattle.sf_lint.specs.Report.{ReportsOlder, newer_text};
 ghost use Rattle.sf_lint.specs.Report.{accepted_text, refused_text, others_text, bad_line_text};
 ghost use Rattle.sf_lint.specs.Head.{line_of};
 ghost use Rattle.sf_lint.specs.Colours.{verdict_text};
@@ -25,7 +26,7 @@ use http_header::HeaderName;
 use sf_field::{UseFault, parse_from};
 use sf_parse::{InLine, Refusal, Spot};
 use sf_tool::{caret_text, line_text, name_end};
-use sf_value::{Field, OutOfMemory, Writing};
+use sf_value::{Dialect, Field, Kind, OutOfMemory, Writing};
 use sf_write::{put, put_field};
 use std::alloc::Global;
 use std::hash::RandomState;
@@ -226,6 +227,70 @@ fn report_refusal(
     }
 }
 
+/// Returns the text for a field that RFC 8941 refuses and RFC 9651 accepts, with this value: what it
+/// is by the second.
+fn by_the_newer(
+    alloc: Global,
+    settings: &Settings,
+    name: &str,
+    field: &Field,
+) -> Result<Vec<u8>, OutOfMemory>
+    ensures { IfOk result (λ text. text.items ≡ newer_text settings.now name.now field.now
+        (meaning_of settings.now name.now field.now)) }
+{
+    let heading = Vec::from_slice(alloc, b"above by RFC 8941, below by RFC 9651:\n")?;
+    match meaning(alloc, settings, name, field) {
+        Ok(lines) => {
+            let text = accepted(alloc, settings, name, field)?;
+            return joined(heading, text, lines);
+        }
+        Err(UseFault::NotACache { index }) => {
+            let text = without_cache(alloc, settings, name, index)?;
+            return joined(heading, text, Vec::new(alloc));
+        }
+        Err(UseFault::OutOfMemory) => return Err(OutOfMemory),
+    }
+}
+
+/// Reports a field that RFC 8941 refuses: also what it is by RFC 9651, if that accepts it, since the
+/// answers differ. The other numbers are those of [`report_field`].
+fn report_older(
+    alloc: Global,
+    seed: &RandomState,
+    settings: &Settings,
+    kind: Kind,
+    name: &str,
+    refusal: Refusal,
+    number: usize,
+    lines: &[&[u8]],
+) -> Result<LineReport, OutOfMemory>
+    requires { number + length lines.now < 2 ^ 64 }
+    ensures reported { IfOk result (λ reported. ReportsOlder settings.now kind name.now number
+        (map (λ line. line.now) lines.now) refusal reported.text.items reported.refused reported.others) }
+    ensures few { IfOk result (λ reported. reported.others ≤ 1) }
+{
+    let mut reported = report_refusal(alloc, settings, name, refusal, number, lines)?;
+    let values = values(alloc, name.as_bytes(), lines)?;
+    let parsed = parse_from(
+        alloc,
+        seed,
+        Dialect::Rfc9651,
+        kind,
+        values.as_slice().iter(),
+    );
+    match parsed {
+        Ok(field) => {
+            let text = by_the_newer(alloc, settings, name, &field)?;
+            drop(field);
+            let text = shown(alloc, settings, text);
+            reported.text.extend_from_slice(text.as_slice())?;
+            return Ok(reported);
+        }
+        Err(Refusal::OutOfMemory) => return Err(OutOfMemory),
+        Err(_) => return Ok(reported),
+    }
+}
+
 /// Reports a structured field. The lines are those of its message from its first one on, and the
 /// number is that of its first line.
 fn report_field(
@@ -257,7 +322,15 @@ fn report_field(
             drop(field);
             return reported;
         }
-        Err(refusal) => return report_refusal(alloc, settings, name, refusal, number, lines),
+        Err(refusal) => match field_type.dialect {
+            Dialect::Rfc9651 => {
+                return report_refusal(alloc, settings, name, refusal, number, lines);
+            }
+            Dialect::Rfc8941 => {
+                let kind = field_type.kind;
+                return report_older(alloc, seed, settings, kind, name, refusal, number, lines);
+            }
+        },
     }
 }
 

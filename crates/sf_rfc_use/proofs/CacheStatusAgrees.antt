@@ -1,17 +1,16 @@
 -- The hops of a List are the handlings that RFC 9211 reads in it.
-use Rattle.std.proofs.Common.{◌≡◌, ℕ, zero, suc, ◌+◌, ◌<◌}
+use Rattle.std.proofs.Common.{◌≡◌, ℕ, suc, ◌<◌}
 use Rattle.std.proofs.Common.{ℤ, pos, negsuc, Bool, true, false, List as Seq}
 use Rattle.std.proofs.Common.{[], ◌∷◌, length, Option, Some, None, Ok, Err, refl, sym, ap, ap₂, ◌∙◌}
 use Rattle.std.proofs.Common.{Result, subst, arith}
-use Rattle.std.specs.Prelude.{map, take, slice_get, codes, position, is_none, unwrap_or, nat_lt}
-use Rattle.std.specs.Prelude.{All, IsOk}
+use Rattle.std.specs.Prelude.{map, take, codes, position, is_none, unwrap_or, nat_lt}
+use Rattle.std.specs.Prelude.{IsOk}
 use Rattle.std.specs.List.{position_or_len, filter_map}
 use Rattle.std.specs.Option.{option_map, option_and_then}
 use Rattle.std.proofs.lemmas.Bool.Decides.{nat_tests}
 use Rattle.std.proofs.lemmas.List.Elements.{All-nil, All-cons}
 use Rattle.sf_value.specs.declared.value.Bare.{Bare}
 use Rattle.sf_value.specs.declared.value.Bare.TheVariants.{Integer, Text, Token, Boolean}
-use Rattle.sf_value.specs.declared.value.Item.{Item}
 use Rattle.sf_value.specs.declared.value.Member.{Member}
 use Rattle.sf_value.specs.declared.value.Member.TheVariants as member
 use Rattle.sf_value.specs.declared.value.Field.{Field}
@@ -35,7 +34,7 @@ use Rattle.sf_use.specs.CacheStatus.Reasons.{reasons, forward_of}
 use Rattle.sf_use.specs.CacheStatus.Hops.{status_of, passed_by_token, passed_at, outcome_by}
 use Rattle.sf_use.specs.CacheStatus.Hops.{outcome_of, hop_named, member_hop, unless, hops}
 use Rattle.sf_rfc.specs.Rfc9651.Words.{and_then, only_if}
-use Rattle.sf_rfc.proofs.ParsingSteps.{never, some_is, and_then_cases}
+use Rattle.sf_rfc.proofs.ParsingSteps.{some_is, and_then_cases}
 use Rattle.sf_rfc_use.specs.OrderedMaps.{value_of}
 use Rattle.sf_rfc_use.specs.Rfc9211.{Words, AString, AToken, Parameter, Absent, Is, Mistyped, typed}
 use Rattle.sf_rfc_use.specs.Rfc9211.{of_type, Handling, described, handling, handlings, a_boolean}
@@ -286,7 +285,7 @@ first_nameless (m ∷ ms) e = go (handling m) refl (first_nameless ms)
           ),
         )
 
-named_hops : (ms : Seq Member) (hs : Seq Handling) → handlings ms ≡ Some hs
+pub named_hops : (ms : Seq Member) (hs : Seq Handling) → handlings ms ≡ Some hs
     → hops (list_of ms) ≡ Ok (map as_hop hs)
 named_hops ms hs e =
     let (l, f) = all_named ms hs e in
@@ -302,11 +301,11 @@ pub hops_agree : HopsAgree
 hops_agree ms = (named_hops ms, nameless_hops ms)
 
 pub lines_agree : LinesAgree
-lines_agree lines ms hs e f =
-    (list_of ms, only_value List lines (list_of ms) e, named_hops ms hs f)
+lines_agree d lines ms hs e f =
+    (list_of ms, only_value d List lines (list_of ms) e, named_hops ms hs f)
 
 -- the result of a call
-ok_is : {A E : Type 0} (a b : A) → ◌≡◌ {A = Result A E} (Ok a) (Ok b) → a ≡ b
+pub ok_is : {A E : Type 0} (a b : A) → ◌≡◌ {A = Result A E} (Ok a) (Ok b) → a ≡ b
 ok_is a b e = cc
 
 err_is : {A E : Type 0} (a b : E) → ◌≡◌ {A = Result A E} (Err a) (Err b) → a ≡ b

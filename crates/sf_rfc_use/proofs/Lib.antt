@@ -1,5 +1,10 @@
 pub mod LookUps
 pub mod CacheStatusAgrees
 pub mod OutcomesAgree
+pub mod AddingAgrees
 pub mod TargetedAgrees
 pub mod PriorityAgrees
+pub mod DirectivesAgree
+pub mod CachingAgrees
+pub mod StalenessAgrees
+pub mod SemanticsAgree

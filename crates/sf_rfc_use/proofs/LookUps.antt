@@ -1,12 +1,13 @@
 -- Looking up keys, and the one value of a text.
 use Rattle.std.proofs.Common.{◌≡◌, ℕ, Bool, true, false, List}
-use Rattle.std.proofs.Common.{[], ◌∷◌, Option, Some, None, refl, sym}
-use Rattle.std.proofs.Common.{ap, ◌∙◌, subst}
+use Rattle.std.proofs.Common.{[], ◌∷◌, Some, refl, sym}
+use Rattle.std.proofs.Common.{ap, ◌∙◌}
 use Rattle.std.specs.Prelude.{map}
 use Rattle.std.specs.Option.{option_map}
-use Rattle.sf_value.specs.declared.dialect.Dialect.TheVariants.{Rfc9651}
+use Rattle.sf_value.specs.declared.dialect.Dialect.{Dialect}
 use Rattle.sf_value.specs.declared.value.Field.{Field}
 use Rattle.sf_value.specs.declared.value.Kind.{Kind}
+use Rattle.sf_value.specs.Grammar.Fields.{SpellsField}
 use Rattle.sf_value.specs.Grammar.Lines.{join}
 use Rattle.sf_value.specs.Grammar.Pairs.{Pairs, value_at}
 use Rattle.sf_parse.specs.Parsers.{IsOnly}
@@ -41,12 +42,18 @@ found_mapped {V = V} {W = W} f k (p ∷ ps) = by (same p.0 k) refl (found_mapped
     by false i ih = rw (i, sym (flipped p.0 k) ∙ i, value_of) ih
 
 -- the value that the steps return for combined lines is the only one that the joined lines spell
-pub only_value : (kind : Kind) (lines : List (List ℕ)) (v : Field)
-    → parse_field Rfc9651 kind (combine lines) ≡ Some v → IsOnly Rfc9651 kind (join lines) v
-only_value kind lines v e =
-    let f : parse_field Rfc9651 kind (join lines) ≡ Some v =
-    ap (parse_field Rfc9651 kind) (sym (combined lines)) ∙ e in
+pub only_value : (d : Dialect) (kind : Kind) (lines : List (List ℕ)) (v : Field)
+    → parse_field d kind (combine lines) ≡ Some v → IsOnly d kind (join lines) v
+only_value d kind lines v e =
+    let f : parse_field d kind (join lines) ≡ Some v =
+    ap (parse_field d kind) (sym (combined lines)) ∙ e in
     record {
-      spelled = (fields_agree Rfc9651 kind (join lines) v).0 f;
-      only = λ w s. some_is w v (sym ((fields_agree Rfc9651 kind (join lines) w).1 s) ∙ f);
+      spelled = (fields_agree d kind (join lines) v).0 f;
+      only = λ w s. some_is w v (sym ((fields_agree d kind (join lines) w).1 s) ∙ f);
     }
+
+-- the steps return for combined lines the value that the joined lines spell
+pub value_combined : (d : Dialect) (kind : Kind) (lines : List (List ℕ)) (v : Field)
+    → SpellsField d kind (join lines) v → parse_field d kind (combine lines) ≡ Some v
+value_combined d kind lines v s =
+    ap (parse_field d kind) (combined lines) ∙ (fields_agree d kind (join lines) v).1 s

@@ -1,21 +1,18 @@
 -- What a cache did, and which cache served the response.
-use Rattle.std.proofs.Common.{◌≡◌, ℕ, suc, ℤ, pos, Bool, true, false, List as Seq, [], ◌∷◌, Option}
+use Rattle.std.proofs.Common.{◌≡◌, ℕ, pos, Bool, true, false, List as Seq, [], ◌∷◌, Option}
 use Rattle.std.proofs.Common.{Some, None, refl, sym, ap, ap₂, ◌∙◌, subst}
-use Rattle.std.specs.Prelude.{map, All, unwrap_or, drop, slice_get}
+use Rattle.std.specs.Prelude.{map, unwrap_or}
 use Rattle.std.specs.Option.{option_map}
 use Rattle.std.proofs.lemmas.List.Elements.{All-nil, All-cons}
 use Rattle.sf_use.specs.declared.cache_status.hop.Passed.{Passed}
-use Rattle.sf_use.specs.declared.cache_status.hop.Forward.{Forward}
-use Rattle.sf_use.specs.declared.cache_status.hop.Forward.TheVariants.{Other}
-use Rattle.sf_use.specs.declared.cache_status.hop.Outcome.{Outcome}
-use Rattle.sf_use.specs.declared.cache_status.hop.Outcome.TheVariants.{Hit, Forwarded, Conflict}
+use Rattle.sf_use.specs.declared.cache_status.hop.Outcome.TheVariants.{Hit, Forwarded}
 use Rattle.sf_use.specs.declared.cache_status.hop.Outcome.TheVariants.{Unsaid}
 use Rattle.sf_use.specs.CacheStatus.Members.{is_hit}
 use Rattle.sf_use.specs.CacheStatus.Served.{served}
 use Rattle.sf_rfc.specs.Rfc9651.Words.{only_if}
 use Rattle.sf_rfc.proofs.ParsingSteps.{some_is}
 use Rattle.sf_rfc_use.specs.Rfc9211.{Parameter, Absent, Is, Mistyped, Handling, IsSatisfied}
-use Rattle.sf_rfc_use.specs.Rfc9211.{WentForward, Reason, reason, next_hop_status, was_collapsed}
+use Rattle.sf_rfc_use.specs.Rfc9211.{WentForward, next_hop_status, was_collapsed}
 use Rattle.sf_rfc_use.specs.Rfc9211.{was_stored}
 use Rattle.sf_rfc_use.specs.CacheStatusLaws.{given, why_by, why_of, three_digits, as_status}
 use Rattle.sf_rfc_use.specs.CacheStatusLaws.{as_passed, as_outcome, as_hop, OutcomesAgree}

@@ -1,16 +1,16 @@
 -- What it means that Cache-Status has the meaning that RFC 9211 states.
-use Rattle.std.specs.Prelude.{◌≡◌, ◌↔◌, ℕ, suc, ◌<◌, ℤ}
-use Rattle.std.specs.Prelude.{pos, Bool, true, false, List as Seq, [], ◌∷◌}
+use Rattle.std.specs.Prelude.{◌≡◌, ◌↔◌, ℕ, suc, ℤ}
+use Rattle.std.specs.Prelude.{pos, Bool, true, false, List as Seq, []}
 use Rattle.std.specs.Prelude.{map, take, drop, slice_get, All, Option, Some, None, Result, Ok, Err}
-use Rattle.std.specs.Prelude.{unwrap_or, nat_le, ◌&&◌}
+use Rattle.std.specs.Prelude.{unwrap_or, nat_le, ◌&&◌, ⊤}
 use Rattle.std.specs.Option.{option_map}
-use Rattle.sf_value.specs.declared.dialect.Dialect.TheVariants.{Rfc9651}
+use Rattle.sf_value.specs.declared.dialect.Dialect.{Dialect}
 use Rattle.sf_value.specs.declared.value.Member.{Member}
 use Rattle.sf_value.specs.declared.value.Field.{Field}
 use Rattle.sf_value.specs.declared.value.Field.TheVariants as field
 use Rattle.sf_value.specs.declared.value.Kind.TheVariants as kind
 use Rattle.sf_value.specs.Grammar.Fields.{list_of}
-use Rattle.sf_field.specs.Asking.{Means}
+use Rattle.sf_field.specs.Asking.{MeansIn}
 use Rattle.sf_field.specs.declared.consumer.UseFault.{UseFault}
 use Rattle.sf_field.specs.declared.consumer.UseFault.TheVariants.{NotACache, OutOfMemory}
 use Rattle.sf_use.specs.declared.cache_status.hop.Name.{Name}
@@ -21,7 +21,13 @@ use Rattle.sf_use.specs.declared.cache_status.hop.Passed.{Passed}
 use Rattle.sf_use.specs.declared.cache_status.hop.Outcome.{Outcome}
 use Rattle.sf_use.specs.declared.cache_status.hop.Outcome.TheVariants as outcome
 use Rattle.sf_use.specs.declared.cache_status.hop.Hop.{Hop}
+use Rattle.sf_use.specs.declared.cache_status.appended.Appended.{Appended}
+use Rattle.sf_use.specs.declared.cache_status.appended.Appended.TheVariants.{Joined, Apart}
+use Rattle.sf_use.specs.declared.cache_status.appended.AppendFault.{AppendFault}
+use Rattle.sf_use.specs.declared.cache_status.appended.AppendFault.TheVariants as append_fault
+use Rattle.sf_use.specs.CacheStatus.Appended.{AppendsIn}
 use Rattle.sf_use.specs.CacheStatus.Hops.{hops}
+use Rattle.sf_use.specs.CacheStatus.Laws.{HasStatusInRange, canonical_hop}
 use Rattle.sf_use.specs.CacheStatus.Served.{served}
 use Rattle.sf_rfc.specs.Rfc9651.Words.{only_if}
 use Rattle.sf_rfc.specs.Rfc9651.Parsing.{parse_field, combine}
@@ -29,7 +35,7 @@ use Rattle.sf_rfc_use.specs.Rfc9211.{Words, AString, AToken, Parameter, Absent, 
 use Rattle.sf_rfc_use.specs.Rfc9211.{Handling, handling, handlings, IsSatisfied, WentForward}
 use Rattle.sf_rfc_use.specs.Rfc9211.{Reason, Bypass, Method, UriMiss, VaryMiss, Miss, Request}
 use Rattle.sf_rfc_use.specs.Rfc9211.{Stale, Partial, reason, next_hop_status, was_collapsed}
-use Rattle.sf_rfc_use.specs.Rfc9211.{was_stored}
+use Rattle.sf_rfc_use.specs.Rfc9211.{was_stored, Adds, AreExclusive}
 
 -- the value of a parameter. Ours: one of another type than the RFC states counts as absent, while
 -- by default the whole field would be ignored (RFC 8941 section 2)
@@ -114,13 +120,13 @@ HopsAgree =
     × (handlings ms ≡ None
     → (index : ℕ) × (hops (list_of ms) ≡ Err index) × IsFirstNameless ms index)
 
--- for every field: what its lines mean is what the RFC reads in the List that they parse as (RFC
--- 9651 section 4.2)
+-- for each dialect and every field: what its lines mean is what the RFC reads in the List that they
+-- parse as (RFC 9651 section 4.2). The RFC cites RFC 8941, which is one of the dialects
 abbrev pub LinesAgree : Type 0
 LinesAgree =
-    (lines : Seq (Seq ℕ)) (ms : Seq Member) (hs : Seq Handling)
-    → parse_field Rfc9651 kind.List (combine lines) ≡ Some (list_of ms) → handlings ms ≡ Some hs
-    → Means kind.List hops lines (Ok (map as_hop hs))
+    (d : Dialect) (lines : Seq (Seq ℕ)) (ms : Seq Member) (hs : Seq Handling)
+    → parse_field d kind.List (combine lines) ≡ Some (list_of ms) → handlings ms ≡ Some hs
+    → MeansIn d kind.List hops lines (Ok (map as_hop hs))
 
 -- 2.1 and 2.2 for each outcome: a hit was satisfied by the cache and did not go forward; a
 -- forwarded request went forward and was not satisfied by it; a conflict says both, of which "only
@@ -183,3 +189,32 @@ IsPathOf (field.List l) (Ok path) =
 IsPathOf (field.List l) (Err (NotACache index)) = IsFirstNameless l.members index
 IsPathOf (field.List l) (Err OutOfMemory) = (hs : Seq Handling) × (handlings l.members ≡ Some hs)
 IsPathOf v r = ⊥
+
+-- the own handling is that of the hop, and one of hit and fwd appears at most
+abbrev pub IsOwn : Hop → Handling → Type 0
+IsOwn hop own = (as_hop own ≡ canonical_hop hop) × AreExclusive own
+
+-- a result of adding a hop to a field: the value that its lines parse as is preserved, and the own
+-- member is the last. Ours: lines that don't parse have no value, so the own member is then the only
+-- one, apart from them, while section 2 says without a condition that the value SHOULD be preserved.
+-- A hop whose member would have both hit and fwd is not added
+abbrev pub IsAdded : Dialect → Seq (Seq ℕ) → Hop → Result Appended AppendFault → Type 0
+IsAdded d lines hop (Ok (Joined list)) =
+    (existing : Seq Member)
+    × (own : Handling)
+    × (parse_field d kind.List (combine lines) ≡ Some (list_of existing))
+    × Adds existing list.members own
+    × IsOwn hop own
+IsAdded d lines hop (Ok (Apart list refusal)) =
+    (own : Handling)
+    × (parse_field d kind.List (combine lines) ≡ None)
+    × Adds [] list.members own
+    × IsOwn hop own
+IsAdded d lines hop (Err append_fault.Conflict) = (own : Handling) → IsOwn hop own → ⊥
+IsAdded d lines hop (Err append_fault.OutOfMemory) = ⊤
+
+-- for each dialect, all lines and every hop: what is appended is added as the RFC states
+abbrev pub AddingAgrees : Type 0
+AddingAgrees =
+    (d : Dialect) (lines : Seq (Seq ℕ)) (hop : Hop) (r : Result Appended AppendFault)
+    → HasStatusInRange hop → AppendsIn d lines hop r → IsAdded d lines hop r

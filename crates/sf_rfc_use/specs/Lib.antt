@@ -4,6 +4,8 @@ pub mod OrderedMaps
 pub mod Rfc9211
 pub mod Rfc9213
 pub mod Rfc9218
+pub mod Rfc9111
 pub mod CacheStatusLaws
 pub mod TargetedLaws
 pub mod PriorityLaws
+pub mod CachingLaws

@@ -1,7 +1,7 @@
 -- RFC 9211 section 2, sentence by sentence: what a Cache-Status field says. Above each definition
 -- are the sentences that it states. Left out are those that ask something of who writes the field,
 -- and those that only explain.
-use Rattle.std.specs.Prelude.{◌≡◌, ℕ, ℤ, Bool, true, false, List as Seq, [], ◌∷◌, codes}
+use Rattle.std.specs.Prelude.{◌≡◌, ℕ, ℤ, Bool, true, false, List as Seq, [], ◌∷◌, ◌++◌, codes}
 use Rattle.std.specs.Prelude.{Option, Some, None}
 use Rattle.sf_value.specs.declared.value.Bare.{Bare}
 use Rattle.sf_value.specs.declared.value.Bare.TheVariants.{Integer, Text, Token, Boolean}
@@ -165,3 +165,21 @@ was_collapsed fwd collapsed = None
 abbrev pub was_stored : Parameter (Seq ℕ) → Parameter Bool → Option Bool
 was_stored (Is why) (Is b) = Some b
 was_stored fwd stored = None
+
+-- whether a parameter appears, with a value of whatever type
+abbrev pub Appears : {X : Type 0} → Parameter X → Type 0
+Appears Absent = ⊥
+Appears (Is x) = Unit {0}
+Appears Mistyped = Unit {0}
+
+-- 2.1: ""hit" and "fwd" are exclusive; only one of them should appear on each list member."
+abbrev pub AreExclusive : Handling → Type 0
+AreExclusive h = Appears h.hit → Appears h.fwd → ⊥
+
+-- 2: "When adding a value to the Cache-Status header field, caches SHOULD preserve the existing
+-- field value, to allow debugging of the entire chain of caches handling the request."
+-- 2: "the last member represents the cache closest to the user": the cache that adds its own
+pub record Adds (existing new : Seq Member) (own : Handling) : Type 0 where
+  pub value : Member
+  pub preserves : new ≡ existing ++ value ∷ []
+  pub represents : handling value ≡ Some own

@@ -1,19 +1,22 @@
 -- RFC 9213 sections 2.1 and 2.2, sentence by sentence: which targeted field a cache obeys, and what
 -- its directives are. Above each definition are the sentences that it states. Left out are those
 -- that ask something of who writes a field, and those that only explain.
-use Rattle.std.specs.Prelude.{◌≡◌, ◌≢◌, ℕ, pos, Bool, true, false, ◌||◌, List as Seq, [], ◌∷◌, ◌++◌}
+use Rattle.std.specs.Prelude.{◌≡◌, ◌≢◌, ℕ, pos, negsuc, Bool, true, false, ◌||◌, List as Seq, [], ◌∷◌, ◌++◌}
 use Rattle.std.specs.Prelude.{All, codes, Option, Some, None}
 use Rattle.http_header.specs.HeaderMap.{ContainsKey}
 use Rattle.sf_value.specs.declared.dialect.Dialect.{Dialect}
 use Rattle.sf_value.specs.declared.value.Bare.{Bare}
-use Rattle.sf_value.specs.declared.value.Bare.TheVariants.{Integer, Text, Boolean}
+use Rattle.sf_value.specs.declared.value.Bare.TheVariants.{Integer, Decimal, Text, Token, Boolean}
 use Rattle.sf_value.specs.declared.value.Member.{Member}
 use Rattle.sf_value.specs.declared.value.Member.TheVariants as member
 use Rattle.sf_value.specs.declared.value.Field.TheVariants as field
 use Rattle.sf_value.specs.declared.value.Kind.TheVariants as kind
 use Rattle.sf_field.specs.Headers.{Headers, lines_under}
 use Rattle.sf_rfc.specs.Rfc9651.Parsing.{Map, parse_field, combine}
+use Rattle.sf_rfc.specs.Rfc9651.SerialisingBare.{serialise_decimal, serialise_integer, thousandths}
 use Rattle.sf_rfc_use.specs.OrderedMaps.{value_of}
+use Rattle.sf_rfc_use.specs.Rfc9111.{AreDigits, number_after}
+use Rattle.sf_rfc_use.specs.Rfc9111.{Directive as ResponseDirective}
 
 -- 2.1: "Targeted fields are Dictionary Structured Fields [..]. Each member of the Dictionary is an
 -- HTTP cache response directive": the members that the field of this name in the response parses as
@@ -77,8 +80,9 @@ abbrev pub delta_seconds : Bare → Directive ℕ
 delta_seconds (Integer (pos n)) = Has n
 delta_seconds x = Violates
 
--- 2.1: "no-store (Section 5.2.2.5 of [HTTP-CACHING]) always has a Boolean true value"; so has
--- must-revalidate (RFC 9111 section 5.2.2.2)
+-- 2.1: "no-store (Section 5.2.2.5 of [HTTP-CACHING]) always has a Boolean true value"; so have
+-- must-revalidate, must-understand, proxy-revalidate and public (RFC 9111 sections 5.2.2.2, 5.2.2.3,
+-- 5.2.2.8 and 5.2.2.9)
 abbrev pub always_true : Bare → Directive (Option (Seq ℕ))
 always_true (Boolean true) = Has None
 always_true x = Violates
@@ -94,7 +98,8 @@ true_or_names x = Violates
 -- 2.2: "Caches that use a targeted field MUST implement the semantics of the following cache
 -- directives: max-age, must-revalidate, no-store, no-cache, private. Furthermore, they SHOULD
 -- implement other cache directives [..] that they support in the Cache-Control response header
--- field." (s-maxage is one) "[..] unrecognized extension directives are ignored."
+-- field." (s-maxage, proxy-revalidate, must-understand and public are such) "[..] unrecognized
+-- extension directives are ignored."
 pub record Directives : Type 0 where
   pub max_age : Directive ℕ
   pub s_maxage : Directive ℕ
@@ -102,6 +107,9 @@ pub record Directives : Type 0 where
   pub no_store : Directive (Option (Seq ℕ))
   pub no_cache : Directive (Option (Seq ℕ))
   pub is_private : Directive (Option (Seq ℕ))
+  pub proxy_revalidate : Directive (Option (Seq ℕ))
+  pub must_understand : Directive (Option (Seq ℕ))
+  pub is_public : Directive (Option (Seq ℕ))
 
 abbrev pub directives : Map Member → Directives
 directives members = record {
@@ -111,6 +119,9 @@ directives members = record {
   no_store = constrained always_true (value_of (codes "no-store") members);
   no_cache = constrained true_or_names (value_of (codes "no-cache") members);
   is_private = constrained true_or_names (value_of (codes "private") members);
+  proxy_revalidate = constrained always_true (value_of (codes "proxy-revalidate") members);
+  must_understand = constrained always_true (value_of (codes "must-understand") members);
+  is_public = constrained always_true (value_of (codes "public") members);
 }
 
 -- 2.1: "Implementations SHOULD NOT consume values that violate these inferred constraints.": the
@@ -119,6 +130,12 @@ abbrev pub consumed : {X : Type 0} → Directive X → Option X
 consumed (Has x) = Some x
 consumed NotThere = None
 consumed Violates = None
+
+-- whether a directive is there with a value that violates its constraint
+abbrev pub violates : {X : Type 0} → Directive X → Bool
+violates (Has x) = false
+violates NotThere = false
+violates Violates = true
 
 -- whether a directive is in effect
 abbrev pub in_effect : {X : Type 0} → Directive X → Bool
@@ -131,6 +148,35 @@ abbrev pub unless_inoperative : Bool → Option ℕ → Option ℕ
 unless_inoperative true age = None
 unless_inoperative false age = age
 
+abbrev pub makes_inoperative : Directives → Bool
+makes_inoperative s = in_effect s.no_store || in_effect s.no_cache
+
 abbrev pub operative_max_age : Directives → Option ℕ
-operative_max_age s =
-    unless_inoperative (in_effect s.no_store || in_effect s.no_cache) (consumed s.max_age)
+operative_max_age s = unless_inoperative (makes_inoperative s) (consumed s.max_age)
+
+-- 2.1: "This means that cache directives that have no value will be mapped to a Boolean [..]. When
+-- the value is a quoted-string, it will be mapped to a String [..], and when it is a token, it will
+-- map to a Token [..], an Integer [..], or a Decimal [..], depending on the content of the value.":
+-- no value to the Boolean true, and a token of digits to the Integer with these digits
+abbrev pub MapsTo : Option (Seq ℕ) → Bare → Type 0
+MapsTo None (Boolean b) = b ≡ true
+MapsTo (Some value) (Text s) = value ≡ s
+MapsTo (Some value) (Token t) = value ≡ t
+MapsTo (Some value) (Integer (pos n)) =
+    (value ≢ []) × AreDigits value × (n ≡ number_after 0 value)
+MapsTo (Some value) (Integer (negsuc n)) = serialise_integer (negsuc n) ≡ Some value
+MapsTo (Some value) (Decimal n) = serialise_decimal (thousandths n) ≡ Some value
+MapsTo value x = ⊥
+
+-- 2.1: "Parameters received on cache directives are to be ignored"; no directive maps to an Inner
+-- List
+abbrev pub MapsToMember : Option (Seq ℕ) → Member → Type 0
+MapsToMember value (member.Item i) = MapsTo value i.bare
+MapsToMember value (member.Inner l) = ⊥
+
+-- 2.1: "Each member of the Dictionary is an HTTP cache response directive"
+abbrev pub AreDirectives : Map Member → Seq ResponseDirective → Type 0
+AreDirectives [] [] = Unit {0}
+AreDirectives (m ∷ ms) (d ∷ ds) =
+    ((d.name ≡ m.0) × MapsToMember d.argument m.1) × AreDirectives ms ds
+AreDirectives ms ds = ⊥

@@ -1,8 +1,8 @@
 -- RFC 9218 sections 4, 5 and 8, sentence by sentence: what a Priority field sets, and what it means
 -- in a request and in a response. Above each definition are the sentences that it states. Left out
 -- are those that ask something of who writes a field, and those that only explain.
-use Rattle.std.specs.Prelude.{◌≡◌, ℕ, ℤ, pos, negsuc, Bool, true, false, nat_le, List as Seq, []}
-use Rattle.std.specs.Prelude.{◌∷◌, codes, Option, Some, None}
+use Rattle.std.specs.Prelude.{◌≡◌, ℕ, pos, Bool, false, nat_le, List as Seq}
+use Rattle.std.specs.Prelude.{codes, Option, Some, None}
 use Rattle.sf_value.specs.declared.dialect.Dialect.{Dialect}
 use Rattle.sf_value.specs.declared.value.Bare.{Bare}
 use Rattle.sf_value.specs.declared.value.Bare.TheVariants.{Integer, Boolean}
@@ -79,3 +79,22 @@ KeepsClients client (Some x) merged = Unit {0}
 abbrev pub PrefersServers : {X : Type 0} → Option X → Option X → Option X → Type 0
 PrefersServers client None merged = merged ≡ client
 PrefersServers client (Some x) merged = merged ≡ Some x
+
+-- 8: "The absence of a priority parameter in an HTTP response indicates the server's disinterest in
+-- changing the client-provided value. This is different from the request header field, in which
+-- omission of a priority parameter implies the use of its default value (see Section 4).": for a
+-- request, a parameter that the server does not set is the client's or the default, and is free
+-- otherwise
+abbrev pub IsUnchanged : {X : Type 0} → X → Option X → Option X → X → Type 0
+IsUnchanged default client None x = x ≡ or_default default client
+IsUnchanged default client (Some y) x = Unit {0}
+
+-- 8, the example: "it prefers the server-provided value over the client's"
+abbrev pub IsServers : {X : Type 0} → Option X → X → Type 0
+IsServers None x = Unit {0}
+IsServers (Some y) x = x ≡ y
+
+-- 4: "For both the Priority header field and the PRIORITY_UPDATE frame, the set of priority
+-- parameters is encoded as a Dictionary"
+abbrev pub Encodes : Dialect → Seq ℕ → Parameters → Type 0
+Encodes d text p = (members : Map Member) × Carries d text members × (parameters members ≡ p)

@@ -5,7 +5,7 @@ ghost use Rattle.sf_value.specs.declared.value.Kind.TheVariants.{List};
 ghost use Rattle.sf_value.specs.Grammar.Fields.{kind_of};
 ghost use Rattle.sf_rfc_use.specs.CacheStatusLaws.{HopsAgree, LinesAgree, OutcomesAgree};
 ghost use Rattle.sf_rfc_use.specs.CacheStatusLaws.{ReasonsAgree, PassedAgrees, ServedAgrees};
-ghost use Rattle.sf_rfc_use.specs.CacheStatusLaws.{IsPathOf};
+ghost use Rattle.sf_rfc_use.specs.CacheStatusLaws.{AddingAgrees, IsPathOf};
 
 use sf_field::{Consumer, UseFault};
 use sf_use::{CachePath, CacheStatus};
@@ -14,7 +14,7 @@ use std::alloc::Global;
 
 /// For every List: if each member is a String or a Token, the hops are the caches' handlings as the
 /// RFC states them, in order; otherwise the first member that is neither is named. The same of the
-/// lines of a field, by the steps of RFC 9651 section 4.2.
+/// lines of a field in each dialect, by the steps of RFC 9651 section 4.2.
 pub fn hops_agree()
     ensures lists { HopsAgree }
     ensures lines { LinesAgree }
@@ -32,6 +32,14 @@ pub fn outcomes_agree()
 /// request and did not forward it.
 pub fn served_agrees()
     ensures { ServedAgrees }
+{}
+
+/// For each dialect, all lines and every hop: what [`sf_use::append_to_lines`] returns has the
+/// members that the lines parse as, and one more at its end that represents the hop (section 2), of
+/// whose parameters `hit` and `fwd` at most one appears (section 2.1). If the lines don't parse, the
+/// own member is the only one.
+pub fn adding_agrees()
+    ensures { AddingAgrees }
 {}
 
 /// Calls the consumer [`CacheStatus`], with the sentences of section 2 as the contract: if there is

@@ -1,7 +1,8 @@
-//! What RFC 9211, RFC 9213 and RFC 9218 say of a received field, sentence by sentence, and proofs
-//! that the consumers of `sf_use` agree with it.
+//! What RFC 9111, RFC 9211, RFC 9213 and RFC 9218 say of a received field, sentence by sentence, and
+//! proofs that `sf_use` agrees with it.
 #![tactic(auto)]
 
 pub mod cache_status;
+pub mod caching;
 pub mod priority;
 pub mod targeted;

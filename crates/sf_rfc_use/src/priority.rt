@@ -5,13 +5,15 @@ ghost use Rattle.std.specs.Prelude.{◌≡◌};
 ghost use Rattle.sf_rfc_use.specs.Rfc9218.{parameters, request_urgency, request_incremental};
 ghost use Rattle.sf_rfc_use.specs.PriorityLaws.{ParametersAgree, LinesAgree, UnknownIgnored};
 ghost use Rattle.sf_rfc_use.specs.PriorityLaws.{RequestsAgree, MergingAgrees, IsMerged};
+ghost use Rattle.sf_rfc_use.specs.PriorityLaws.{RepliesAgree, RequestsEncode, ResponsesAgree};
+ghost use Rattle.sf_rfc_use.specs.PriorityLaws.{ResponsesEncode};
 
 use sf_use::{Asked, Priority, merge};
 use sf_value::Dict;
 
 /// For every Dictionary: what it sets are its priority parameters, without those that are unknown,
-/// out of range or of another type (section 4). The same of the lines of a field, by the steps of
-/// RFC 9651 section 4.2.
+/// out of range or of another type (section 4). The same of the lines of a field in each dialect, by
+/// the steps of RFC 9651 section 4.2.
 pub fn parameters_agree()
     ensures parameters { ParametersAgree }
     ensures lines { LinesAgree }
@@ -28,6 +30,21 @@ pub fn requests_agree()
 /// the response has none, and is the response's otherwise, as in the example of section 8.
 pub fn merging_agrees()
     ensures { MergingAgrees }
+{}
+
+/// For every Dictionary of a response: it sets its priority parameters and no defaults. For a
+/// request, a parameter that it does not set is the client's or the default, and otherwise the
+/// response's, as in the example of section 8.
+pub fn responses_agree()
+    ensures set { ResponsesAgree }
+    ensures replies { RepliesAgree }
+{}
+
+/// The field that is written for a response has exactly the parameters that are set, and that of a
+/// request has parameters that mean its priority (sections 4 and 8).
+pub fn writing_agrees()
+    ensures responses { ResponsesEncode }
+    ensures requests { RequestsEncode }
 {}
 
 /// Returns the priority of a request with this Dictionary (section 4).

@@ -79,8 +79,82 @@ fn heads(rt: HostRuntime) -> Result<(), Fail> {
               ok deprecation: @1688169599\n\
               refused sec-gpc: byte 0x40 '@' at place 0, expected \
               a letter, a digit, a quote, `*`, `-`, `:`, `?` or a space\n\
-              line 3, place 9:\nSec-GPC: @1\n         ^\nother fields: 0\n",
+              line 3, place 9:\nSec-GPC: @1\n         ^\nabove by RFC 8941, below by RFC 9651:\nok sec-gpc: @1\n\
+              other fields: 0\n",
             Status::Refused,
+        ),
+    ];
+    for row in rows {
+        expect_row(&rt, &seed, row);
+    }
+    Ok(())
+}
+
+/// Fields that RFC 8941 refuses and RFC 9651 accepts, with what they are by both; and one that both
+/// refuse.
+#[test]
+fn fields_of_two_dialects(rt: HostRuntime) -> Result<(), Fail> {
+    let seed = RandomState::new(&rt)?;
+    let rows: [Row; 3] = [
+        (
+            b"CDN-Cache-Control: max-age=60, x=@1\n",
+            b"refused cdn-cache-control: byte 0x40 '@' at place 14, expected \
+              a letter, a digit, a quote, `(`, `*`, `-`, `:` or `?`\n\
+              line 1, place 33:\nCDN-Cache-Control: max-age=60, x=@1\n\
+              \x20                                ^\n\
+              above by RFC 8941, below by RFC 9651:\nok cdn-cache-control: max-age=60, x=@1\n\
+              lifetime shared 60\nlifetime private 60\nother fields: 0\n",
+            Status::Refused,
+        ),
+        (
+            b"Cache-Status: @1\n",
+            b"refused cache-status: byte 0x40 '@' at place 0, expected \
+              a letter, a digit, a quote, `(`, `*`, `-`, `:`, `?`, a space or the end\n\
+              line 1, place 14:\nCache-Status: @1\n              ^\n\
+              above by RFC 8941, below by RFC 9651:\nrefused cache-status: member 0 names no cache\nother fields: 0\n",
+            Status::Refused,
+        ),
+        (
+            b"Priority: u=@x\n",
+            b"refused priority: byte 0x40 '@' at place 2, expected \
+              a letter, a digit, a quote, `(`, `*`, `-`, `:` or `?`\n\
+              line 1, place 12:\nPriority: u=@x\n            ^\nother fields: 0\n",
+            Status::Refused,
+        ),
+    ];
+    for row in rows {
+        expect_row(&rt, &seed, row);
+    }
+    Ok(())
+}
+
+/// Hops with both `hit` and `fwd` (RFC 9211 section 2.1), and with a status that is outside 100 to
+/// 599 (RFC 9110 section 15).
+#[test]
+fn hops_with_what_is_invalid(rt: HostRuntime) -> Result<(), Fail> {
+    let seed = RandomState::new(&rt)?;
+    let rows: [Row; 3] = [
+        (
+            b"Cache-Status: a; hit; fwd=miss, b; hit=?0; fwd=stale\n",
+            b"ok cache-status: a;hit;fwd=miss, b;hit=?0;fwd=stale\n\
+              invalid hop 0 hit fwd\ninvalid hop 1 hit fwd\n\
+              hop 0 a conflict miss\nhop 1 b forwarded stale\nserved none\nother fields: 0\n",
+            Status::Accepted,
+        ),
+        (
+            b"Cache-Status: a; fwd=miss; fwd-status=600, b; fwd=miss; fwd-status=599\n",
+            b"ok cache-status: a;fwd=miss;fwd-status=600, b;fwd=miss;fwd-status=599\n\
+              invalid hop 0 fwd-status\n\
+              hop 0 a forwarded miss status=600\nhop 1 b forwarded miss status=599\nserved none\n\
+              other fields: 0\n",
+            Status::Accepted,
+        ),
+        (
+            b"Cache-Status: a; fwd=miss; fwd-status=99, b; hit; fwd-status=999\n",
+            b"ok cache-status: a;fwd=miss;fwd-status=99, b;hit;fwd-status=999\n\
+              ignored hop 0 fwd-status\ninvalid hop 1 fwd-status\n\
+              hop 0 a forwarded miss\nhop 1 b hit\nserved 1\nother fields: 0\n",
+            Status::Accepted,
         ),
     ];
     for row in rows {
