@@ -764,7 +764,8 @@ typedef enum sf_cache {
 /* What a cache knows of a response beside its directives. In a struct of zeros the response is new,
  * has no other lifetime, and its status code is not understood. */
 typedef struct sf_response {
-  uint64_t age;          /* its age in seconds (RFC 9111 section 4.2.3) */
+  uint64_t age;          /* its age in seconds (RFC 9111 section 4.2.3); sf_read_age reads a part of
+                            it, the Age field */
   uint64_t lifetime;     /* the seconds from Date to Expires (4.2.1), unless a targeted field
                             decides, by which Expires is ignored (RFC 9213 section 2.2), or of a
                             heuristic, if one may apply (4.2.2); they count if no directive sets a
@@ -2081,6 +2082,45 @@ static inline sf_status sf_choose_rules(sf_context *context, const sf_text *fiel
       return (sf_status)status;
   }
   return SF_EMPTY;
+}
+
+/*
+ * Reads the Age field of a response, for sf_response.age: the number of the first member (RFC 9111
+ * section 5.1). A number above 2^31 counts as 2^31 (section 1.2.2), so that seconds can be added.
+ * The text is that of the lines, joined; white space around the number is no part of it.
+ *
+ *   uint64_t age = 0;
+ *   if (sf_read_age(sf_cstr("20, 70"), &age) == SF_OK)
+ *     printf("%d\n", (int)age); // 20
+ *
+ *   SF_OK       *seconds is the age
+ *   SF_EMPTY    the text is empty: the response has no Age
+ *   SF_REFUSED  the first member is not one or more digits, such as -5, 90x or nothing: ignore the
+ *               field. Age is no structured field, so no sf_refusal is written
+ *
+ * Unless SF_OK is returned, *seconds is unchanged: begin with 0. Does not allocate.
+ */
+SF_USE_RESULT
+static inline sf_status sf_read_age(sf_text text, uint64_t *seconds) {
+  const uint64_t most = UINT64_C(2147483648);
+  uint64_t age = 0;
+  size_t length = 0, i;
+  text = sf_trim(text.at, text.length);
+  if (text.length == 0)
+    return SF_EMPTY;
+  while (length < text.length && text.at[length] != ',')
+    ++length;
+  text = sf_trim(text.at, length);
+  for (i = 0; i < text.length; ++i) {
+    if (text.at[i] < '0' || text.at[i] > '9')
+      return SF_REFUSED;
+    age = 10 * age + (uint64_t)(text.at[i] - '0');
+    age = age < most ? age : most;
+  }
+  if (text.length == 0)
+    return SF_REFUSED;
+  *seconds = age;
+  return SF_OK;
 }
 
 /* The caches on the path of a response, and what each did. */

@@ -362,6 +362,47 @@ static void decisions(void) {
   CHECK(sf_choose_rules(&context, NULL, 0, &choice) == SF_EMPTY);
 }
 
+/* The Age field (RFC 9111 sections 5.1 and 1.2.2). */
+static void ages(void) {
+  static const struct {
+    const char *text;
+    sf_status status;
+    uint64_t seconds; /* 7 is what was there before */
+  } rows[] = {
+      {"20", SF_OK, 20},
+      {"0", SF_OK, 0},
+      {"00020", SF_OK, 20},
+      {" \t20\t ", SF_OK, 20},
+      {"20, 70", SF_OK, 20},
+      {"20\t,x", SF_OK, 20},
+      {"20,", SF_OK, 20},
+      {"2147483647", SF_OK, 2147483647},
+      {"2147483648", SF_OK, UINT64_C(2147483648)},
+      {"2147483649", SF_OK, UINT64_C(2147483648)},
+      {"18446744073709551616", SF_OK, UINT64_C(2147483648)},
+      {"99999999999999999999999999999999", SF_OK, UINT64_C(2147483648)},
+      {"99999999999999999999x", SF_REFUSED, 7},
+      {"", SF_EMPTY, 7},
+      {" \t", SF_EMPTY, 7},
+      {"-5", SF_REFUSED, 7},
+      {"+5", SF_REFUSED, 7},
+      {"90x", SF_REFUSED, 7},
+      {"1.5", SF_REFUSED, 7},
+      {"2 0", SF_REFUSED, 7},
+      {", 20", SF_REFUSED, 7},
+      {"x, 20", SF_REFUSED, 7},
+      {"\"20\"", SF_REFUSED, 7},
+  };
+  for (size_t i = 0; i < sizeof rows / sizeof *rows; ++i) {
+    uint64_t seconds = 7;
+    CHECK(sf_read_age(sf_cstr(rows[i].text), &seconds) == rows[i].status);
+    CHECK(seconds == rows[i].seconds);
+  }
+  uint64_t seconds = 7;
+  CHECK(sf_read_age(sf_text_of("20\0", 3), &seconds) == SF_REFUSED && seconds == 7);
+  CHECK(sf_read_age(sf_text_of(NULL, 0), &seconds) == SF_EMPTY && seconds == 7);
+}
+
 static void paths(void) {
   sf_context context = sf_context_of(seed, SF_RFC8941), none = no_dialect();
   sf_hop hops[4];
@@ -438,6 +479,7 @@ int main(void) {
   builders();
   priorities();
   decisions();
+  ages();
   paths();
   printf("%ld passed, %ld failed\n", passed, failed);
   return failed != 0;

@@ -49,7 +49,8 @@ pub struct CacheRules {
 /// ```
 #[derive(Clone, Copy, Debug, Default, PartialEq, Eq, Hash)]
 pub struct Response {
-    /// Its age in seconds (RFC 9111 section 4.2.3).
+    /// Its age in seconds (RFC 9111 section 4.2.3); [`age`](crate::age()) reads a part of it, the
+    /// `Age` field.
     pub age: u64,
     /// The lifetime in seconds by `Expires` less `Date`, or of a heuristic, if one may apply, which
     /// counts if no directive sets a lifetime (sections 4.2.1 and 4.2.2). If a targeted field
@@ -58,6 +59,28 @@ pub struct Response {
     /// Whether the cache understands the status code and implements its requirements (section
     /// 5.2.2.3).
     pub is_understood: bool,
+}
+
+/// Reads the `Age` field of a response, for [`Response::age`]: the number of the first member (RFC
+/// 9111 section 5.1). A number above 2^31 counts as 2^31 (section 1.2.2). The text is that of the
+/// lines, joined; white space around the number is no part of it. `None` if there is no field, or
+/// if the first member is not one or more digits: a cache ignores the field then.
+///
+/// ```
+/// assert_eq!(sf::age("20, 70"), Some(20));
+/// assert_eq!(sf::age("99999999999999999999"), Some(1 << 31));
+/// assert_eq!((sf::age("-5"), sf::age("90x"), sf::age("")), (None, None, None));
+/// ```
+#[must_use]
+pub fn age(text: impl AsRef<[u8]>) -> Option<u64> {
+    let first = text.as_ref().split(|byte| *byte == b',').next()?;
+    let digits = crate::trim(first);
+    let is_number = !digits.is_empty() && digits.iter().all(u8::is_ascii_digit);
+    is_number.then(|| {
+        digits.iter().fold(0, |age, digit| {
+            (10 * age + u64::from(digit - b'0')).min(1 << 31)
+        })
+    })
 }
 
 /// How a cache may use a response (RFC 9111 sections 3 and 4).

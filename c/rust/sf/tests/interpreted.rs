@@ -42,6 +42,39 @@ fn priorities_are_merged() {
 }
 
 #[test]
+fn ages_are_read() {
+    let most = Some(1 << 31);
+    for (text, seconds) in [
+        ("20", Some(20)),
+        ("0", Some(0)),
+        ("00020", Some(20)),
+        (" \t20\t ", Some(20)),
+        ("20, 70", Some(20)),
+        ("20\t,x", Some(20)),
+        ("20,", Some(20)),
+        ("2147483647", Some(2_147_483_647)),
+        ("2147483648", most),
+        ("2147483649", most),
+        ("18446744073709551616", most),
+        ("99999999999999999999999999999999", most),
+        ("99999999999999999999x", None),
+        ("", None),
+        (" \t", None),
+        ("-5", None),
+        ("+5", None),
+        ("90x", None),
+        ("1.5", None),
+        ("2 0", None),
+        (", 20", None),
+        ("x, 20", None),
+        ("\"20\"", None),
+        ("20\0", None),
+    ] {
+        assert_eq!(sf::age(text), seconds, "{text}");
+    }
+}
+
+#[test]
 fn a_refused_field_counts_as_absent() {
     let refused = Priority::parse("u=1,").or_else(Error::as_absent);
     assert_eq!(refused, Ok(Priority::default()));
