@@ -862,7 +862,7 @@ typedef struct sf_decision {
   uint8_t by;                /* an sf_cause */
   uint8_t allows_storing;    /* 1 if a directive permits storing it, whatever its status code (RFC
                                 9111 section 3), otherwise 0; SF_REUSE_NOT_STORED forbids it all the
-                                same */
+                                same: see sf_may_store */
   uint8_t allows_authorized; /* 1 if a directive permits a shared cache to store it, though the
                                 request had Authorization (3.5), otherwise 0; likewise */
 } sf_decision;
@@ -2082,6 +2082,36 @@ static inline sf_status sf_choose_rules(sf_context *context, const sf_text *fiel
       return (sf_status)status;
   }
   return SF_EMPTY;
+}
+
+/*
+ * Returns 1 if the response may be stored by what was decided (RFC 9111 section 3), whatever its
+ * status code: it is not SF_REUSE_NOT_STORED, and a directive or sf_response.lifetime sets how long
+ * it is fresh, or allows_storing is 1. Otherwise returns 0: it is not to be stored, or only if its
+ * status code is heuristically cacheable or, beside no-cache, if it has Expires. If the request had
+ * Authorization, allows_authorized counts in a shared cache, too.
+ *
+ *   sf_rules rules;
+ *   sf_response response = {0, 0, 0, 0};
+ *   sf_decision decision;
+ *   if (sf_read_rules(&context, sf_cstr("max-age=60, no-cache"), &rules) == SF_OK &&
+ *       sf_decide(&rules, SF_SHARED_CACHE, &response, &decision) == SF_OK)
+ *     printf("%s\n", sf_may_store(&decision) ? "store it" : "don't store it"); // store it
+ *
+ * The result is not an sf_status.
+ */
+static inline int sf_may_store(const sf_decision *decision) {
+  switch (decision->reuse) {
+  case SF_REUSE_FRESH:
+  case SF_REUSE_STALE:
+    return 1;
+  case SF_REUSE_REVALIDATE:
+    return decision->allows_storing != 0 || decision->by != SF_BY_NO_CACHE;
+  case SF_REUSE_UNSPECIFIED:
+    return decision->allows_storing != 0;
+  default:
+    return 0;
+  }
 }
 
 /*

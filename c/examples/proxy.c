@@ -110,7 +110,7 @@ int main(int count, char **words) {
   own.hop.outcome = SF_FORWARDED;
   own.hop.why = SF_URI_MISS;
   own.hop.has_stored = status == SF_OK; /* otherwise Cache-Control says it, which is not read */
-  own.hop.stored = decision.reuse != SF_REUSE_NOT_STORED && decision.allows_storing;
+  own.hop.stored = status == SF_OK && sf_may_store(&decision);
   own.hop.has_ttl = decision.reuse == SF_REUSE_FRESH;
   own.hop.ttl = (int64_t)decision.seconds;
   static char path[SF_APPENDED_SIZE(MOST, 16)];

@@ -6,6 +6,7 @@
 #include <sf.h>
 #include <stdio.h>
 #include <stdlib.h>
+#include "decisions.h"
 
 static long passed, failed;
 
@@ -362,6 +363,54 @@ static void decisions(void) {
   CHECK(sf_choose_rules(&context, NULL, 0, &choice) == SF_EMPTY);
 }
 
+/* What may be stored. The crate sf has the same rows. */
+static void what_may_be_stored(void) {
+  static const struct {
+    sf_decision decision;
+    int may;
+  } decisions_made[] = {
+      {{0, SF_REUSE_NOT_STORED, SF_BY_NO_STORE, 0, 0}, 0},
+      {{0, SF_REUSE_NOT_STORED, SF_BY_NO_STORE, 1, 0}, 0},
+      {{0, SF_REUSE_NOT_STORED, SF_BY_PRIVATE, 1, 0}, 0},
+      {{0, SF_REUSE_NOT_STORED, SF_BY_MUST_UNDERSTAND, 1, 0}, 0},
+      {{60, SF_REUSE_FRESH, SF_BY_MAX_AGE, 1, 0}, 1},
+      {{60, SF_REUSE_FRESH, SF_BY_EXPIRES, 0, 0}, 1},
+      {{60, SF_REUSE_FRESH, SF_BY_S_MAXAGE, 1, 0}, 1},
+      {{0, SF_REUSE_STALE, SF_BY_MAX_AGE, 1, 0}, 1},
+      {{0, SF_REUSE_STALE, SF_BY_EXPIRES, 0, 0}, 1},
+      {{0, SF_REUSE_STALE, SF_BY_INVALID_MAX_AGE, 0, 0}, 1},
+      {{0, SF_REUSE_REVALIDATE, SF_BY_NO_CACHE, 0, 0}, 0},
+      {{0, SF_REUSE_REVALIDATE, SF_BY_NO_CACHE, 1, 0}, 1},
+      {{0, SF_REUSE_REVALIDATE, SF_BY_MUST_REVALIDATE, 0, 0}, 1},
+      {{0, SF_REUSE_REVALIDATE, SF_BY_PROXY_REVALIDATE, 0, 0}, 1},
+      {{0, SF_REUSE_REVALIDATE, SF_BY_S_MAXAGE, 1, 0}, 1},
+      {{0, SF_REUSE_REVALIDATE, SF_BY_INVALID_S_MAXAGE, 0, 0}, 1},
+      {{0, SF_REUSE_UNSPECIFIED, SF_BY_NOTHING, 0, 0}, 0},
+      {{0, SF_REUSE_UNSPECIFIED, SF_BY_NOTHING, 1, 0}, 1},
+      {{0, 0, SF_BY_NOTHING, 1, 0}, 0},
+  };
+  for (size_t i = 0; i < sizeof decisions_made / sizeof *decisions_made; ++i)
+    CHECK(sf_may_store(&decisions_made[i].decision) == decisions_made[i].may);
+
+  /* of the rows of tests/decisions.txt that a targeted field decides, these may not be stored */
+  static const int not_stored[] = {6, 7, 8, 10, 12, 14, 15, 23, 25, 27, 28, 43, 47, 48, 63, 64, 66, 74};
+  sf_context context = sf_context_of(seed, SF_RFC8941);
+  for (size_t i = 0; i < sizeof decision_rows / sizeof *decision_rows; ++i) {
+    const struct decision_row *row = &decision_rows[i];
+    sf_text targets[] = {sf_cstr(row->targets[0]), sf_cstr(row->targets[1])};
+    sf_choice choice;
+    sf_decision decision;
+    int may = 1;
+    if (row->index == DECISION_FALLBACK)
+      continue;
+    for (size_t k = 0; k < sizeof not_stored / sizeof *not_stored; ++k)
+      may = may && not_stored[k] != row->row;
+    CHECK(sf_choose_rules(&context, targets, 2, &choice) == SF_OK);
+    CHECK(sf_decide(&choice.rules, row->cache, &row->response, &decision) == SF_OK);
+    CHECK(sf_may_store(&decision) == may);
+  }
+}
+
 /* The Age field (RFC 9111 sections 5.1 and 1.2.2). */
 static void ages(void) {
   static const struct {
@@ -479,6 +528,7 @@ int main(void) {
   builders();
   priorities();
   decisions();
+  what_may_be_stored();
   ages();
   paths();
   printf("%ld passed, %ld failed\n", passed, failed);

@@ -239,9 +239,12 @@ fn cause_of(by: u8) -> Option<Cause> {
 }
 
 impl Decision {
-    /// Whether the response may be stored, as far as the directives say: it is not
-    /// [`Reuse::NotStored`], and a directive sets a lifetime or permits storing it (RFC 9111
-    /// section 3).
+    /// Whether the response may be stored by what was decided (RFC 9111 section 3), whatever its
+    /// status code: it is not [`Reuse::NotStored`], and a directive or [`Response::lifetime`] sets
+    /// how long it is fresh, or [`Decision::allows_storing`] is set. Otherwise it is not to be
+    /// stored, or only if its status code is heuristically cacheable or, beside `no-cache`, if it
+    /// has `Expires`. If the request had `Authorization`, [`Decision::allows_authorized`] counts in
+    /// a shared cache, too.
     ///
     /// ```
     /// use sf::{Cache, CacheRules, Response};

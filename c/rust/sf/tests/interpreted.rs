@@ -2,9 +2,9 @@
 //! Cache-Status.
 
 use sf::{
-    equal, select, select_rules, Cache, CacheRules, Cause, Choice, Dialect, Error, Forward,
-    Forwarded, FwdStatus, Hop, Kind, Name, Outcome, Parser, Path, Policy, Priority, Response,
-    ResponsePriority, Reuse, RulesChoice, Seconds, StringRef, TokenRef, Urgency,
+    equal, select, select_rules, Cache, CacheRules, Cause, Choice, Decision, Dialect, Error,
+    Forward, Forwarded, FwdStatus, Hop, Kind, Name, Outcome, Parser, Path, Policy, Priority,
+    Response, ResponsePriority, Reuse, RulesChoice, Seconds, StringRef, TokenRef, Urgency,
 };
 
 #[test]
@@ -71,6 +71,40 @@ fn ages_are_read() {
         ("20\0", None),
     ] {
         assert_eq!(sf::age(text), seconds, "{text}");
+    }
+}
+
+/// `c/tests/few_arguments.c` has the same rows.
+#[test]
+fn what_may_be_stored() {
+    let fresh = Reuse::Fresh { seconds: 60 };
+    for (reuse, by, allows_storing, may) in [
+        (Reuse::NotStored, Some(Cause::NoStore), false, false),
+        (Reuse::NotStored, Some(Cause::NoStore), true, false),
+        (Reuse::NotStored, Some(Cause::Private), true, false),
+        (Reuse::NotStored, Some(Cause::MustUnderstand), true, false),
+        (fresh, Some(Cause::MaxAge), true, true),
+        (fresh, Some(Cause::Expires), false, true),
+        (fresh, Some(Cause::SMaxage), true, true),
+        (Reuse::Stale, Some(Cause::MaxAge), true, true),
+        (Reuse::Stale, Some(Cause::Expires), false, true),
+        (Reuse::Stale, Some(Cause::InvalidMaxAge), false, true),
+        (Reuse::Revalidate, Some(Cause::NoCache), false, false),
+        (Reuse::Revalidate, Some(Cause::NoCache), true, true),
+        (Reuse::Revalidate, Some(Cause::MustRevalidate), false, true),
+        (Reuse::Revalidate, Some(Cause::ProxyRevalidate), false, true),
+        (Reuse::Revalidate, Some(Cause::SMaxage), true, true),
+        (Reuse::Revalidate, Some(Cause::InvalidSMaxage), false, true),
+        (Reuse::Unspecified, None, false, false),
+        (Reuse::Unspecified, None, true, true),
+    ] {
+        let decision = Decision {
+            reuse,
+            by,
+            allows_storing,
+            allows_authorized: false,
+        };
+        assert_eq!(decision.may_store(), may, "{decision:?}");
     }
 }
 
