@@ -276,7 +276,9 @@ typedef struct sf_line_place {
 
 /*
  * Returns the line of a refusal, and the place in it, if the refused text is these lines, joined by
- * sf_join in this order. Without lines both are 0.
+ * sf_join in this order. Without lines both are 0. Both are counted from 0, for use as an index; in
+ * messages, as those of sf_refusal_in_text and sf_show_excerpt_of_line, lines are counted from 1 and
+ * places from 0.
  */
 static inline sf_line_place sf_refusal_line(const sf_refusal *refusal, const sf_text *lines,
                                             size_t lines_length) {
@@ -1360,19 +1362,15 @@ static inline sf_status sf_show_refusal(const sf_refusal *refusal, sf_text text,
   return sf_wrote(out, status, required);
 }
 
-/* The size in bytes of a buffer that is large enough for each message of sf_show_excerpt with this
- * number of bytes of the text at most. */
+/* The size in bytes of a buffer that is large enough for each message of sf_show_excerpt and of
+ * sf_show_excerpt_of_line with this number of bytes of the text at most. */
 #define SF_REFUSAL_EXCERPT_SIZE(most) (SF_REFUSAL_SIZE + 3 + sizeof(char[2]) * (most))
 
-/*
- * Writes the error message of a refusal of this text, a second line with at most so many bytes of
- * the text around the offset, and a caret below the offset, without a newline at the end. So the
- * message has a bound, whatever the length of the text. Bytes are written as by sf_refusal_in_text.
- * The results are those of sf_write_refusal.
- */
+/* Writes the error message of a refusal of this text, then these bytes, then the lines of
+ * sf_show_excerpt: for the functions below. */
 SF_USE_RESULT
-static inline sf_status sf_show_excerpt(const sf_refusal *refusal, sf_text text, size_t most,
-                                       sf_buffer *out) {
+static inline sf_status sf_show_excerpt_below(const sf_refusal *refusal, sf_text head, sf_text text,
+                                             size_t most, sf_buffer *out) {
   size_t at = refusal->offset < text.length ? (size_t)refusal->offset : text.length;
   size_t from = at > most / 2 ? at - most / 2 : 0, length, message = 0, required, i;
   uint32_t status;
@@ -1383,13 +1381,15 @@ static inline sf_status sf_show_excerpt(const sf_refusal *refusal, sf_text text,
   status = sf_refusal_text(refusal, NULL, 0, &message);
   if (status != SF_SHORT)
     return sf_wrote(out, status, 0);
-  required = message + length + (at - from) + 3;
+  required = message + head.length + length + (at - from) + 3;
   if (required > out->capacity)
     return sf_wrote(out, SF_SHORT, required);
   status = sf_refusal_text(refusal, out->at, out->capacity, &message);
   if (status != SF_OK)
     return sf_wrote(out, status, 0);
   to = out->at + message;
+  memcpy(to, head.at, head.length);
+  to += head.length;
   *to++ = '\n';
   for (i = 0; i < length; ++i) {
     char byte = text.at[from + i];
@@ -1399,6 +1399,68 @@ static inline sf_status sf_show_excerpt(const sf_refusal *refusal, sf_text text,
   memset(to, ' ', at - from);
   to[at - from] = '^';
   return sf_wrote(out, SF_OK, required);
+}
+
+/*
+ * Writes the error message of a refusal of this text, a second line with at most so many bytes of
+ * the text around the offset, and a caret below the offset, without a newline at the end. So the
+ * message has a bound, whatever the length of the text. Bytes are written as by sf_refusal_in_text.
+ * The results are those of sf_write_refusal.
+ */
+SF_USE_RESULT
+static inline sf_status sf_show_excerpt(const sf_refusal *refusal, sf_text text, size_t most,
+                                       sf_buffer *out) {
+  return sf_show_excerpt_below(refusal, sf_text_of("", 0), text, most, out);
+}
+
+/* Writes these bytes and a number, and returns the place after them: for the function below. */
+static inline char *sf_put_number(char *to, const char *before, uint64_t number) {
+  size_t length = strlen(before);
+  uint64_t unit = 1;
+  memcpy(to, before, length);
+  to += length;
+  while (number / unit >= 10)
+    unit *= 10;
+  for (; unit > 0; unit /= 10)
+    *to++ = (char)('0' + number / unit % 10);
+  return to;
+}
+
+/*
+ * Writes the error message of a refusal of these lines, joined by sf_add_line in this order, with an
+ * excerpt of the line that it is in (sf_refusal_line). Both places in the message are in that line,
+ * not in the joined text, and from 0; the line is counted from 1:
+ *
+ *   sf_text received[] = {sf_cstr("a, b"), sf_cstr("c, (d e, f")};
+ *   char bytes[64], message[SF_REFUSAL_EXCERPT_SIZE(8)];
+ *   sf_buffer out = SF_BUFFER(message);
+ *   sf_lines lines = sf_lines_in(SF_BUFFER(bytes));
+ *   for (int i = 0; i < 2; ++i)
+ *     if (sf_add_line(&lines, received[i]) != SF_OK)
+ *       return EXIT_FAILURE;
+ *   if (sf_check_text(&context, SF_LIST, sf_joined_text(&lines)) == SF_REFUSED &&
+ *       sf_show_excerpt_of_line(&context.refusal, received, 2, 8, &out) == SF_OK)
+ *     printf("%.*s\n", (int)out.length, out.at);
+ *     // byte 0x2c ',' at place 7, expected a token character, `)`, `;` or a space
+ *     // line 2, place 7:
+ *     //  (d e, f
+ *     //     ^
+ *
+ * A buffer of SF_REFUSAL_EXCERPT_SIZE(most) bytes is always large enough. The results are those of
+ * sf_write_refusal.
+ */
+SF_USE_RESULT
+static inline sf_status sf_show_excerpt_of_line(const sf_refusal *refusal, const sf_text *lines,
+                                               size_t lines_length, size_t most, sf_buffer *out) {
+  char head[64], *end;
+  sf_line_place place = sf_refusal_line(refusal, lines, lines_length);
+  sf_text text = place.line < lines_length ? lines[place.line] : sf_text_of("", 0);
+  sf_refusal in_line = *refusal;
+  in_line.offset = place.offset;
+  end = sf_put_number(head, "\nline ", (uint64_t)place.line + 1);
+  end = sf_put_number(end, ", place ", place.offset);
+  *end++ = ':';
+  return sf_show_excerpt_below(&in_line, sf_text_of(head, (size_t)(end - head)), text, most, out);
 }
 
 /*

@@ -112,6 +112,31 @@ static void checking(void) {
   CHECK(is(sf_written(&out), FIRST_LINE "\n 2\n ^"));
   CHECK(sf_show_excerpt(&context.refusal, sf_cstr("1 2"), 2, &small) == SF_SHORT);
   CHECK(small.required == out.length && small.length == 0);
+  /* an excerpt of one line of several; lines from 1 and places from 0 */
+  {
+    static const sf_text received[] = {{"a, b", 4}, {"", 0}, {"c, (d e, f", 10}};
+    sf_refusal refused = context.refusal;
+#define HEAD(place) "byte 0x32 '2' at place " place ", expected a space or the end\n"
+    refused.offset = 2;
+    CHECK(sf_show_excerpt_of_line(&refused, received, 3, 20, &out) == SF_OK);
+    CHECK(is(sf_written(&out), HEAD("2") "line 1, place 2:\na, b\n  ^"));
+    refused.offset = 5; /* in the comma and the space between two lines: after the first */
+    CHECK(sf_show_excerpt_of_line(&refused, received, 3, 20, &out) == SF_OK);
+    CHECK(is(sf_written(&out), HEAD("4") "line 1, place 4:\na, b\n    ^"));
+    refused.offset = 6;
+    CHECK(sf_show_excerpt_of_line(&refused, received, 3, 20, &out) == SF_OK);
+    CHECK(is(sf_written(&out), HEAD("0") "line 2, place 0:\n\n^"));
+    refused.offset = 15;
+    CHECK(sf_show_excerpt_of_line(&refused, received, 3, 4, &out) == SF_OK);
+    CHECK(is(sf_written(&out), HEAD("7") "line 3, place 7:\n e, \n  ^"));
+    CHECK(sf_show_excerpt_of_line(&refused, received, 3, 4, &small) == SF_SHORT);
+    CHECK(small.required == out.length && small.length == 0);
+    refused.offset = 99;
+    CHECK(sf_show_excerpt_of_line(&refused, received, 3, 4, &out) == SF_OK);
+    CHECK(is(sf_written(&out), HEAD("10") "line 3, place 10:\ne, f\n    ^"));
+    CHECK(sf_show_excerpt_of_line(&refused, NULL, 0, 4, &out) == SF_OK);
+    CHECK(is(sf_written(&out), HEAD("0") "line 1, place 0:\n\n^"));
+  }
   /* the refusal stays until another text is refused */
   CHECK(sf_check_text(&context, SF_ITEM, sf_cstr("1")) == SF_OK && context.refusal.offset == 2);
 

@@ -108,6 +108,28 @@ fn what_may_be_stored() {
     }
 }
 
+/// `c/tests/few_arguments.c` has the same rows.
+#[test]
+fn excerpts_of_lines() {
+    let lines = ["a, b", "", "c, (d e, f"];
+    let mut refusal = sf::check(Kind::Item, "1 2").unwrap_err().refusal().unwrap();
+    let mut shown = |offset, most| {
+        refusal.offset = offset;
+        refusal.excerpt_of_line(&lines, most).to_string()
+    };
+    let head = |place| format!("byte 0x32 '2' at place {place}, expected a space or the end\n");
+    assert_eq!(shown(2, 20), head(2) + "line 1, place 2:\na, b\n  ^");
+    assert_eq!(shown(5, 20), head(4) + "line 1, place 4:\na, b\n    ^");
+    assert_eq!(shown(6, 20), head(0) + "line 2, place 0:\n\n^");
+    assert_eq!(shown(15, 4), head(7) + "line 3, place 7:\n e, \n  ^");
+    assert_eq!(shown(99, 4), head(10) + "line 3, place 10:\ne, f\n    ^");
+    assert_eq!(shown(u64::MAX, 0), head(10) + "line 3, place 10:\n\n^");
+    let none: [&str; 0] = [];
+    let shown = refusal.excerpt_of_line(&none, 4).to_string();
+    assert_eq!(shown, head(0) + "line 1, place 0:\n\n^");
+    assert_eq!(refusal.line(none), sf::LinePlace::default());
+}
+
 #[test]
 fn a_refused_field_counts_as_absent() {
     let refused = Priority::parse("u=1,").or_else(Error::as_absent);
