@@ -1276,7 +1276,8 @@ static inline sf_lines sf_lines_in(sf_buffer buffer) {
 
 /*
  * Appends one line of a field, with a comma and a space between two lines (RFC 9651 section 4.2),
- * by sf_join. These calls join the lines of a field:
+ * by sf_join. An empty line is a line: beside others it gives `a, , b`, which is malformed (RFC 9110
+ * section 5.3). These calls join the lines of a field:
  *
  *   char bytes[64];
  *   sf_lines lines = sf_lines_in(SF_BUFFER(bytes));
@@ -2332,8 +2333,9 @@ static inline sf_status sf_write_hop(sf_context *context, const sf_own_hop *own,
  * section 2), by sf_cache_status_append. The text is that of the lines that were received, joined,
  * or empty; what is written is sent in their place. A buffer of SF_APPENDED_SIZE(text.length,
  * own->bytes.length) bytes is always large enough. With the hop of the comment of sf_hop_named,
- * `origin; fwd=miss` becomes `origin;fwd=miss, ExampleCDN;hit;ttl=30`. A tab at the beginning is
- * refused: see sf_trim.
+ * `origin; fwd=miss` becomes `origin;fwd=miss, ExampleCDN;hit;ttl=30`. A member that names no cache,
+ * for which sf_read_hops returns SF_NOT_A_CACHE, stays where it is: only a malformed List is refused.
+ * A tab at the beginning is refused: see sf_trim.
  *
  *   SF_OK       the first out->length bytes of out are the text
  *   SF_SHORT    it has out->required bytes, more than the capacity

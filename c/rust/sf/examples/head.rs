@@ -36,7 +36,7 @@ where
 
 /// Where the response came from (RFC 9211).
 fn source(path: &Path) -> String {
-    if let Some(hop) = path.served_by().and_then(|index| path.hops().nth(index)) {
+    if let Some(hop) = path.served_hop() {
         let ttl = hop.ttl.map(|ttl| match ttl.get() {
             0.. => format!(", fresh for {ttl} s more"),
             ttl => format!(", stale for {} s", -ttl),

@@ -69,10 +69,7 @@ fn main() -> Result<(), Box<dyn std::error::Error>> {
     let mut hop = Hop::new(NAME).with_outcome(forwarded);
     hop.ttl = decision.and_then(|it| it.fresh_for()).map(Into::into);
     // A hop that is added to malformed lines would be ignored with them: it is sent alone.
-    let path = match parser.append_hop(&hop, [field(b'<', "Cache-Status")?]) {
-        Err(Error::Refused(_)) => hop.serialize()?,
-        path => path?,
-    };
+    let path = parser.append_or_replace_hop(&hop, [field(b'<', "Cache-Status")?])?;
     println!("Cache-Status: {path}");
     Ok(())
 }

@@ -105,6 +105,31 @@ pub enum Reuse {
     Unspecified,
 }
 
+impl Reuse {
+    /// Its name, which its `Display` is, too: the words of `sf_reuse_name`.
+    ///
+    /// ```
+    /// assert_eq!(sf::Reuse::NotStored.as_str(), "not stored");
+    /// assert_eq!(sf::Reuse::Fresh { seconds: 60 }.to_string(), "fresh");
+    /// ```
+    #[must_use]
+    pub fn as_str(self) -> &'static str {
+        match self {
+            Reuse::NotStored => "not stored",
+            Reuse::Fresh { .. } => "fresh",
+            Reuse::Stale => "stale",
+            Reuse::Revalidate => "revalidate",
+            Reuse::Unspecified => "unspecified",
+        }
+    }
+}
+
+impl fmt::Display for Reuse {
+    fn fmt(&self, f: &mut fmt::Formatter<'_>) -> fmt::Result {
+        f.pad(self.as_str())
+    }
+}
+
 /// The directive that decided (RFC 9111 section 5.2.2). Its `Display` is its name.
 #[derive(Clone, Copy, Debug, PartialEq, Eq, Hash)]
 pub enum Cause {
@@ -132,9 +157,15 @@ pub enum Cause {
     ProxyRevalidate,
 }
 
-impl fmt::Display for Cause {
-    fn fmt(&self, f: &mut fmt::Formatter<'_>) -> fmt::Result {
-        f.pad(match self {
+impl Cause {
+    /// Its name: the words of `sf_cause_name`.
+    ///
+    /// ```
+    /// assert_eq!(sf::Cause::InvalidMaxAge.as_str(), "invalid max-age");
+    /// ```
+    #[must_use]
+    pub fn as_str(self) -> &'static str {
+        match self {
             Cause::NoStore => "no-store",
             Cause::Private => "private",
             Cause::MustUnderstand => "must-understand",
@@ -146,7 +177,13 @@ impl fmt::Display for Cause {
             Cause::Expires => "expires",
             Cause::MustRevalidate => "must-revalidate",
             Cause::ProxyRevalidate => "proxy-revalidate",
-        })
+        }
+    }
+}
+
+impl fmt::Display for Cause {
+    fn fmt(&self, f: &mut fmt::Formatter<'_>) -> fmt::Result {
+        f.pad(self.as_str())
     }
 }
 
@@ -379,6 +416,36 @@ pub enum RulesChoice {
     },
     /// Each field is ignored: `Cache-Control` and `Expires` decide.
     Fallback,
+}
+
+impl RulesChoice {
+    /// The index of the field that is obeyed in the target list, from 0, if there is one.
+    ///
+    /// ```
+    /// assert_eq!(sf::select_rules(["a,", "no-store"]).unwrap().index(), Some(1));
+    /// assert_eq!(sf::select_rules(["a,"]).unwrap().index(), None);
+    /// ```
+    #[must_use]
+    pub fn index(&self) -> Option<usize> {
+        match self {
+            RulesChoice::Field { index, .. } => Some(*index),
+            RulesChoice::Fallback => None,
+        }
+    }
+
+    /// The directives of that field, if there is one.
+    ///
+    /// ```
+    /// let choice = sf::select_rules(["a,", "no-store"]).unwrap();
+    /// assert!(choice.rules().unwrap().policy.no_store);
+    /// ```
+    #[must_use]
+    pub fn rules(&self) -> Option<CacheRules> {
+        match self {
+            RulesChoice::Field { rules, .. } => Some(*rules),
+            RulesChoice::Fallback => None,
+        }
+    }
 }
 
 impl Parser {

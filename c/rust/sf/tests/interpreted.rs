@@ -154,7 +154,7 @@ fn a_hop_is_appended() {
     assert_eq!(of(&[]), own);
     assert_eq!(of(&[""]), own);
     assert_eq!(of(&["a;hit"]), format!("a;hit, {own}"));
-    assert_eq!(of(&["a", "", "b, c"]), format!("a, b, c, {own}"));
+    assert_eq!(of(&["a, 7"]), format!("a, 7, {own}"));
     assert_eq!(of(&["a; hit,b"]), format!("a;hit, b, {own}"));
     let path = Path::parse(of(&["a", "b"])).unwrap();
     assert_eq!(path.hops().last(), Some(hop));
@@ -162,11 +162,21 @@ fn a_hop_is_appended() {
     for text in ["a;hit,", "a b", "a;;b", "(", "\u{e9}"] {
         let refused = hop.append_to([text]).unwrap_err();
         assert_eq!(refused.as_absent(), Ok(std::string::String::new()));
+        assert_eq!(hop.append_or_replace([text]).unwrap(), own);
+    }
+    // An empty line is one, as it is for join.
+    for lines in [&["a", ""], &["", "a"], &["", ""]] {
+        let joined = sf::join(lines).unwrap();
+        let refused = hop.append_to(lines);
+        assert_eq!(refused, hop.append_to([joined]));
+        assert!(matches!(refused, Err(Error::Refused(_))));
+        assert_eq!(hop.append_or_replace(lines).unwrap(), own);
     }
     // Only one of hit and fwd should appear (RFC 9211 section 2.1).
     let both = Hop::new(TokenRef::constant("here")).with_outcome(Outcome::Conflict(forwarded));
     assert_eq!(both.append_to(["a;hit"]), Err(Error::Invalid));
     assert_eq!(both.append_to(["a;hit,"]), Err(Error::Invalid));
+    assert_eq!(both.append_or_replace(["a;hit,"]), Err(Error::Invalid));
     let old = Parser::new().with_dialect(Dialect::Rfc8941);
     assert!(old.append_hop(&hop, ["a;x=@1"]).is_err());
     assert_eq!(of(&["a;x=@1"]), format!("a;x=@1, {own}"));
