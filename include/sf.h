@@ -161,6 +161,15 @@ static inline const char *sf_kind_name(uint32_t kind) {
   }
 }
 
+/* Returns the kind of a word, as a program has it from its user: "item", "list" or "dict"; 0 if it is
+ * another word. The result is an sf_kind, or 0. */
+static inline uint32_t sf_kind_of(const char *word) {
+  return strcmp(word, "item") == 0   ? (uint32_t)SF_ITEM
+         : strcmp(word, "list") == 0 ? (uint32_t)SF_LIST
+         : strcmp(word, "dict") == 0 ? (uint32_t)SF_DICT
+                                     : 0;
+}
+
 /* The RFC by which a text is parsed. What RFC 8941 accepts has the same value by RFC 9651. */
 typedef enum sf_dialect {
   SF_RFC9651 = 9651, /* all types of sf_type */
@@ -1147,6 +1156,13 @@ static inline sf_text sf_cstr(const char *string) {
   return sf_text_of(string, string == NULL ? 0 : strlen(string));
 }
 
+/* The two arguments of %.*s for a text, or for what a buffer has, of less than 2 GiB. The macro
+ * evaluates its argument twice:
+ *
+ *   printf("%.*s\n", SF_ARGS(text));
+ */
+#define SF_ARGS(text) ((int)(text).length), ((text).at)
+
 /* What the calls of a program have in common. Threads may not use a context at the same time: give
  * each a copy. */
 typedef struct sf_context {
@@ -1445,7 +1461,7 @@ static inline char *sf_put_number(char *to, const char *before, uint64_t number)
  *     // byte 0x2c ',' at place 7, expected a token character, `)`, `;` or a space
  *     // line 2, place 7:
  *     //  (d e, f
- *     //     ^
+ *     //      ^
  *
  * A buffer of SF_REFUSAL_EXCERPT_SIZE(most) bytes is always large enough. The results are those of
  * sf_write_refusal.

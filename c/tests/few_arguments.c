@@ -45,6 +45,13 @@ static void texts_and_buffers(void) {
   CHECK(is(sf_cstr("u=1"), "u=1") && is(sf_cstr(""), "") && sf_cstr(NULL).length == 0);
   CHECK(is(sf_text_of("u=1, i", 3), "u=1") && sf_text_of(NULL, 0).length == 0);
 
+  CHECK(sf_kind_of("item") == SF_ITEM && sf_kind_of("list") == SF_LIST);
+  CHECK(sf_kind_of("dict") == SF_DICT && sf_kind_of("Dict") == 0 && sf_kind_of("") == 0);
+  char printed[8];
+  sf_text part = sf_text_of("u=1, i", 3);
+  CHECK(snprintf(printed, sizeof printed, "<%.*s>", SF_ARGS(part)) == 5);
+  CHECK(strcmp(printed, "<u=1>") == 0);
+
   char chars[9];
   sf_node nodes[7];
   sf_hop hops[5];
