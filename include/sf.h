@@ -161,7 +161,7 @@ static inline const char *sf_kind_name(uint32_t kind) {
   }
 }
 
-/* Returns the kind of a word, as a program has it from its user: "item", "list" or "dict"; 0 if it is
+/* Returns the kind of a word, as a program has it from its user: "item", "list" or "dict"; 0 for
  * another word. The result is an sf_kind, or 0. */
 static inline uint32_t sf_kind_of(const char *word) {
   return strcmp(word, "item") == 0   ? (uint32_t)SF_ITEM
@@ -286,8 +286,8 @@ typedef struct sf_line_place {
 /*
  * Returns the line of a refusal, and the place in it, if the refused text is these lines, joined by
  * sf_join in this order. Without lines both are 0. Both are counted from 0, for use as an index; in
- * messages, as those of sf_refusal_in_text and sf_show_excerpt_of_line, lines are counted from 1 and
- * places from 0.
+ * messages, as those of sf_refusal_in_text and sf_show_excerpt_of_line, lines are counted from 1,
+ * and places from 0.
  */
 static inline sf_line_place sf_refusal_line(const sf_refusal *refusal, const sf_text *lines,
                                             size_t lines_length) {
@@ -1292,8 +1292,8 @@ static inline sf_lines sf_lines_in(sf_buffer buffer) {
 
 /*
  * Appends one line of a field, with a comma and a space between two lines (RFC 9651 section 4.2),
- * by sf_join. An empty line is a line: beside others it gives `a, , b`, which is malformed (RFC 9110
- * section 5.3). These calls join the lines of a field:
+ * by sf_join. An empty line is a line: beside others it gives `a, , b`, which is malformed (RFC
+ * 9110 section 5.3). These calls join the lines of a field:
  *
  *   char bytes[64];
  *   sf_lines lines = sf_lines_in(SF_BUFFER(bytes));
@@ -1444,9 +1444,9 @@ static inline char *sf_put_number(char *to, const char *before, uint64_t number)
 }
 
 /*
- * Writes the error message of a refusal of these lines, joined by sf_add_line in this order, with an
- * excerpt of the line that it is in (sf_refusal_line). Both places in the message are in that line,
- * not in the joined text, and from 0; the line is counted from 1:
+ * Writes the error message of a refusal of these lines, joined by sf_add_line in this order, with
+ * an excerpt of the line that it is in (sf_refusal_line). Both places in the message are in that
+ * line, not in the joined text, and from 0; the line is counted from 1:
  *
  *   sf_text received[] = {sf_cstr("a, b"), sf_cstr("c, (d e, f")};
  *   char bytes[64], message[SF_REFUSAL_EXCERPT_SIZE(8)];
@@ -2349,9 +2349,9 @@ static inline sf_status sf_write_hop(sf_context *context, const sf_own_hop *own,
  * section 2), by sf_cache_status_append. The text is that of the lines that were received, joined,
  * or empty; what is written is sent in their place. A buffer of SF_APPENDED_SIZE(text.length,
  * own->bytes.length) bytes is always large enough. With the hop of the comment of sf_hop_named,
- * `origin; fwd=miss` becomes `origin;fwd=miss, ExampleCDN;hit;ttl=30`. A member that names no cache,
- * for which sf_read_hops returns SF_NOT_A_CACHE, stays where it is: only a malformed List is refused.
- * A tab at the beginning is refused: see sf_trim.
+ * `origin; fwd=miss` becomes `origin;fwd=miss, ExampleCDN;hit;ttl=30`. A member that names no
+ * cache, for which sf_read_hops returns SF_NOT_A_CACHE, stays where it is: only a malformed List is
+ * refused. A tab at the beginning is refused: see sf_trim.
  *
  *   SF_OK       the first out->length bytes of out are the text
  *   SF_SHORT    it has out->required bytes, more than the capacity

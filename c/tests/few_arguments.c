@@ -425,7 +425,8 @@ static void what_may_be_stored(void) {
     CHECK(sf_may_store(&decisions_made[i].decision) == decisions_made[i].may);
 
   /* of the rows of tests/decisions.txt that a targeted field decides, these may not be stored */
-  static const int not_stored[] = {6, 7, 8, 10, 12, 14, 15, 23, 25, 27, 28, 43, 47, 48, 63, 64, 66, 74};
+  static const int not_stored[] = {6,  7,  8,  10, 12, 14, 15, 23, 25,
+                                   27, 28, 43, 47, 48, 63, 64, 66, 74};
   sf_context context = sf_context_of(seed, SF_RFC8941);
   for (size_t i = 0; i < sizeof decision_rows / sizeof *decision_rows; ++i) {
     const struct decision_row *row = &decision_rows[i];

@@ -115,8 +115,8 @@ impl Refusal {
     }
 
     /// The error message, then at most so many bytes of the text around the offset, with a caret
-    /// below it. So it has a bound, whatever the length of the text. Give the text that was refused.
-    /// Bytes that are not printable are question marks there.
+    /// below it. So it has a bound, whatever the length of the text. Give the text that was
+    /// refused. Bytes that are not printable are question marks there.
     ///
     /// ```
     /// let text = "1 2";

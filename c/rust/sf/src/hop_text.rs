@@ -188,7 +188,7 @@ impl Hop<'_> {
     ///
     /// ```
     /// let hop = sf::Hop::new(sf::TokenRef::constant("edge")).with_outcome(sf::Outcome::Hit);
-    /// assert_eq!(hop.append_or_replace(["origin; fwd=miss"]).unwrap(), "origin;fwd=miss, edge;hit");
+    /// assert_eq!(hop.append_or_replace(["a; fwd=miss"]).unwrap(), "a;fwd=miss, edge;hit");
     /// assert_eq!(hop.append_or_replace(["origin;;"]).unwrap(), "edge;hit");
     /// ```
     pub fn append_or_replace(
