@@ -101,8 +101,11 @@ fn many_keys_are_counted(rt: HostRuntime) -> Result<(), Fail> {
     for count in [2, 8, 9, 20, 100, 300, 2000, 8192] {
         for repeated in [false, true] {
             let members = keys(alloc, count, b',', repeated)?;
-            let (_, behind) = members.as_slice().split_at(1);
-            assert!(&rt; is_counted(alloc, &seed, Kind::Dict, behind, repeated)?);
+            // A Dictionary begins with no comma.
+            let Some((_, text)) = members.as_slice().split_first() else {
+                return Ok(());
+            };
+            assert!(&rt; is_counted(alloc, &seed, Kind::Dict, text, repeated)?);
             let params = keys(alloc, count, b';', repeated)?;
             let mut item = Sequence::new(alloc);
             item.push(b'x')?;
