@@ -161,6 +161,15 @@ static inline const char *sf_kind_name(uint32_t kind) {
   }
 }
 
+/* Returns the kind of a word, as a program has it from its user: "item", "list" or "dict"; 0 for
+ * another word. The result is an sf_kind, or 0. */
+static inline uint32_t sf_kind_of(const char *word) {
+  return strcmp(word, "item") == 0   ? (uint32_t)SF_ITEM
+         : strcmp(word, "list") == 0 ? (uint32_t)SF_LIST
+         : strcmp(word, "dict") == 0 ? (uint32_t)SF_DICT
+                                     : 0;
+}
+
 /* The RFC by which a text is parsed. What RFC 8941 accepts has the same value by RFC 9651. */
 typedef enum sf_dialect {
   SF_RFC9651 = 9651, /* all types of sf_type */
@@ -276,7 +285,9 @@ typedef struct sf_line_place {
 
 /*
  * Returns the line of a refusal, and the place in it, if the refused text is these lines, joined by
- * sf_join in this order. Without lines both are 0.
+ * sf_join in this order. Without lines both are 0. Both are counted from 0, for use as an index; in
+ * messages, as those of sf_refusal_in_text and sf_show_excerpt_of_line, lines are counted from 1,
+ * and places from 0.
  */
 static inline sf_line_place sf_refusal_line(const sf_refusal *refusal, const sf_text *lines,
                                             size_t lines_length) {
@@ -764,7 +775,8 @@ typedef enum sf_cache {
 /* What a cache knows of a response beside its directives. In a struct of zeros the response is new,
  * has no other lifetime, and its status code is not understood. */
 typedef struct sf_response {
-  uint64_t age;          /* its age in seconds (RFC 9111 section 4.2.3) */
+  uint64_t age;          /* its age in seconds (RFC 9111 section 4.2.3); sf_read_age reads a part of
+                            it, the Age field */
   uint64_t lifetime;     /* the seconds from Date to Expires (4.2.1), unless a targeted field
                             decides, by which Expires is ignored (RFC 9213 section 2.2), or of a
                             heuristic, if one may apply (4.2.2); they count if no directive sets a
@@ -861,7 +873,7 @@ typedef struct sf_decision {
   uint8_t by;                /* an sf_cause */
   uint8_t allows_storing;    /* 1 if a directive permits storing it, whatever its status code (RFC
                                 9111 section 3), otherwise 0; SF_REUSE_NOT_STORED forbids it all the
-                                same */
+                                same: see sf_may_store */
   uint8_t allows_authorized; /* 1 if a directive permits a shared cache to store it, though the
                                 request had Authorization (3.5), otherwise 0; likewise */
 } sf_decision;
@@ -1144,6 +1156,13 @@ static inline sf_text sf_cstr(const char *string) {
   return sf_text_of(string, string == NULL ? 0 : strlen(string));
 }
 
+/* The two arguments of %.*s for a text, or for what a buffer has, of less than 2 GiB. The macro
+ * evaluates its argument twice:
+ *
+ *   printf("%.*s\n", SF_ARGS(text));
+ */
+#define SF_ARGS(text) ((int)(text).length), ((text).at)
+
 /* What the calls of a program have in common. Threads may not use a context at the same time: give
  * each a copy. */
 typedef struct sf_context {
@@ -1273,7 +1292,8 @@ static inline sf_lines sf_lines_in(sf_buffer buffer) {
 
 /*
  * Appends one line of a field, with a comma and a space between two lines (RFC 9651 section 4.2),
- * by sf_join. These calls join the lines of a field:
+ * by sf_join. An empty line is a line: beside others it gives `a, , b`, which is malformed (RFC
+ * 9110 section 5.3). These calls join the lines of a field:
  *
  *   char bytes[64];
  *   sf_lines lines = sf_lines_in(SF_BUFFER(bytes));
@@ -1359,19 +1379,15 @@ static inline sf_status sf_show_refusal(const sf_refusal *refusal, sf_text text,
   return sf_wrote(out, status, required);
 }
 
-/* The size in bytes of a buffer that is large enough for each message of sf_show_excerpt with this
- * number of bytes of the text at most. */
+/* The size in bytes of a buffer that is large enough for each message of sf_show_excerpt and of
+ * sf_show_excerpt_of_line with this number of bytes of the text at most. */
 #define SF_REFUSAL_EXCERPT_SIZE(most) (SF_REFUSAL_SIZE + 3 + sizeof(char[2]) * (most))
 
-/*
- * Writes the error message of a refusal of this text, a second line with at most so many bytes of
- * the text around the offset, and a caret below the offset, without a newline at the end. So the
- * message has a bound, whatever the length of the text. Bytes are written as by sf_refusal_in_text.
- * The results are those of sf_write_refusal.
- */
+/* Writes the error message of a refusal of this text, then these bytes, then the lines of
+ * sf_show_excerpt: for the functions below. */
 SF_USE_RESULT
-static inline sf_status sf_show_excerpt(const sf_refusal *refusal, sf_text text, size_t most,
-                                       sf_buffer *out) {
+static inline sf_status sf_show_excerpt_below(const sf_refusal *refusal, sf_text head, sf_text text,
+                                             size_t most, sf_buffer *out) {
   size_t at = refusal->offset < text.length ? (size_t)refusal->offset : text.length;
   size_t from = at > most / 2 ? at - most / 2 : 0, length, message = 0, required, i;
   uint32_t status;
@@ -1382,13 +1398,15 @@ static inline sf_status sf_show_excerpt(const sf_refusal *refusal, sf_text text,
   status = sf_refusal_text(refusal, NULL, 0, &message);
   if (status != SF_SHORT)
     return sf_wrote(out, status, 0);
-  required = message + length + (at - from) + 3;
+  required = message + head.length + length + (at - from) + 3;
   if (required > out->capacity)
     return sf_wrote(out, SF_SHORT, required);
   status = sf_refusal_text(refusal, out->at, out->capacity, &message);
   if (status != SF_OK)
     return sf_wrote(out, status, 0);
   to = out->at + message;
+  memcpy(to, head.at, head.length);
+  to += head.length;
   *to++ = '\n';
   for (i = 0; i < length; ++i) {
     char byte = text.at[from + i];
@@ -1398,6 +1416,68 @@ static inline sf_status sf_show_excerpt(const sf_refusal *refusal, sf_text text,
   memset(to, ' ', at - from);
   to[at - from] = '^';
   return sf_wrote(out, SF_OK, required);
+}
+
+/*
+ * Writes the error message of a refusal of this text, a second line with at most so many bytes of
+ * the text around the offset, and a caret below the offset, without a newline at the end. So the
+ * message has a bound, whatever the length of the text. Bytes are written as by sf_refusal_in_text.
+ * The results are those of sf_write_refusal.
+ */
+SF_USE_RESULT
+static inline sf_status sf_show_excerpt(const sf_refusal *refusal, sf_text text, size_t most,
+                                       sf_buffer *out) {
+  return sf_show_excerpt_below(refusal, sf_text_of("", 0), text, most, out);
+}
+
+/* Writes these bytes and a number, and returns the place after them: for the function below. */
+static inline char *sf_put_number(char *to, const char *before, uint64_t number) {
+  size_t length = strlen(before);
+  uint64_t unit = 1;
+  memcpy(to, before, length);
+  to += length;
+  while (number / unit >= 10)
+    unit *= 10;
+  for (; unit > 0; unit /= 10)
+    *to++ = (char)('0' + number / unit % 10);
+  return to;
+}
+
+/*
+ * Writes the error message of a refusal of these lines, joined by sf_add_line in this order, with
+ * an excerpt of the line that it is in (sf_refusal_line). Both places in the message are in that
+ * line, not in the joined text, and from 0; the line is counted from 1:
+ *
+ *   sf_text received[] = {sf_cstr("a, b"), sf_cstr("c, (d e, f")};
+ *   char bytes[64], message[SF_REFUSAL_EXCERPT_SIZE(8)];
+ *   sf_buffer out = SF_BUFFER(message);
+ *   sf_lines lines = sf_lines_in(SF_BUFFER(bytes));
+ *   for (int i = 0; i < 2; ++i)
+ *     if (sf_add_line(&lines, received[i]) != SF_OK)
+ *       return EXIT_FAILURE;
+ *   if (sf_check_text(&context, SF_LIST, sf_joined_text(&lines)) == SF_REFUSED &&
+ *       sf_show_excerpt_of_line(&context.refusal, received, 2, 8, &out) == SF_OK)
+ *     printf("%.*s\n", (int)out.length, out.at);
+ *     // byte 0x2c ',' at place 7, expected a token character, `)`, `;` or a space
+ *     // line 2, place 7:
+ *     //  (d e, f
+ *     //      ^
+ *
+ * A buffer of SF_REFUSAL_EXCERPT_SIZE(most) bytes is always large enough. The results are those of
+ * sf_write_refusal.
+ */
+SF_USE_RESULT
+static inline sf_status sf_show_excerpt_of_line(const sf_refusal *refusal, const sf_text *lines,
+                                               size_t lines_length, size_t most, sf_buffer *out) {
+  char head[64], *end;
+  sf_line_place place = sf_refusal_line(refusal, lines, lines_length);
+  sf_text text = place.line < lines_length ? lines[place.line] : sf_text_of("", 0);
+  sf_refusal in_line = *refusal;
+  in_line.offset = place.offset;
+  end = sf_put_number(head, "\nline ", (uint64_t)place.line + 1);
+  end = sf_put_number(end, ", place ", place.offset);
+  *end++ = ':';
+  return sf_show_excerpt_below(&in_line, sf_text_of(head, (size_t)(end - head)), text, most, out);
 }
 
 /*
@@ -2083,6 +2163,75 @@ static inline sf_status sf_choose_rules(sf_context *context, const sf_text *fiel
   return SF_EMPTY;
 }
 
+/*
+ * Returns 1 if the response may be stored by what was decided (RFC 9111 section 3), whatever its
+ * status code: it is not SF_REUSE_NOT_STORED, and a directive or sf_response.lifetime sets how long
+ * it is fresh, or allows_storing is 1. Otherwise returns 0: it is not to be stored, or only if its
+ * status code is heuristically cacheable or, beside no-cache, if it has Expires. If the request had
+ * Authorization, allows_authorized counts in a shared cache, too.
+ *
+ *   sf_rules rules;
+ *   sf_response response = {0, 0, 0, 0};
+ *   sf_decision decision;
+ *   if (sf_read_rules(&context, sf_cstr("max-age=60, no-cache"), &rules) == SF_OK &&
+ *       sf_decide(&rules, SF_SHARED_CACHE, &response, &decision) == SF_OK)
+ *     printf("%s\n", sf_may_store(&decision) ? "store it" : "don't store it"); // store it
+ *
+ * The result is not an sf_status.
+ */
+static inline int sf_may_store(const sf_decision *decision) {
+  switch (decision->reuse) {
+  case SF_REUSE_FRESH:
+  case SF_REUSE_STALE:
+    return 1;
+  case SF_REUSE_REVALIDATE:
+    return decision->allows_storing != 0 || decision->by != SF_BY_NO_CACHE;
+  case SF_REUSE_UNSPECIFIED:
+    return decision->allows_storing != 0;
+  default:
+    return 0;
+  }
+}
+
+/*
+ * Reads the Age field of a response, for sf_response.age: the number of the first member (RFC 9111
+ * section 5.1). A number above 2^31 counts as 2^31 (section 1.2.2), so that seconds can be added.
+ * The text is that of the lines, joined; white space around the number is no part of it.
+ *
+ *   uint64_t age = 0;
+ *   if (sf_read_age(sf_cstr("20, 70"), &age) == SF_OK)
+ *     printf("%d\n", (int)age); // 20
+ *
+ *   SF_OK       *seconds is the age
+ *   SF_EMPTY    the text is empty: the response has no Age
+ *   SF_REFUSED  the first member is not one or more digits, such as -5, 90x or nothing: ignore the
+ *               field. Age is no structured field, so no sf_refusal is written
+ *
+ * Unless SF_OK is returned, *seconds is unchanged: begin with 0. Does not allocate.
+ */
+SF_USE_RESULT
+static inline sf_status sf_read_age(sf_text text, uint64_t *seconds) {
+  const uint64_t most = UINT64_C(2147483648);
+  uint64_t age = 0;
+  size_t length = 0, i;
+  text = sf_trim(text.at, text.length);
+  if (text.length == 0)
+    return SF_EMPTY;
+  while (length < text.length && text.at[length] != ',')
+    ++length;
+  text = sf_trim(text.at, length);
+  for (i = 0; i < text.length; ++i) {
+    if (text.at[i] < '0' || text.at[i] > '9')
+      return SF_REFUSED;
+    age = 10 * age + (uint64_t)(text.at[i] - '0');
+    age = age < most ? age : most;
+  }
+  if (text.length == 0)
+    return SF_REFUSED;
+  *seconds = age;
+  return SF_OK;
+}
+
 /* The caches on the path of a response, and what each did. */
 typedef struct sf_hop_list {
   sf_hops hops;         /* the first hops.length are the path, the cache nearest the origin first */
@@ -2200,8 +2349,9 @@ static inline sf_status sf_write_hop(sf_context *context, const sf_own_hop *own,
  * section 2), by sf_cache_status_append. The text is that of the lines that were received, joined,
  * or empty; what is written is sent in their place. A buffer of SF_APPENDED_SIZE(text.length,
  * own->bytes.length) bytes is always large enough. With the hop of the comment of sf_hop_named,
- * `origin; fwd=miss` becomes `origin;fwd=miss, ExampleCDN;hit;ttl=30`. A tab at the beginning is
- * refused: see sf_trim.
+ * `origin; fwd=miss` becomes `origin;fwd=miss, ExampleCDN;hit;ttl=30`. A member that names no
+ * cache, for which sf_read_hops returns SF_NOT_A_CACHE, stays where it is: only a malformed List is
+ * refused. A tab at the beginning is refused: see sf_trim.
  *
  *   SF_OK       the first out->length bytes of out are the text
  *   SF_SHORT    it has out->required bytes, more than the capacity

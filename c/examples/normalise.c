@@ -9,7 +9,6 @@
 #include <sf.h>
 #include <stdio.h>
 #include <stdlib.h>
-#include <string.h>
 
 /* A seed that strangers can't guess. */
 static int fill(sf_seed *seed) {
@@ -34,19 +33,9 @@ static int add(sf_lines *lines, sf_text line) {
   return sf_add_line(lines, line) == SF_OK;
 }
 
-static int kind_of(const char *word, sf_kind *kind) {
-  static const char *const words[] = {"item", "list", "dict"};
-  for (int i = 0; i < 3; ++i)
-    if (strcmp(word, words[i]) == 0) {
-      *kind = (sf_kind)(SF_ITEM + i);
-      return 1;
-    }
-  return 0;
-}
-
 int main(int argc, char **argv) {
-  sf_kind kind;
-  if (argc != 2 || !kind_of(argv[1], &kind)) {
+  uint32_t kind = argc == 2 ? sf_kind_of(argv[1]) : 0;
+  if (kind == 0) {
     fprintf(stderr, "usage: normalise item|list|dict\n");
     return 2;
   }
@@ -84,7 +73,7 @@ int main(int argc, char **argv) {
   }
   const sf_refusal *refusal = &context.refusal;
   int answer = 0;
-  switch (sf_write_canonical(&context, kind, text, &out)) {
+  switch (sf_write_canonical(&context, (sf_kind)kind, text, &out)) {
   case SF_OK:
     fwrite(out.at, 1, out.length, stdout);
     printf("\n");

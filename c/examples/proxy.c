@@ -32,20 +32,25 @@ static void give_up(const char *why) {
   exit(3);
 }
 
+/* A NUL is a byte like others: a value that has one is malformed. */
 static void read_fields(FILE *from) {
-  static char bytes[FIELDS][MOST]; /* of each field its lines, joined as they come, and a NUL */
+  static char bytes[FIELDS][MOST]; /* of each field its lines, joined as they come */
   for (int i = 0; i < FIELDS; ++i)
-    lines[i] = sf_lines_in(sf_buffer_of(bytes[i], MOST - 1));
+    lines[i] = sf_lines_in(SF_BUFFER(bytes[i]));
   char *line = NULL;
   size_t size = 0;
-  while (getline(&line, &size, from) >= 0) {
-    char *name = line + 1 + strspn(line + 1, " "), *colon = strchr(name, ':');
-    if (colon == NULL)
+  for (ssize_t read; (read = getline(&line, &size, from)) >= 0;) {
+    size_t length = (size_t)read;
+    length -= length > 0 && line[length - 1] == '\n';
+    length -= length > 0 && line[length - 1] == '\r';
+    const char *colon = memchr(line, ':', length);
+    if (colon == NULL || colon == line)
       continue;
-    *colon = '\0';
-    sf_text value = sf_trim(colon + 1, strcspn(colon + 1, "\r\n"));
+    sf_text name = sf_trim(line + 1, (size_t)(colon - line) - 1);
+    sf_text value = sf_trim(colon + 1, (size_t)(line + length - colon) - 1);
     for (int i = 0; i < FIELDS; ++i)
-      if (fields[i][0] == line[0] && strcasecmp(fields[i] + 1, name) == 0 &&
+      if (fields[i][0] == line[0] && strlen(fields[i] + 1) == name.length &&
+          strncasecmp(fields[i] + 1, name.at, name.length) == 0 &&
           sf_add_line(&lines[i], value) != SF_OK)
         give_up("a field is too long");
   }
@@ -75,7 +80,8 @@ int main(int count, char **words) {
     give_up("no random bytes");
   sf_context context = sf_context_of(seed, SF_RFC8941); /* that the RFCs of these fields cite */
   read_fields(stdin);
-  response.age = strtoull(lines[AGE].buffer.at, NULL, 10);
+  if (sf_read_age(sf_joined_text(&lines[AGE]), &response.age) != SF_OK)
+    response.age = 0; /* a field that is malformed is ignored */
 
   /* The priority. A field that is malformed or absent sets nothing (RFC 9218 section 8). */
   sf_priority_flags asked = SF_PRIORITY_UNSET;
@@ -103,8 +109,8 @@ int main(int count, char **words) {
   sf_own_hop own = sf_hop_named("ExampleCDN", SF_TOKEN);
   own.hop.outcome = SF_FORWARDED;
   own.hop.why = SF_URI_MISS;
-  own.hop.has_stored = 1;
-  own.hop.stored = decision.reuse != SF_REUSE_NOT_STORED && decision.allows_storing;
+  own.hop.has_stored = status == SF_OK; /* otherwise Cache-Control says it, which is not read */
+  own.hop.stored = status == SF_OK && sf_may_store(&decision);
   own.hop.has_ttl = decision.reuse == SF_REUSE_FRESH;
   own.hop.ttl = (int64_t)decision.seconds;
   static char path[SF_APPENDED_SIZE(MOST, 16)];

@@ -15,7 +15,6 @@
 #include <sf.h>
 #include <stdio.h>
 #include <stdlib.h>
-#include <string.h>
 
 /* The error message with the text, in a buffer that is to be freed; NULL without memory. */
 static char *message_of(const sf_refusal *refusal, sf_text text) {
@@ -30,11 +29,8 @@ static char *message_of(const sf_refusal *refusal, sf_text text) {
 }
 
 int main(int argc, char **argv) {
-  static const char *const kinds[] = {"item", "list", "dict"};
-  uint32_t kind = SF_ITEM;
-  while (argc == 3 && kind <= SF_DICT && strcmp(argv[1], kinds[kind - SF_ITEM]) != 0)
-    ++kind;
-  if (argc != 3 || kind > SF_DICT) {
+  uint32_t kind = argc == 3 ? sf_kind_of(argv[1]) : 0;
+  if (kind == 0) {
     fprintf(stderr, "usage: refusal item|list|dict TEXT\n");
     return 2;
   }

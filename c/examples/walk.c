@@ -78,11 +78,8 @@ static void walk(const sf_tree *tree, const sf_node *node, const sf_node *end, i
 }
 
 int main(int argc, char **argv) {
-  static const char *const kinds[] = {"item", "list", "dict"};
-  uint32_t kind = SF_ITEM;
-  while (argc == 3 && kind <= SF_DICT && strcmp(argv[1], kinds[kind - SF_ITEM]) != 0)
-    ++kind;
-  if (argc != 3 || kind > SF_DICT) {
+  uint32_t kind = argc == 3 ? sf_kind_of(argv[1]) : 0;
+  if (kind == 0) {
     fprintf(stderr, "usage: walk item|list|dict TEXT\n");
     return 2;
   }

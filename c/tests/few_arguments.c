@@ -6,6 +6,7 @@
 #include <sf.h>
 #include <stdio.h>
 #include <stdlib.h>
+#include "decisions.h"
 
 static long passed, failed;
 
@@ -43,6 +44,13 @@ static void texts_and_buffers(void) {
   CHECK(context.dialect == SF_RFC8941 && context.invalid == 0 && context.refusal.offset == 0);
   CHECK(is(sf_cstr("u=1"), "u=1") && is(sf_cstr(""), "") && sf_cstr(NULL).length == 0);
   CHECK(is(sf_text_of("u=1, i", 3), "u=1") && sf_text_of(NULL, 0).length == 0);
+
+  CHECK(sf_kind_of("item") == SF_ITEM && sf_kind_of("list") == SF_LIST);
+  CHECK(sf_kind_of("dict") == SF_DICT && sf_kind_of("Dict") == 0 && sf_kind_of("") == 0);
+  char printed[8];
+  sf_text part = sf_text_of("u=1, i", 3);
+  CHECK(snprintf(printed, sizeof printed, "<%.*s>", SF_ARGS(part)) == 5);
+  CHECK(strcmp(printed, "<u=1>") == 0);
 
   char chars[9];
   sf_node nodes[7];
@@ -111,6 +119,31 @@ static void checking(void) {
   CHECK(is(sf_written(&out), FIRST_LINE "\n 2\n ^"));
   CHECK(sf_show_excerpt(&context.refusal, sf_cstr("1 2"), 2, &small) == SF_SHORT);
   CHECK(small.required == out.length && small.length == 0);
+  /* an excerpt of one line of several; lines from 1 and places from 0 */
+  {
+    static const sf_text received[] = {{"a, b", 4}, {"", 0}, {"c, (d e, f", 10}};
+    sf_refusal refused = context.refusal;
+#define HEAD(place) "byte 0x32 '2' at place " place ", expected a space or the end\n"
+    refused.offset = 2;
+    CHECK(sf_show_excerpt_of_line(&refused, received, 3, 20, &out) == SF_OK);
+    CHECK(is(sf_written(&out), HEAD("2") "line 1, place 2:\na, b\n  ^"));
+    refused.offset = 5; /* in the comma and the space between two lines: after the first */
+    CHECK(sf_show_excerpt_of_line(&refused, received, 3, 20, &out) == SF_OK);
+    CHECK(is(sf_written(&out), HEAD("4") "line 1, place 4:\na, b\n    ^"));
+    refused.offset = 6;
+    CHECK(sf_show_excerpt_of_line(&refused, received, 3, 20, &out) == SF_OK);
+    CHECK(is(sf_written(&out), HEAD("0") "line 2, place 0:\n\n^"));
+    refused.offset = 15;
+    CHECK(sf_show_excerpt_of_line(&refused, received, 3, 4, &out) == SF_OK);
+    CHECK(is(sf_written(&out), HEAD("7") "line 3, place 7:\n e, \n  ^"));
+    CHECK(sf_show_excerpt_of_line(&refused, received, 3, 4, &small) == SF_SHORT);
+    CHECK(small.required == out.length && small.length == 0);
+    refused.offset = 99;
+    CHECK(sf_show_excerpt_of_line(&refused, received, 3, 4, &out) == SF_OK);
+    CHECK(is(sf_written(&out), HEAD("10") "line 3, place 10:\ne, f\n    ^"));
+    CHECK(sf_show_excerpt_of_line(&refused, NULL, 0, 4, &out) == SF_OK);
+    CHECK(is(sf_written(&out), HEAD("0") "line 1, place 0:\n\n^"));
+  }
   /* the refusal stays until another text is refused */
   CHECK(sf_check_text(&context, SF_ITEM, sf_cstr("1")) == SF_OK && context.refusal.offset == 2);
 
@@ -362,6 +395,96 @@ static void decisions(void) {
   CHECK(sf_choose_rules(&context, NULL, 0, &choice) == SF_EMPTY);
 }
 
+/* What may be stored. The crate sf has the same rows. */
+static void what_may_be_stored(void) {
+  static const struct {
+    sf_decision decision;
+    int may;
+  } decisions_made[] = {
+      {{0, SF_REUSE_NOT_STORED, SF_BY_NO_STORE, 0, 0}, 0},
+      {{0, SF_REUSE_NOT_STORED, SF_BY_NO_STORE, 1, 0}, 0},
+      {{0, SF_REUSE_NOT_STORED, SF_BY_PRIVATE, 1, 0}, 0},
+      {{0, SF_REUSE_NOT_STORED, SF_BY_MUST_UNDERSTAND, 1, 0}, 0},
+      {{60, SF_REUSE_FRESH, SF_BY_MAX_AGE, 1, 0}, 1},
+      {{60, SF_REUSE_FRESH, SF_BY_EXPIRES, 0, 0}, 1},
+      {{60, SF_REUSE_FRESH, SF_BY_S_MAXAGE, 1, 0}, 1},
+      {{0, SF_REUSE_STALE, SF_BY_MAX_AGE, 1, 0}, 1},
+      {{0, SF_REUSE_STALE, SF_BY_EXPIRES, 0, 0}, 1},
+      {{0, SF_REUSE_STALE, SF_BY_INVALID_MAX_AGE, 0, 0}, 1},
+      {{0, SF_REUSE_REVALIDATE, SF_BY_NO_CACHE, 0, 0}, 0},
+      {{0, SF_REUSE_REVALIDATE, SF_BY_NO_CACHE, 1, 0}, 1},
+      {{0, SF_REUSE_REVALIDATE, SF_BY_MUST_REVALIDATE, 0, 0}, 1},
+      {{0, SF_REUSE_REVALIDATE, SF_BY_PROXY_REVALIDATE, 0, 0}, 1},
+      {{0, SF_REUSE_REVALIDATE, SF_BY_S_MAXAGE, 1, 0}, 1},
+      {{0, SF_REUSE_REVALIDATE, SF_BY_INVALID_S_MAXAGE, 0, 0}, 1},
+      {{0, SF_REUSE_UNSPECIFIED, SF_BY_NOTHING, 0, 0}, 0},
+      {{0, SF_REUSE_UNSPECIFIED, SF_BY_NOTHING, 1, 0}, 1},
+      {{0, 0, SF_BY_NOTHING, 1, 0}, 0},
+  };
+  for (size_t i = 0; i < sizeof decisions_made / sizeof *decisions_made; ++i)
+    CHECK(sf_may_store(&decisions_made[i].decision) == decisions_made[i].may);
+
+  /* of the rows of tests/decisions.txt that a targeted field decides, these may not be stored */
+  static const int not_stored[] = {6,  7,  8,  10, 12, 14, 15, 23, 25,
+                                   27, 28, 43, 47, 48, 63, 64, 66, 74};
+  sf_context context = sf_context_of(seed, SF_RFC8941);
+  for (size_t i = 0; i < sizeof decision_rows / sizeof *decision_rows; ++i) {
+    const struct decision_row *row = &decision_rows[i];
+    sf_text targets[] = {sf_cstr(row->targets[0]), sf_cstr(row->targets[1])};
+    sf_choice choice;
+    sf_decision decision;
+    int may = 1;
+    if (row->index == DECISION_FALLBACK)
+      continue;
+    for (size_t k = 0; k < sizeof not_stored / sizeof *not_stored; ++k)
+      may = may && not_stored[k] != row->row;
+    CHECK(sf_choose_rules(&context, targets, 2, &choice) == SF_OK);
+    CHECK(sf_decide(&choice.rules, row->cache, &row->response, &decision) == SF_OK);
+    CHECK(sf_may_store(&decision) == may);
+  }
+}
+
+/* The Age field (RFC 9111 sections 5.1 and 1.2.2). */
+static void ages(void) {
+  static const struct {
+    const char *text;
+    sf_status status;
+    uint64_t seconds; /* 7 is what was there before */
+  } rows[] = {
+      {"20", SF_OK, 20},
+      {"0", SF_OK, 0},
+      {"00020", SF_OK, 20},
+      {" \t20\t ", SF_OK, 20},
+      {"20, 70", SF_OK, 20},
+      {"20\t,x", SF_OK, 20},
+      {"20,", SF_OK, 20},
+      {"2147483647", SF_OK, 2147483647},
+      {"2147483648", SF_OK, UINT64_C(2147483648)},
+      {"2147483649", SF_OK, UINT64_C(2147483648)},
+      {"18446744073709551616", SF_OK, UINT64_C(2147483648)},
+      {"99999999999999999999999999999999", SF_OK, UINT64_C(2147483648)},
+      {"99999999999999999999x", SF_REFUSED, 7},
+      {"", SF_EMPTY, 7},
+      {" \t", SF_EMPTY, 7},
+      {"-5", SF_REFUSED, 7},
+      {"+5", SF_REFUSED, 7},
+      {"90x", SF_REFUSED, 7},
+      {"1.5", SF_REFUSED, 7},
+      {"2 0", SF_REFUSED, 7},
+      {", 20", SF_REFUSED, 7},
+      {"x, 20", SF_REFUSED, 7},
+      {"\"20\"", SF_REFUSED, 7},
+  };
+  for (size_t i = 0; i < sizeof rows / sizeof *rows; ++i) {
+    uint64_t seconds = 7;
+    CHECK(sf_read_age(sf_cstr(rows[i].text), &seconds) == rows[i].status);
+    CHECK(seconds == rows[i].seconds);
+  }
+  uint64_t seconds = 7;
+  CHECK(sf_read_age(sf_text_of("20\0", 3), &seconds) == SF_REFUSED && seconds == 7);
+  CHECK(sf_read_age(sf_text_of(NULL, 0), &seconds) == SF_EMPTY && seconds == 7);
+}
+
 static void paths(void) {
   sf_context context = sf_context_of(seed, SF_RFC8941), none = no_dialect();
   sf_hop hops[4];
@@ -438,6 +561,8 @@ int main(void) {
   builders();
   priorities();
   decisions();
+  what_may_be_stored();
+  ages();
   paths();
   printf("%ld passed, %ld failed\n", passed, failed);
   return failed != 0;

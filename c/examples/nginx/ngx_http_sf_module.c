@@ -113,19 +113,6 @@ static ngx_int_t read_priority(ngx_http_request_t *r, sf_priority_flags *merged)
   return NGX_OK;
 }
 
-/* The first number of an Age field (RFC 9111 section 5.1); 0 if it is none. A number that is too great
- * stays one (section 1.2.2). */
-static uint64_t first_age(const ngx_str_t *value) {
-  uint64_t age = 0;
-  size_t at = 0;
-  for (; at < value->len && value->data[at] >= '0' && value->data[at] <= '9'; ++at)
-    if (age < UINT32_MAX)
-      age = 10 * age + (uint64_t)(value->data[at] - '0');
-  while (at < value->len && (value->data[at] == ' ' || value->data[at] == '\t'))
-    ++at;
-  return at < value->len && value->data[at] != ',' ? 0 : age;
-}
-
 /* The age of a response in seconds (RFC 9111 section 4.2.3): that of its Age field when it came, with the
  * time since the request for it, or how long it is in the cache. */
 static uint64_t age_of(ngx_http_request_t *r) {
@@ -133,7 +120,9 @@ static uint64_t age_of(ngx_http_request_t *r) {
   const ngx_list_part_t *part = &r->headers_out.headers.part;
   ngx_uint_t at = 0;
   const ngx_table_elt_t *line = next_line(&name, &part, &at);
-  uint64_t age = line == NULL ? 0 : first_age(&line->value);
+  uint64_t age = 0;
+  if (line != NULL && sf_read_age(sf_text_of(line->value.data, line->value.len), &age) != SF_OK)
+    age = 0; /* the field is ignored (section 5.1) */
 #if (NGX_HTTP_CACHE)
   if (r->cached && r->cache != NULL && r->upstream->cache_status != NGX_HTTP_CACHE_REVALIDATED)
     return ngx_time() > r->cache->date ? age + (uint64_t)(ngx_time() - r->cache->date) : age;

@@ -9,16 +9,18 @@ const TARGETS: [&str; 2] = ["ExampleCDN-Cache-Control", "CDN-Cache-Control"];
 
 /// The lines of a field, joined. White space around a value is no part of it (RFC 9110 section
 /// 5.5).
-fn field(heads: &str, side: char, name: &str) -> Result<Vec<u8>, Error> {
-    sf::join(heads.lines().filter_map(|line| {
-        let (found, value) = line.strip_prefix(side)?.split_once(':')?;
-        let is_it = found.trim().eq_ignore_ascii_case(name);
-        is_it.then(|| sf::trim(value))
+fn field(heads: &[u8], side: u8, name: &str) -> Result<Vec<u8>, Error> {
+    sf::join(heads.split(|byte| *byte == b'\n').filter_map(|line| {
+        let line = line.strip_suffix(b"\r").unwrap_or(line);
+        let line = line.strip_prefix(&[side])?;
+        let (found, value) = line.split_at(line.iter().position(|byte| *byte == b':')?);
+        let is_it = sf::trim(found).eq_ignore_ascii_case(name.as_bytes());
+        is_it.then(|| sf::trim(&value[1..]))
     }))
 }
 
 /// What a field says. One that is malformed counts as absent, and standard error shows it.
-fn read<T>(heads: &str, side: char, name: &str) -> Result<T, Error>
+fn read<T>(heads: &[u8], side: u8, name: &str) -> Result<T, Error>
 where
     T: Default + for<'a> TryFrom<&'a [u8], Error = Error>,
 {
@@ -34,7 +36,7 @@ where
 
 /// Where the response came from (RFC 9211).
 fn source(path: &Path) -> String {
-    if let Some(hop) = path.served_by().and_then(|index| path.hops().nth(index)) {
+    if let Some(hop) = path.served_hop() {
         let ttl = hop.ttl.map(|ttl| match ttl.get() {
             0.. => format!(", fresh for {ttl} s more"),
             ttl => format!(", stale for {} s", -ttl),
@@ -67,19 +69,15 @@ fn decision(choice: RulesChoice) -> String {
 }
 
 fn main() -> Result<(), Box<dyn std::error::Error>> {
-    let mut heads = String::new();
-    io::stdin().read_to_string(&mut heads)?;
+    let mut heads = Vec::new();
+    io::stdin().read_to_end(&mut heads)?;
 
-    let client: Priority = read(&heads, '>', "Priority")?;
-    let priority = client.merged_with(read(&heads, '<', "Priority")?);
-    let how = if priority.incremental() {
-        ", incremental"
-    } else {
-        ""
-    };
+    let client: Priority = read(&heads, b'>', "Priority")?;
+    let priority = client.merged_with(read(&heads, b'<', "Priority")?);
+    let how = ["", ", incremental"][usize::from(priority.incremental())];
     println!("urgency {}{how}", priority.urgency());
-    println!("{}", source(&read(&heads, '<', "Cache-Status")?));
-    let targets = TARGETS.map(|name| field(&heads, '<', name));
+    println!("{}", source(&read(&heads, b'<', "Cache-Status")?));
+    let targets = TARGETS.map(|name| field(&heads, b'<', name));
     let targets: Vec<_> = targets.into_iter().collect::<Result<_, _>>()?;
     println!("{}", decision(sf::select_rules(targets)?));
     Ok(())

@@ -6,7 +6,6 @@ use sf::{
     Cache, Dialect, Error, Forward, Forwarded, Hop, Parser, Response, Reuse, RulesChoice, TokenRef,
 };
 use std::io::{self, BufRead};
-use std::num::IntErrorKind;
 
 /// This cache.
 const NAME: &TokenRef = TokenRef::constant("ExampleCDN");
@@ -16,32 +15,31 @@ const TARGET_LIST: [&str; 2] = ["ExampleCDN-Cache-Control", "CDN-Cache-Control"]
 fn main() -> Result<(), Box<dyn std::error::Error>> {
     let words: Vec<String> = std::env::args().skip(1).collect(); // private, understood
     let has_word = |word: &str| words.iter().any(|said| said == word);
-    let lines: Vec<String> = io::stdin().lock().lines().collect::<Result<_, _>>()?;
-    let field = |side: char, name: &str| {
+    let lines: Vec<_> = io::stdin().lock().split(b'\n').collect::<Result<_, _>>()?;
+    let field = |side: u8, name: &str| {
         sf::join(lines.iter().filter_map(|line| {
-            let (found, value) = line.strip_prefix(side)?.split_once(':')?;
-            (found.trim().eq_ignore_ascii_case(name)).then(|| sf::trim(value))
+            let line = line.strip_suffix(b"\r").unwrap_or(line);
+            let line = line.strip_prefix(&[side])?;
+            let (found, value) = line.split_at(line.iter().position(|byte| *byte == b':')?);
+            let is_it = sf::trim(found).eq_ignore_ascii_case(name.as_bytes());
+            is_it.then(|| sf::trim(&value[1..]))
         }))
     };
 
     // The RFCs of these fields cite RFC 8941, and have no field of a newer type.
     let parser = Parser::new().with_dialect(Dialect::Rfc8941);
-    let asked = parser.priority(field('>', "Priority")?);
-    let answered = parser.response_priority(field('<', "Priority")?);
+    let asked = parser.priority(field(b'>', "Priority")?);
+    let answered = parser.response_priority(field(b'<', "Priority")?);
     let answered = answered.or_else(Error::as_absent)?;
     let both = asked.or_else(Error::as_absent)?.merged_with(answered);
     let how = ["", ", incremental"][usize::from(both.incremental())];
     println!("urgency {}{how}", both.urgency());
 
-    let targets = TARGET_LIST.map(|name| field('<', name));
+    let targets = TARGET_LIST.map(|name| field(b'<', name));
     let targets: Vec<_> = targets.into_iter().collect::<Result<_, _>>()?;
     let cache = [Cache::Shared, Cache::Private][usize::from(has_word("private"))];
-    let ages = String::from_utf8(field('<', "Age")?)?;
-    // The first counts (RFC 9111 section 5.1), and one that is too great is not 0 (section 1.2.2).
-    let age: Result<u64, _> = ages.split(',').next().unwrap_or_default().trim().parse();
-    let is_too_great = matches!(&age, Err(error) if *error.kind() == IntErrorKind::PosOverflow);
     let response = Response {
-        age: age.unwrap_or([0, u64::MAX][usize::from(is_too_great)]),
+        age: sf::age(field(b'<', "Age")?).unwrap_or_default(),
         is_understood: has_word("understood"),
         ..Response::default()
     };
@@ -65,15 +63,13 @@ fn main() -> Result<(), Box<dyn std::error::Error>> {
         println!("by no targeted field: Cache-Control decides");
     }
 
-    let stored = decision.map_or(false, |decision| decision.may_store());
-    let forwarded = Forwarded::new(Forward::UriMiss).with_stored(stored);
+    let mut forwarded = Forwarded::new(Forward::UriMiss);
+    // Whether it is stored is not known if Cache-Control decides, which is not read.
+    forwarded.stored = decision.map(|decision| decision.may_store());
     let mut hop = Hop::new(NAME).with_outcome(forwarded);
     hop.ttl = decision.and_then(|it| it.fresh_for()).map(Into::into);
     // A hop that is added to malformed lines would be ignored with them: it is sent alone.
-    let path = match parser.append_hop(&hop, [field('<', "Cache-Status")?]) {
-        Err(Error::Refused(_)) => hop.serialize()?,
-        path => path?,
-    };
+    let path = parser.append_or_replace_hop(&hop, [field(b'<', "Cache-Status")?])?;
     println!("Cache-Status: {path}");
     Ok(())
 }

@@ -49,7 +49,8 @@ pub struct CacheRules {
 /// ```
 #[derive(Clone, Copy, Debug, Default, PartialEq, Eq, Hash)]
 pub struct Response {
-    /// Its age in seconds (RFC 9111 section 4.2.3).
+    /// Its age in seconds (RFC 9111 section 4.2.3); [`age`](crate::age()) reads a part of it, the
+    /// `Age` field.
     pub age: u64,
     /// The lifetime in seconds by `Expires` less `Date`, or of a heuristic, if one may apply, which
     /// counts if no directive sets a lifetime (sections 4.2.1 and 4.2.2). If a targeted field
@@ -58,6 +59,28 @@ pub struct Response {
     /// Whether the cache understands the status code and implements its requirements (section
     /// 5.2.2.3).
     pub is_understood: bool,
+}
+
+/// Reads the `Age` field of a response, for [`Response::age`]: the number of the first member (RFC
+/// 9111 section 5.1). A number above 2^31 counts as 2^31 (section 1.2.2). The text is that of the
+/// lines, joined; white space around the number is no part of it. `None` if there is no field, or
+/// if the first member is not one or more digits: a cache ignores the field then.
+///
+/// ```
+/// assert_eq!(sf::age("20, 70"), Some(20));
+/// assert_eq!(sf::age("99999999999999999999"), Some(1 << 31));
+/// assert_eq!((sf::age("-5"), sf::age("90x"), sf::age("")), (None, None, None));
+/// ```
+#[must_use]
+pub fn age(text: impl AsRef<[u8]>) -> Option<u64> {
+    let first = text.as_ref().split(|byte| *byte == b',').next()?;
+    let digits = crate::trim(first);
+    let is_number = !digits.is_empty() && digits.iter().all(u8::is_ascii_digit);
+    is_number.then(|| {
+        digits.iter().fold(0, |age, digit| {
+            (10 * age + u64::from(digit - b'0')).min(1 << 31)
+        })
+    })
 }
 
 /// How a cache may use a response (RFC 9111 sections 3 and 4).
@@ -80,6 +103,31 @@ pub enum Reuse {
     /// No directive sets a lifetime: it may be stored if its status code or
     /// [`Decision::allows_storing`] permits it, and a heuristic may apply (section 4.2.2).
     Unspecified,
+}
+
+impl Reuse {
+    /// Its name, which its `Display` is, too: the words of `sf_reuse_name`.
+    ///
+    /// ```
+    /// assert_eq!(sf::Reuse::NotStored.as_str(), "not stored");
+    /// assert_eq!(sf::Reuse::Fresh { seconds: 60 }.to_string(), "fresh");
+    /// ```
+    #[must_use]
+    pub fn as_str(self) -> &'static str {
+        match self {
+            Reuse::NotStored => "not stored",
+            Reuse::Fresh { .. } => "fresh",
+            Reuse::Stale => "stale",
+            Reuse::Revalidate => "revalidate",
+            Reuse::Unspecified => "unspecified",
+        }
+    }
+}
+
+impl fmt::Display for Reuse {
+    fn fmt(&self, f: &mut fmt::Formatter<'_>) -> fmt::Result {
+        f.pad(self.as_str())
+    }
 }
 
 /// The directive that decided (RFC 9111 section 5.2.2). Its `Display` is its name.
@@ -109,9 +157,15 @@ pub enum Cause {
     ProxyRevalidate,
 }
 
-impl fmt::Display for Cause {
-    fn fmt(&self, f: &mut fmt::Formatter<'_>) -> fmt::Result {
-        f.pad(match self {
+impl Cause {
+    /// Its name: the words of `sf_cause_name`.
+    ///
+    /// ```
+    /// assert_eq!(sf::Cause::InvalidMaxAge.as_str(), "invalid max-age");
+    /// ```
+    #[must_use]
+    pub fn as_str(self) -> &'static str {
+        match self {
             Cause::NoStore => "no-store",
             Cause::Private => "private",
             Cause::MustUnderstand => "must-understand",
@@ -123,7 +177,13 @@ impl fmt::Display for Cause {
             Cause::Expires => "expires",
             Cause::MustRevalidate => "must-revalidate",
             Cause::ProxyRevalidate => "proxy-revalidate",
-        })
+        }
+    }
+}
+
+impl fmt::Display for Cause {
+    fn fmt(&self, f: &mut fmt::Formatter<'_>) -> fmt::Result {
+        f.pad(self.as_str())
     }
 }
 
@@ -216,9 +276,12 @@ fn cause_of(by: u8) -> Option<Cause> {
 }
 
 impl Decision {
-    /// Whether the response may be stored, as far as the directives say: it is not
-    /// [`Reuse::NotStored`], and a directive sets a lifetime or permits storing it (RFC 9111
-    /// section 3).
+    /// Whether the response may be stored by what was decided (RFC 9111 section 3), whatever its
+    /// status code: it is not [`Reuse::NotStored`], and a directive or [`Response::lifetime`] sets
+    /// how long it is fresh, or [`Decision::allows_storing`] is set. Otherwise it is not to be
+    /// stored, or only if its status code is heuristically cacheable or, beside `no-cache`, if it
+    /// has `Expires`. If the request had `Authorization`, [`Decision::allows_authorized`] counts in
+    /// a shared cache, too.
     ///
     /// ```
     /// use sf::{Cache, CacheRules, Response};
@@ -353,6 +416,36 @@ pub enum RulesChoice {
     },
     /// Each field is ignored: `Cache-Control` and `Expires` decide.
     Fallback,
+}
+
+impl RulesChoice {
+    /// The index of the field that is obeyed in the target list, from 0, if there is one.
+    ///
+    /// ```
+    /// assert_eq!(sf::select_rules(["a,", "no-store"]).unwrap().index(), Some(1));
+    /// assert_eq!(sf::select_rules(["a,"]).unwrap().index(), None);
+    /// ```
+    #[must_use]
+    pub fn index(&self) -> Option<usize> {
+        match self {
+            RulesChoice::Field { index, .. } => Some(*index),
+            RulesChoice::Fallback => None,
+        }
+    }
+
+    /// The directives of that field, if there is one.
+    ///
+    /// ```
+    /// let choice = sf::select_rules(["a,", "no-store"]).unwrap();
+    /// assert!(choice.rules().unwrap().policy.no_store);
+    /// ```
+    #[must_use]
+    pub fn rules(&self) -> Option<CacheRules> {
+        match self {
+            RulesChoice::Field { rules, .. } => Some(*rules),
+            RulesChoice::Fallback => None,
+        }
+    }
 }
 
 impl Parser {

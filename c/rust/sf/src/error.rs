@@ -75,6 +75,133 @@ impl Refusal {
     }
 }
 
+/// The line that a refusal is in, of lines that were joined, and the place in it: see
+/// [`Refusal::line`]. Both are counted from 0; in messages, lines are counted from 1.
+#[derive(Clone, Copy, Debug, Default, PartialEq, Eq, Hash)]
+pub struct LinePlace {
+    /// The index of the line.
+    pub line: usize,
+    /// The offset in the line; its length if the place is after it.
+    pub offset: usize,
+}
+
+impl Refusal {
+    /// The line of a refusal, and the place in it, if the refused text is these lines, joined by
+    /// [`join`](crate::join()) in this order. Without lines both are 0.
+    ///
+    /// ```
+    /// let lines = ["a, b", "c, (d e, f"];
+    /// let text = sf::join(lines).unwrap();
+    /// let refusal = sf::check(sf::Kind::List, text).unwrap_err().refusal().unwrap();
+    /// assert_eq!(refusal.line(lines), sf::LinePlace { line: 1, offset: 7 });
+    /// ```
+    #[must_use]
+    pub fn line(&self, lines: impl IntoIterator<Item = impl AsRef<[u8]>>) -> LinePlace {
+        let mut left = usize::try_from(self.offset).unwrap_or(usize::MAX);
+        let mut place = LinePlace::default();
+        let mut before = 0; // the length of the line so far
+        for (line, bytes) in lines.into_iter().enumerate() {
+            if line > 0 {
+                if left < before + 2 {
+                    break;
+                }
+                left -= before + 2;
+            }
+            before = bytes.as_ref().len();
+            let offset = left.min(before);
+            place = LinePlace { line, offset };
+        }
+        place
+    }
+
+    /// The error message, then at most so many bytes of the text around the offset, with a caret
+    /// below it. So it has a bound, whatever the length of the text. Give the text that was
+    /// refused. Bytes that are not printable are question marks there.
+    ///
+    /// ```
+    /// let text = "1 2";
+    /// let refusal = sf::check(sf::Kind::Item, text).unwrap_err().refusal().unwrap();
+    /// assert_eq!(
+    ///     refusal.excerpt(text, 2).to_string(),
+    ///     "byte 0x32 '2' at place 2, expected a space or the end\n 2\n ^"
+    /// );
+    /// ```
+    #[must_use]
+    pub fn excerpt<'a>(&self, text: &'a (impl AsRef<[u8]> + ?Sized), most: usize) -> Excerpt<'a> {
+        Excerpt {
+            refusal: *self,
+            line: None,
+            text: text.as_ref(),
+            most,
+        }
+    }
+
+    /// The same of the line that the refusal is in, of lines that were joined by
+    /// [`join`](crate::join()) in this order. Both places in the message are in that line, not in
+    /// the joined text, and from 0; the line is counted from 1.
+    ///
+    /// ```
+    /// let lines = ["a, b", "c, (d e, f"];
+    /// let text = sf::join(lines).unwrap();
+    /// let refusal = sf::check(sf::Kind::List, text).unwrap_err().refusal().unwrap();
+    /// assert_eq!(
+    ///     refusal.excerpt_of_line(&lines, 8).to_string(),
+    ///     "byte 0x2c ',' at place 7, expected a token character, `)`, `;` or a space\n\
+    ///      line 2, place 7:\n\
+    ///      \x20(d e, f\n\
+    ///      \x20    ^"
+    /// );
+    /// ```
+    #[must_use]
+    pub fn excerpt_of_line<'a>(&self, lines: &'a [impl AsRef<[u8]>], most: usize) -> Excerpt<'a> {
+        let place = self.line(lines);
+        Excerpt {
+            refusal: Refusal {
+                offset: place.offset as u64,
+                ..*self
+            },
+            line: Some(place.line),
+            text: lines.get(place.line).map_or(&[], AsRef::as_ref),
+            most,
+        }
+    }
+}
+
+/// A refusal with a part of its text: see [`Refusal::excerpt`].
+///
+/// ```
+/// let refusal = sf::check(sf::Kind::Item, "a\nb").unwrap_err().refusal().unwrap();
+/// assert!(refusal.excerpt("a\nb", 2).to_string().ends_with("\na?\n ^"));
+/// ```
+#[derive(Clone, Copy, Debug)]
+pub struct Excerpt<'a> {
+    refusal: Refusal,
+    line: Option<usize>,
+    text: &'a [u8],
+    most: usize,
+}
+
+impl fmt::Display for Excerpt<'_> {
+    fn fmt(&self, f: &mut fmt::Formatter<'_>) -> fmt::Result {
+        let length = self.text.len();
+        let at = usize::try_from(self.refusal.offset).map_or(length, |offset| offset.min(length));
+        let from = at
+            .saturating_sub(self.most / 2)
+            .min(length.saturating_sub(self.most));
+        let shown = &self.text[from..length.min(from.saturating_add(self.most))];
+        write!(f, "{}", self.refusal)?;
+        if let Some(line) = self.line {
+            write!(f, "\nline {}, place {}:", line + 1, self.refusal.offset)?;
+        }
+        f.write_str("\n")?;
+        for byte in shown {
+            let is_printable = matches!(byte, b' '..=b'~');
+            write!(f, "{}", if is_printable { char::from(*byte) } else { '?' })?;
+        }
+        write!(f, "\n{:>1$}", '^', at - from + 1)
+    }
+}
+
 impl From<&raw::Refusal> for Refusal {
     fn from(refusal: &raw::Refusal) -> Refusal {
         Refusal {

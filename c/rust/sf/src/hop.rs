@@ -278,6 +278,23 @@ impl<'a> From<Forwarded<'a>> for Outcome<'a> {
 }
 
 impl<'a> Outcome<'a> {
+    /// Its name, which its `Display` is, too: the words of `sf_outcome_name`.
+    ///
+    /// ```
+    /// let forwarded = sf::Forwarded::new(sf::Forward::Miss);
+    /// assert_eq!(sf::Outcome::from(forwarded).as_str(), "forwarded");
+    /// assert_eq!(sf::Outcome::Conflict(forwarded).to_string(), "hit and forwarded");
+    /// ```
+    #[must_use]
+    pub fn as_str(self) -> &'static str {
+        match self {
+            Outcome::Unsaid => "unsaid",
+            Outcome::Hit => "hit",
+            Outcome::Forwarded(_) => "forwarded",
+            Outcome::Conflict(_) => "hit and forwarded",
+        }
+    }
+
     /// What the field says of the forwarded request, if `fwd` is present.
     ///
     /// ```
@@ -291,6 +308,12 @@ impl<'a> Outcome<'a> {
             Outcome::Forwarded(forwarded) | Outcome::Conflict(forwarded) => Some(forwarded),
             Outcome::Unsaid | Outcome::Hit => None,
         }
+    }
+}
+
+impl fmt::Display for Outcome<'_> {
+    fn fmt(&self, f: &mut fmt::Formatter<'_>) -> fmt::Result {
+        f.pad(self.as_str())
     }
 }
 

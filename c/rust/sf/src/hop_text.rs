@@ -117,7 +117,7 @@ impl Parser {
         hop: &Hop<'_>,
         lines: impl IntoIterator<Item = impl AsRef<[u8]>>,
     ) -> Result<String, Error> {
-        let text = crate::join(lines.into_iter().filter(|line| !line.as_ref().is_empty()))?;
+        let text = crate::join(lines)?;
         let mut bytes = Vec::new();
         let hop = raw_hop(hop, &mut bytes)?;
         let (seed, dialect) = (self.seed(), self.dialect());
@@ -125,13 +125,39 @@ impl Parser {
             ffi::cache_status_append(&seed, dialect, &text, &hop, &bytes, buffer)
         })
     }
+
+    /// Appends a hop, or writes it alone if the lines are malformed, by the dialect of the parser:
+    /// see [`Hop::append_or_replace`].
+    ///
+    /// # Errors
+    ///
+    /// Those of [`Hop::append_or_replace`].
+    ///
+    /// ```
+    /// let hop = sf::Hop::new(sf::TokenRef::constant("edge")).with_outcome(sf::Outcome::Hit);
+    /// let old = sf::Parser::new().with_dialect(sf::Dialect::Rfc8941);
+    /// assert_eq!(old.append_or_replace_hop(&hop, ["a;x=@1"]).unwrap(), "edge;hit");
+    /// ```
+    pub fn append_or_replace_hop(
+        &self,
+        hop: &Hop<'_>,
+        lines: impl IntoIterator<Item = impl AsRef<[u8]>>,
+    ) -> Result<String, Error> {
+        match self.append_hop(hop, lines) {
+            Err(Error::Refused(_)) => self.serialize_hop(hop),
+            text => text,
+        }
+    }
 }
 
 #[cfg(feature = "std")]
 impl Hop<'_> {
     /// Appends this hop to the lines of a Cache-Status field that came from the caches nearer the
-    /// origin, and returns the canonical text of all, which is sent in their place. Empty lines are
-    /// left out.
+    /// origin, and returns the canonical text of all, which is sent in their place. The lines are
+    /// joined by [`join`](crate::join()), so an empty line beside others is a member without a
+    /// value, as in `a, , b`, which is malformed (RFC 9110 section 5.3, RFC 9651 section 4.2); no
+    /// line, and an empty one alone, are a List without members. A member that names no cache stays
+    /// where it is.
     ///
     /// # Errors
     ///
@@ -151,6 +177,25 @@ impl Hop<'_> {
         lines: impl IntoIterator<Item = impl AsRef<[u8]>>,
     ) -> Result<String, Error> {
         Parser::new().append_hop(self, lines)
+    }
+
+    /// Appends this hop, as [`Hop::append_to`] does, or writes it alone if the lines are malformed.
+    /// Either is sent in the place of the lines.
+    ///
+    /// # Errors
+    ///
+    /// [`Error::Invalid`] if the outcome is [`Outcome::Conflict`], [`Error::OutOfMemory`].
+    ///
+    /// ```
+    /// let hop = sf::Hop::new(sf::TokenRef::constant("edge")).with_outcome(sf::Outcome::Hit);
+    /// assert_eq!(hop.append_or_replace(["a; fwd=miss"]).unwrap(), "a;fwd=miss, edge;hit");
+    /// assert_eq!(hop.append_or_replace(["origin;;"]).unwrap(), "edge;hit");
+    /// ```
+    pub fn append_or_replace(
+        &self,
+        lines: impl IntoIterator<Item = impl AsRef<[u8]>>,
+    ) -> Result<String, Error> {
+        Parser::new().append_or_replace_hop(self, lines)
     }
 
     /// Writes the text of a Cache-Status field whose only member is this hop: a field line of its

@@ -63,8 +63,8 @@ mod serde;
 
 pub use bare::{GenericBareItem, RefBareItem};
 pub use date::Date;
-pub use decision::{Cache, CacheRules, Cause, Decision, Response, Reuse, RulesChoice};
-pub use error::{Error, Refusal};
+pub use decision::{age, Cache, CacheRules, Cause, Decision, Response, Reuse, RulesChoice};
+pub use error::{Error, Excerpt, LinePlace, Refusal};
 pub use event::{Event, Events};
 pub use hop::{Forward, Forwarded, FwdStatus, Hop, Name, Outcome};
 pub use kind::{Dialect, Kind};

@@ -362,7 +362,8 @@ mod owned {
     }
 
     /// Joins the lines of a field, with a comma and a space between two (RFC 9651 section 4.2). The
-    /// result of no lines is empty.
+    /// result of no lines is empty. An empty line is a line: beside others it gives `a, , b`, which
+    /// is malformed (RFC 9110 section 5.3).
     ///
     /// # Errors
     ///

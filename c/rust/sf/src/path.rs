@@ -118,6 +118,18 @@ impl Path {
         self.served_by
     }
 
+    /// The hop that served the response: see [`Path::served_by`].
+    ///
+    /// ```
+    /// let path = sf::Path::parse("a;hit, b;fwd=miss").unwrap();
+    /// assert_eq!(path.served_hop().unwrap().name.as_str(), "a");
+    /// assert!(sf::Path::parse("a;fwd=miss").unwrap().served_hop().is_none());
+    /// ```
+    #[must_use]
+    pub fn served_hop(&self) -> Option<Hop<'_>> {
+        self.hops().nth(self.served_by?)
+    }
+
     fn slice(&self, span: raw::Span) -> Option<&str> {
         self.bytes.get(span.at..span.at.checked_add(span.length)?)
     }

@@ -2,9 +2,9 @@
 //! Cache-Status.
 
 use sf::{
-    equal, select, select_rules, Cache, CacheRules, Cause, Choice, Dialect, Error, Forward,
-    Forwarded, FwdStatus, Hop, Kind, Name, Outcome, Parser, Path, Policy, Priority, Response,
-    ResponsePriority, Reuse, RulesChoice, Seconds, StringRef, TokenRef, Urgency,
+    equal, select, select_rules, Cache, CacheRules, Cause, Choice, Decision, Dialect, Error,
+    Forward, Forwarded, FwdStatus, Hop, Kind, Name, Outcome, Parser, Path, Policy, Priority,
+    Response, ResponsePriority, Reuse, RulesChoice, Seconds, StringRef, TokenRef, Urgency,
 };
 
 #[test]
@@ -42,6 +42,95 @@ fn priorities_are_merged() {
 }
 
 #[test]
+fn ages_are_read() {
+    let most = Some(1 << 31);
+    for (text, seconds) in [
+        ("20", Some(20)),
+        ("0", Some(0)),
+        ("00020", Some(20)),
+        (" \t20\t ", Some(20)),
+        ("20, 70", Some(20)),
+        ("20\t,x", Some(20)),
+        ("20,", Some(20)),
+        ("2147483647", Some(2_147_483_647)),
+        ("2147483648", most),
+        ("2147483649", most),
+        ("18446744073709551616", most),
+        ("99999999999999999999999999999999", most),
+        ("99999999999999999999x", None),
+        ("", None),
+        (" \t", None),
+        ("-5", None),
+        ("+5", None),
+        ("90x", None),
+        ("1.5", None),
+        ("2 0", None),
+        (", 20", None),
+        ("x, 20", None),
+        ("\"20\"", None),
+        ("20\0", None),
+    ] {
+        assert_eq!(sf::age(text), seconds, "{text}");
+    }
+}
+
+/// `c/tests/few_arguments.c` has the same rows.
+#[test]
+fn what_may_be_stored() {
+    let fresh = Reuse::Fresh { seconds: 60 };
+    for (reuse, by, allows_storing, may) in [
+        (Reuse::NotStored, Some(Cause::NoStore), false, false),
+        (Reuse::NotStored, Some(Cause::NoStore), true, false),
+        (Reuse::NotStored, Some(Cause::Private), true, false),
+        (Reuse::NotStored, Some(Cause::MustUnderstand), true, false),
+        (fresh, Some(Cause::MaxAge), true, true),
+        (fresh, Some(Cause::Expires), false, true),
+        (fresh, Some(Cause::SMaxage), true, true),
+        (Reuse::Stale, Some(Cause::MaxAge), true, true),
+        (Reuse::Stale, Some(Cause::Expires), false, true),
+        (Reuse::Stale, Some(Cause::InvalidMaxAge), false, true),
+        (Reuse::Revalidate, Some(Cause::NoCache), false, false),
+        (Reuse::Revalidate, Some(Cause::NoCache), true, true),
+        (Reuse::Revalidate, Some(Cause::MustRevalidate), false, true),
+        (Reuse::Revalidate, Some(Cause::ProxyRevalidate), false, true),
+        (Reuse::Revalidate, Some(Cause::SMaxage), true, true),
+        (Reuse::Revalidate, Some(Cause::InvalidSMaxage), false, true),
+        (Reuse::Unspecified, None, false, false),
+        (Reuse::Unspecified, None, true, true),
+    ] {
+        let decision = Decision {
+            reuse,
+            by,
+            allows_storing,
+            allows_authorized: false,
+        };
+        assert_eq!(decision.may_store(), may, "{decision:?}");
+    }
+}
+
+/// `c/tests/few_arguments.c` has the same rows.
+#[test]
+fn excerpts_of_lines() {
+    let lines = ["a, b", "", "c, (d e, f"];
+    let mut refusal = sf::check(Kind::Item, "1 2").unwrap_err().refusal().unwrap();
+    let mut shown = |offset, most| {
+        refusal.offset = offset;
+        refusal.excerpt_of_line(&lines, most).to_string()
+    };
+    let head = |place| format!("byte 0x32 '2' at place {place}, expected a space or the end\n");
+    assert_eq!(shown(2, 20), head(2) + "line 1, place 2:\na, b\n  ^");
+    assert_eq!(shown(5, 20), head(4) + "line 1, place 4:\na, b\n    ^");
+    assert_eq!(shown(6, 20), head(0) + "line 2, place 0:\n\n^");
+    assert_eq!(shown(15, 4), head(7) + "line 3, place 7:\n e, \n  ^");
+    assert_eq!(shown(99, 4), head(10) + "line 3, place 10:\ne, f\n    ^");
+    assert_eq!(shown(u64::MAX, 0), head(10) + "line 3, place 10:\n\n^");
+    let none: [&str; 0] = [];
+    let shown = refusal.excerpt_of_line(&none, 4).to_string();
+    assert_eq!(shown, head(0) + "line 1, place 0:\n\n^");
+    assert_eq!(refusal.line(none), sf::LinePlace::default());
+}
+
+#[test]
 fn a_refused_field_counts_as_absent() {
     let refused = Priority::parse("u=1,").or_else(Error::as_absent);
     assert_eq!(refused, Ok(Priority::default()));
@@ -65,7 +154,7 @@ fn a_hop_is_appended() {
     assert_eq!(of(&[]), own);
     assert_eq!(of(&[""]), own);
     assert_eq!(of(&["a;hit"]), format!("a;hit, {own}"));
-    assert_eq!(of(&["a", "", "b, c"]), format!("a, b, c, {own}"));
+    assert_eq!(of(&["a, 7"]), format!("a, 7, {own}"));
     assert_eq!(of(&["a; hit,b"]), format!("a;hit, b, {own}"));
     let path = Path::parse(of(&["a", "b"])).unwrap();
     assert_eq!(path.hops().last(), Some(hop));
@@ -73,11 +162,21 @@ fn a_hop_is_appended() {
     for text in ["a;hit,", "a b", "a;;b", "(", "\u{e9}"] {
         let refused = hop.append_to([text]).unwrap_err();
         assert_eq!(refused.as_absent(), Ok(std::string::String::new()));
+        assert_eq!(hop.append_or_replace([text]).unwrap(), own);
+    }
+    // An empty line is one, as it is for join.
+    for lines in [&["a", ""], &["", "a"], &["", ""]] {
+        let joined = sf::join(lines).unwrap();
+        let refused = hop.append_to(lines);
+        assert_eq!(refused, hop.append_to([joined]));
+        assert!(matches!(refused, Err(Error::Refused(_))));
+        assert_eq!(hop.append_or_replace(lines).unwrap(), own);
     }
     // Only one of hit and fwd should appear (RFC 9211 section 2.1).
     let both = Hop::new(TokenRef::constant("here")).with_outcome(Outcome::Conflict(forwarded));
     assert_eq!(both.append_to(["a;hit"]), Err(Error::Invalid));
     assert_eq!(both.append_to(["a;hit,"]), Err(Error::Invalid));
+    assert_eq!(both.append_or_replace(["a;hit,"]), Err(Error::Invalid));
     let old = Parser::new().with_dialect(Dialect::Rfc8941);
     assert!(old.append_hop(&hop, ["a;x=@1"]).is_err());
     assert_eq!(of(&["a;x=@1"]), format!("a;x=@1, {own}"));
