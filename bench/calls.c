@@ -10,6 +10,8 @@
  *   to scan  that time over the time of the scanner alone, sf_bench_view of crates/sf_bench
  *   to walk  that time over the time of sfparse for a walk that decodes nothing, if the program is
  *            built with it: see Makefile
+ *   floor    of a call that is measured against another one: that call, on the same text, and the
+ *            time over its time. sf_check* is sf_check on the longest prefix that is well-formed
  *   peak     the most bytes that one call had allocated at a time, over the bytes of its text, for
  *            the text of the set with the greatest ratio
  *   blocks   the most calls of malloc and realloc that one call made
@@ -41,6 +43,7 @@ static const double ROUND_NS = 2e7;
 struct text {
   char letter;
   size_t length;
+  size_t whole; /* of the longest prefix that is well-formed */
   unsigned char *bytes;
 };
 
@@ -121,6 +124,12 @@ static void check(const struct text *t) {
   status = sf_check(&seed, SF_RFC9651, kind_of(t), t->bytes, t->length, &refusal);
 }
 
+/* Of the longest prefix that is well-formed. */
+static void check_prefix(const struct text *t) {
+  sf_refusal refusal;
+  status = sf_check(&seed, SF_RFC9651, kind_of(t), t->bytes, t->whole, &refusal);
+}
+
 static void parse(const struct text *t) {
   sf_sizes sizes;
   sf_refusal refusal;
@@ -142,10 +151,61 @@ static void normalise(const struct text *t) {
                         &required, &refusal);
 }
 
+static void equal(const struct text *t) {
+  uint32_t equal_out;
+  sf_refusal refusal;
+  status = sf_equal(&seed, SF_RFC9651, kind_of(t), t->bytes, t->length, t->bytes, t->length,
+                    &equal_out, &refusal);
+}
+
+/* The nodes of the text, written. */
+static void write_nodes(const struct text *t) {
+  static const void *last;
+  static sf_sizes sizes;
+  static sf_node own[64];
+  static unsigned char decoded[256];
+  if (last != t->bytes) {
+    sf_refusal refusal;
+    status = sf_parse(&seed, SF_RFC9651, kind_of(t), t->bytes, t->length, own, 64, decoded,
+                      sizeof decoded, &sizes, &refusal);
+    if (status != SF_OK)
+      abort();
+    last = t->bytes;
+  }
+  size_t required, invalid;
+  status = sf_write(&seed, SF_RFC9651, kind_of(t), own, sizes.nodes, t->bytes, t->length, decoded,
+                    sizes.bytes, bytes, bytes_capacity, &required, &invalid);
+}
+
+static void join(const struct text *t) {
+  sf_joined joined = {0, 0, 0};
+  status = sf_join(t->bytes, t->length, bytes, bytes_capacity, &joined);
+}
+
 static void priority(const struct text *t) {
   sf_priority_flags flags;
   sf_refusal refusal;
   status = sf_priority(&seed, t->bytes, t->length, &flags, &refusal);
+}
+
+static void response_priority(const struct text *t) {
+  sf_response_priority_flags flags;
+  sf_refusal refusal;
+  status = sf_response_priority(&seed, SF_RFC9651, t->bytes, t->length, &flags, &refusal);
+}
+
+static void priority_text(const struct text *t) {
+  static const sf_priority_flags flags = {.urgency = 2, .incremental = 1, .has_urgency = 1,
+                                          .has_incremental = 1};
+  size_t required;
+  (void)t;
+  status = sf_priority_text(&flags, bytes, bytes_capacity, &required);
+}
+
+static void cache_rules(const struct text *t) {
+  sf_rules rules;
+  sf_refusal refusal;
+  status = sf_cache_rules(&seed, SF_RFC9651, t->bytes, t->length, &rules, &refusal);
 }
 
 static void cache_control(const struct text *t) {
@@ -175,24 +235,38 @@ static void priority_change(const struct text *t) {
                               &refusal);
 }
 
-/* The first hop of the text. */
+/* The first hop of a text, and the bytes of all of them. */
+static const void *hop_of;
+static sf_hop first_hop;
+static unsigned char hop_bytes[256];
+
+static void read_hop(const struct text *t) {
+  if (hop_of == t->bytes)
+    return;
+  sf_path path;
+  sf_refusal refusal;
+  status = sf_cache_status(&seed, t->bytes, t->length, hops, nodes_capacity, bytes, bytes_capacity,
+                           &path, &refusal);
+  if (status != SF_OK || path.bytes > sizeof hop_bytes)
+    abort();
+  first_hop = hops[0];
+  memcpy(hop_bytes, bytes, path.bytes);
+  hop_of = t->bytes;
+}
+
 static void hop_text(const struct text *t) {
-  static const void *last;
-  static sf_hop hop;
-  static unsigned char own[256];
-  if (last != t->bytes) {
-    sf_path path;
-    sf_refusal refusal;
-    status = sf_cache_status(&seed, t->bytes, t->length, hops, nodes_capacity, bytes,
-                             bytes_capacity, &path, &refusal);
-    if (status != SF_OK || path.bytes > sizeof own)
-      abort();
-    hop = hops[0];
-    memcpy(own, bytes, path.bytes);
-    last = t->bytes;
-  }
+  read_hop(t);
   size_t required;
-  status = sf_hop_text(&seed, &hop, own, sizeof own, bytes, bytes_capacity, &required);
+  status = sf_hop_text(&seed, &first_hop, hop_bytes, sizeof hop_bytes, bytes, bytes_capacity,
+                       &required);
+}
+
+static void append_hop(const struct text *t) {
+  read_hop(t);
+  size_t required;
+  sf_refusal refusal;
+  status = sf_cache_status_append(&seed, SF_RFC9651, t->bytes, t->length, &first_hop, hop_bytes,
+                                  sizeof hop_bytes, bytes, bytes_capacity, &required, &refusal);
 }
 
 #ifdef WITH_SFPARSE
@@ -284,26 +358,63 @@ static double memory_of(const struct set *set, call f, size_t *blocks) {
   return greatest;
 }
 
-static void row(const struct set *set, const char *name, call f, double scanned, double walked) {
-  double ns = time_of(set, f);
-  printf("| %s | %.0f | %.2f | ", name, ns, ns / scanned);
+/* A call, and the one that it is measured against, if there is one. */
+struct own {
+  const char *name;
+  call call;
+  const char *floor;
+  call floor_call;
+};
+
+static void row(const struct set *set, const struct own *own, double scanned, double walked) {
+  double ns = time_of(set, own->call);
+  printf("| %s | %.0f | %.2f | ", own->name, ns, ns / scanned);
   if (walked > 0)
     printf("%.2f | ", ns / walked);
   else
     printf("- | ");
+  if (own->floor != NULL)
+    printf("%s %.2f | ", own->floor, ns / time_of(set, own->floor_call));
+  else
+    printf("- | ");
   size_t blocks;
-  double memory = memory_of(set, f, &blocks);
+  double memory = memory_of(set, own->call, &blocks);
   printf("%.1f | %zu |\n", memory, blocks);
 }
 
-/* A call that the texts of a set are for. */
-struct own {
-  const char *name;
-  call call;
-};
+/* The calls for texts of each kind. */
+static const struct own of_all[] = {{"sf_check", check, NULL, NULL},
+                                    {"sf_parse", parse, NULL, NULL},
+                                    {"sf_parse, 16 nodes", parse_few, "sf_check", check},
+                                    {"sf_normalise", normalise, NULL, NULL},
+                                    {NULL, NULL, NULL, NULL}};
+
+/* The same for malformed ones. */
+static const struct own of_malformed[] = {{"sf_check", check, "sf_check*", check_prefix},
+                                          {"sf_parse", parse, "sf_check*", check_prefix},
+                                          {"sf_parse, 16 nodes", parse_few, "sf_check*",
+                                           check_prefix},
+                                          {"sf_normalise", normalise, NULL, NULL},
+                                          {NULL, NULL, NULL, NULL}};
+
+/* Finds the longest prefix of each text that is well-formed, and returns whether one is shorter. */
+static int find_prefixes(struct set *set) {
+  int malformed = 0;
+  for (size_t i = 0; i < set->count; ++i) {
+    struct text *t = &set->texts[i];
+    t->whole = t->length;
+    check_prefix(t);
+    malformed |= status == SF_REFUSED;
+    while (status == SF_REFUSED && t->whole > 0) {
+      --t->whole;
+      check_prefix(t);
+    }
+  }
+  return malformed;
+}
 
 /* A table of the calls, with those that the texts of the set are for, up to one without a name. */
-static void table(const struct set *set, const struct own *own) {
+static void table(struct set *set, const struct own *own) {
   nodes_capacity = SF_NODES_SIZE(set->longest) + 1;
   bytes_capacity = SF_BYTES_SIZE(set->longest) + 1;
   nodes = malloc(nodes_capacity * sizeof *nodes);
@@ -319,13 +430,12 @@ static void table(const struct set *set, const struct own *own) {
          scanned);
   if (walked > 0)
     printf(", walk %.0f ns, scan to walk %.2f", walked, scanned / walked);
-  printf("\n\n| call | ns | to scan | to walk | peak | blocks |\n|---|---|---|---|---|---|\n");
-  row(set, "sf_check", check, scanned, walked);
-  row(set, "sf_parse", parse, scanned, walked);
-  row(set, "sf_parse, 16 nodes", parse_few, scanned, walked);
-  row(set, "sf_normalise", normalise, scanned, walked);
+  printf("\n\n| call | ns | to scan | to walk | floor | peak | blocks |\n"
+         "|---|---|---|---|---|---|---|\n");
+  for (const struct own *all = find_prefixes(set) ? of_malformed : of_all; all->name != NULL; ++all)
+    row(set, all, scanned, walked);
   for (; own->name != NULL; ++own)
-    row(set, own->name, own->call, scanned, walked);
+    row(set, own, scanned, walked);
   free(nodes);
   free(hops);
   free(bytes);
@@ -446,16 +556,46 @@ static void add_strings(struct set *set, size_t count) {
   free(all);
 }
 
-static const struct own none[] = {{NULL, NULL}};
+#define NO_MORE {NULL, NULL, NULL, NULL}
+#define OF_SMALL                                                                                   \
+  {"sf_equal", equal, NULL, NULL}, {"sf_write", write_nodes, NULL, NULL}, {                        \
+    "sf_join", join, NULL, NULL                                                                    \
+  }
+
+static const struct own none[] = {NO_MORE};
+static const struct own of_inputs[] = {OF_SMALL, NO_MORE};
 static const struct own of_priorities[] = {
-    {"sf_priority", priority}, {"sf_priority_change", priority_change}, {NULL, NULL}};
-static const struct own of_policies[] = {{"sf_cache_control", cache_control}, {NULL, NULL}};
-static const struct own of_paths[] = {{"sf_cache_status", cache_status},
-                                      {"sf_cache_status, 8 hops", cache_status_few},
-                                      {NULL, NULL}};
-static const struct own of_hops[] = {{"sf_hop_text", hop_text}, {NULL, NULL}};
-static const struct own of_dicts[] = {
-    {"sf_priority", priority}, {"sf_cache_control", cache_control}, {NULL, NULL}};
+    OF_SMALL,
+    {"sf_priority", priority, NULL, NULL},
+    {"sf_response_priority", response_priority, NULL, NULL},
+    {"sf_priority_text", priority_text, NULL, NULL},
+    {"sf_priority_change", priority_change, "sf_priority", priority},
+    NO_MORE};
+static const struct own of_policies[] = {{"sf_cache_control", cache_control, NULL, NULL},
+                                         {"sf_cache_rules", cache_rules, NULL, NULL},
+                                         NO_MORE};
+static const struct own of_paths[] = {OF_SMALL,
+                                      {"sf_cache_status", cache_status, NULL, NULL},
+                                      {"sf_cache_status, 8 hops", cache_status_few, "sf_check",
+                                       check},
+                                      {"sf_cache_status_append", append_hop, NULL, NULL},
+                                      NO_MORE};
+static const struct own of_hops[] = {{"sf_cache_status", cache_status, NULL, NULL},
+                                     {"sf_hop_text", hop_text, "sf_cache_status", cache_status},
+                                     NO_MORE};
+static const struct own of_long_paths[] = {{"sf_cache_status", cache_status, NULL, NULL},
+                                           {"sf_cache_status, 8 hops", cache_status_few, "sf_check",
+                                            check},
+                                           NO_MORE};
+static const struct own of_malformed_paths[] = {
+    {"sf_cache_status", cache_status, "sf_check*", check_prefix},
+    {"sf_cache_status, 8 hops", cache_status_few, "sf_check*", check_prefix},
+    NO_MORE};
+static const struct own of_malformed_dicts[] = {
+    {"sf_priority", priority, "sf_check*", check_prefix},
+    {"sf_cache_control", cache_control, "sf_check*", check_prefix},
+    {"sf_priority_change", priority_change, "sf_check*", check_prefix},
+    NO_MORE};
 
 int main(int argc, char **argv) {
   struct set *set = begin("Priority fields");
@@ -472,7 +612,7 @@ int main(int argc, char **argv) {
   table(set, of_hops);
   set = begin("Signature-Input fields");
   add_all(set, 'd', inputs);
-  table(set, none);
+  table(set, of_inputs);
   set = begin("A List of 512 Inner Lists");
   add_inner_lists(set, 512);
   table(set, none);
@@ -481,7 +621,7 @@ int main(int argc, char **argv) {
   table(set, none);
   set = begin("A List of 64 KiB of a;b,");
   add_repeated(set, 'l', "a;b,", 64 * KIB);
-  table(set, of_paths);
+  table(set, of_long_paths);
   set = begin("A Dictionary of 8,192 keys");
   add_keys(set, 8 * KIB, 0);
   table(set, none);
@@ -491,10 +631,10 @@ int main(int argc, char **argv) {
   set = begin("A malformed List of 64 KiB");
   add_repeated(set, 'l', "a;b,", 64 * KIB);
   set->texts[0].bytes[set->longest - 1] = '=';
-  table(set, of_paths);
+  table(set, of_malformed_paths);
   set = begin("A malformed Dictionary of 8 KiB of a,");
   add_repeated(set, 'd', "a,", 8 * KIB + 1);
-  table(set, of_dicts);
+  table(set, of_malformed_dicts);
   for (int i = 1; i < argc; ++i) {
     set = begin(argv[i]);
     add_file(set, argv[i]);

@@ -1,6 +1,6 @@
 # Installs what this folder has, without compiling anything: see install.mk for the settings.
 VERSION = @VERSION@
-HEADER = include/sf.h
+HEADERS = include/sf.h include/sf_functions.h include/sf_inline.h
 ARCHIVE = lib/libsf.a
 SHARED = lib/libsf.so.0
 TEMPLATES = templates

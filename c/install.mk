@@ -1,5 +1,5 @@
 # Installs the library and, if PROGRAMS is set, the commands. Both c/Makefile and the Makefile of a
-# distributed tar file include this; they set HEADER, ARCHIVE, SHARED, TEMPLATES and VERSION, and may
+# distributed tar file include this; they set HEADERS, ARCHIVE, SHARED, TEMPLATES and VERSION, and may
 # set PROGRAMS, MANUALS and COMPLETIONS.
 #
 #   make install PREFIX=/usr LIBDIR=lib/x86_64-linux-gnu DESTDIR=root
@@ -24,7 +24,7 @@ FUNCTIONS = $(shell sed -n '/^\.SH NAME/{n;s/ .-.*//;s/,//g;p}' $(MANUALS)/sf.3)
 
 install: $(ARCHIVE) $(SHARED)
 	install -d $(DESTDIR)$(TO)/include $(LIB)/pkgconfig $(LIB)/cmake/sf
-	install -m 644 $(HEADER) $(DESTDIR)$(TO)/include/sf.h
+	install -m 644 $(HEADERS) $(DESTDIR)$(TO)/include
 	install -m 644 $(ARCHIVE) $(LIB)/libsf.a
 	install -m 644 $(SHARED) $(LIB)/libsf.so.0
 	ln -sf libsf.so.0 $(LIB)/libsf.so
@@ -50,7 +50,7 @@ endif
 
 # Removes the files, and the folders that are sf's alone.
 uninstall:
-	rm -f $(DESTDIR)$(TO)/include/sf.h $(LIB)/libsf.a $(LIB)/libsf.so.0 $(LIB)/libsf.so \
+	rm -f $(addprefix $(DESTDIR)$(TO)/include/,$(notdir $(HEADERS))) $(LIB)/libsf.a $(LIB)/libsf.so.0 $(LIB)/libsf.so \
 	  $(LIB)/pkgconfig/sf.pc $(LIB)/cmake/sf/sf-config.cmake $(LIB)/cmake/sf/sf-config-version.cmake
 	if [ -d $(LIB)/cmake/sf ]; then rmdir --ignore-fail-on-non-empty $(LIB)/cmake/sf; fi
 ifdef MANUALS

@@ -5,6 +5,17 @@ _sf_words() {
   mapfile -t COMPREPLY < <(compgen -W "$1" -- "$2")
 }
 
+# The options among these that were not given before the cursor.
+_sf_options() {
+  local option
+  for option in $1; do
+    case " ${COMP_WORDS[*]:2:COMP_CWORD-2} " in
+    *" $option "*) ;;
+    *) printf '%s ' "$option" ;;
+    esac
+  done
+}
+
 _sf() {
   local word=${COMP_WORDS[COMP_CWORD]}
   local before=${COMP_WORDS[COMP_CWORD - 1]}
@@ -25,19 +36,16 @@ _sf() {
     case $before in
     --kind) _sf_words 'item list dict' "$word" ;;
     --dialect) _sf_words 'rfc9651 rfc8941' "$word" ;;
-    *)
-      local option options=
-      for option in --kind --dialect; do
-        case " ${COMP_WORDS[*]:2:COMP_CWORD-2} " in
-        *" $option "*) ;;
-        *) options="$options $option" ;;
-        esac
-      done
-      _sf_words "$options" "$word"
-      ;;
+    *) _sf_words "$(_sf_options '--kind --dialect')" "$word" ;;
     esac
     ;;
-  targeted) _sf_words 'cdn-cache-control' "$word" ;;
+  targeted)
+    case $before in
+    --fallback) _sf_words 'cache-control' "$word" ;;
+    --age) ;;
+    *) _sf_words "$(_sf_options '--fallback --age') cdn-cache-control" "$word" ;;
+    esac
+    ;;
   esac
 }
 

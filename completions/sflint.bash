@@ -4,11 +4,11 @@ _sflint() {
   local word=${COMP_WORDS[COMP_CWORD]}
   local before=${COMP_WORDS[COMP_CWORD - 1]}
   COMPREPLY=()
-  # what --field takes has no list of words
-  if [ "$before" = --field ] || [ "$before" = = ]; then
-    return
-  fi
-  mapfile -t COMPREPLY < <(compgen -W '--field --quiet --help --version' -- "$word")
+  # what these take has no list of words
+  case $before in
+    --field | --age | --target | =) return ;;
+  esac
+  mapfile -t COMPREPLY < <(compgen -W '--field --quiet --decide --age --target --help --version' -- "$word")
 }
 
 complete -F _sflint sflint

@@ -9,117 +9,111 @@
  *   by CDN-Cache-Control: fresh for 600 s (max-age)
  *   Cache-Status: ExampleCDN;fwd=uri-miss;ttl=600;stored
  *
- * With the word private it is a private cache; with understood it understands the status code. Left
- * out: method, status code, Authorization, Vary, the time since the request (RFC 9111 sections 3, 4
- * and 4.2.3). Status 3 if memory, the input or the output fails, or a field is too long. */
+ * With the word private it is a private cache; with understood it understands the status code. What
+ * is malformed is told on standard error, with the number of its line. Left out: method, status
+ * code, Authorization, Vary (RFC 9111 sections 3 and 4). Status 3 if memory, the input or the
+ * output fails, or the input is too long. */
 #define _DEFAULT_SOURCE
 #include <sf.h>
 #include <stdio.h>
 #include <stdlib.h>
 #include <string.h>
-#include <strings.h>
+#include <time.h>
 #include <unistd.h>
 
-/* The fields that count here, of the request (>) or of the response (<). The target list (RFC 9213
- * section 2.2) has this cache's own first. */
-enum { ASKED, ANSWERED, OWN, CDN, PATH, AGE, FIELDS, MOST = 8192 };
-static const char *const fields[] = {">Priority", "<Priority", "<ExampleCDN-Cache-Control",
-                                     "<CDN-Cache-Control", "<Cache-Status", "<Age"};
-static sf_lines lines[FIELDS];
+enum { MOST = 65536 };
+static sf_context context; /* its refusal is that of the last field that is malformed */
 
 static void give_up(const char *why) {
   fprintf(stderr, "proxy: %s\n", why);
   exit(3);
 }
 
-/* A NUL is a byte like others: a value that has one is malformed. */
-static void read_fields(FILE *from) {
-  static char bytes[FIELDS][MOST]; /* of each field its lines, joined as they come */
-  for (int i = 0; i < FIELDS; ++i)
-    lines[i] = sf_lines_in(SF_BUFFER(bytes[i]));
-  char *line = NULL;
-  size_t size = 0;
-  for (ssize_t read; (read = getline(&line, &size, from)) >= 0;) {
-    size_t length = (size_t)read;
-    length -= length > 0 && line[length - 1] == '\n';
-    length -= length > 0 && line[length - 1] == '\r';
-    const char *colon = memchr(line, ':', length);
-    if (colon == NULL || colon == line)
-      continue;
-    sf_text name = sf_trim(line + 1, (size_t)(colon - line) - 1);
-    sf_text value = sf_trim(colon + 1, (size_t)(line + length - colon) - 1);
-    for (int i = 0; i < FIELDS; ++i)
-      if (fields[i][0] == line[0] && strlen(fields[i] + 1) == name.length &&
-          strncasecmp(fields[i] + 1, name.at, name.length) == 0 &&
-          sf_add_line(&lines[i], value) != SF_OK)
-        give_up("a field is too long");
-  }
-  free(line);
-  if (ferror(from))
-    give_up("the input can't be read");
+/* Checks the result of a call: says where the field is malformed; gives up if the call failed. */
+static void check(sf_status status, const sf_head *head, const char *name) {
+  char message[SF_REFUSAL_EXCERPT_SIZE(60)];
+  sf_buffer out = SF_BUFFER(message);
+  sf_location location = sf_locate_in_head(&context.refusal, head, name);
+  if (status == SF_REFUSED && sf_show_excerpt_of_line(&location, 60, &out) == SF_OK)
+    fprintf(stderr, "%s: %.*s\n", name, SF_ARGS(out));
+  else if (status != SF_OK && status != SF_REFUSED)
+    give_up(sf_status_name(status));
 }
 
-static void print_decision(const char *field, const sf_decision *decision) {
-  static const char *const words[] = {"don't store it", "fresh for", "stale",
-                                      "validate it before each use", "no lifetime"};
-  printf("by %s: %s", field, words[decision->reuse - SF_REUSE_NOT_STORED]);
-  if (decision->reuse == SF_REUSE_FRESH)
-    printf(" %llu s", (unsigned long long)decision->seconds);
-  printf(decision->by == SF_BY_NOTHING ? "\n" : " (%s)\n", sf_cause_name(decision->by));
+/* The text of a field, its lines joined. */
+static sf_text field(sf_head *head, const char *name) {
+  sf_text text = {NULL, 0};
+  if (sf_find_field(head, name, &text) != SF_OK)
+    give_up("out of buffers");
+  return text;
 }
 
 int main(int count, char **words) {
-  sf_cache cache = SF_SHARED_CACHE;
-  sf_response response = {0, 0, 0, 0};
-  for (int i = 1; i < count; ++i) {
-    cache = strcmp(words[i], "private") == 0 ? SF_PRIVATE_CACHE : cache;
-    response.is_understood |= strcmp(words[i], "understood") == 0;
+  static char input[MOST], joined[2][MOST], path[SF_APPENDED_SIZE(MOST, 16)];
+  static sf_head_line lines[2][1024];
+  sf_head asked = sf_head_in(SF_HEAD_LINES(lines[0]), SF_BUFFER(joined[0]));
+  sf_head answered = sf_head_in(SF_HEAD_LINES(lines[1]), SF_BUFFER(joined[1]));
+  sf_text rest = sf_text_of(input, fread(input, 1, sizeof input, stdin));
+  if (ferror(stdin) || rest.length == sizeof input)
+    give_up("the input can't be read, or is too long");
+  for (uint64_t number = 1; rest.length > 0; ++number) {
+    sf_text line = sf_take_line(&rest), content = sf_trim(line.at + 1, line.length - 1);
+    sf_head *head = line.at[0] == '>' ? &asked : &answered;
+    head->number = number;
+    if ((line.at[0] == '>' || line.at[0] == '<') && sf_add_head_line(head, content) == SF_SHORT)
+      give_up("too many lines");
   }
+
+  /* The priority. A field that is malformed or absent sets nothing (RFC 9218 section 8). */
   sf_seed seed;
   if (getentropy(&seed, sizeof seed) != 0)
     give_up("no random bytes");
-  sf_context context = sf_context_of(seed, SF_RFC8941); /* that the RFCs of these fields cite */
-  read_fields(stdin);
-  if (sf_read_age(sf_joined_text(&lines[AGE]), &response.age) != SF_OK)
-    response.age = 0; /* a field that is malformed is ignored */
-
-  /* The priority. A field that is malformed or absent sets nothing (RFC 9218 section 8). */
-  sf_priority_flags asked = SF_PRIORITY_UNSET;
-  sf_response_priority_flags answered = {0, 0, 0, 0};
-  if (sf_read_priority(&context, sf_joined_text(&lines[ASKED]), &asked) == SF_NO_MEMORY ||
-      sf_read_response_priority(&context, sf_joined_text(&lines[ANSWERED]), &answered) ==
-          SF_NO_MEMORY)
-    give_up("out of memory");
-  sf_priority_flags both = sf_merge_priority(asked, answered);
+  context = sf_context_of(seed, SF_RFC8941); /* that the RFCs of these fields cite */
+  sf_priority_flags client = SF_PRIORITY_UNSET;
+  sf_response_priority_flags server = {0, 0, 0, 0};
+  check(sf_read_priority(&context, field(&asked, "Priority"), &client), &asked, "Priority");
+  check(sf_read_response_priority(&context, field(&answered, "Priority"), &server), &answered,
+        "Priority");
+  sf_priority_flags both = sf_merge_priority(client, server);
   printf("urgency %d%s\n", both.urgency, both.incremental ? ", incremental" : "");
 
-  /* What is decided by the first field of the target list that is well-formed and not empty. */
-  sf_text targets[] = {sf_joined_text(&lines[OWN]), sf_joined_text(&lines[CDN])};
-  sf_choice choice;
-  sf_decision decision = {0, SF_REUSE_NOT_STORED, SF_BY_NOTHING, 0, 0};
-  uint32_t status = sf_choose_rules(&context, targets, 2, &choice);
-  if (status == SF_OK && sf_decide(&choice.rules, cache, &response, &decision) == SF_OK)
-    print_decision(fields[OWN + choice.index] + 1, &decision);
-  else if (status == SF_EMPTY)
-    printf("by no targeted field: Cache-Control decides\n");
-  else
-    give_up("out of memory");
+  /* What the cache does, by its own field, that of all CDNs, or Cache-Control and Expires. */
+  sf_target targets[] = {sf_target_of("ExampleCDN-Cache-Control"),
+                         sf_target_of("CDN-Cache-Control")};
+  sf_exchange exchange = sf_exchange_of(SF_SHARED_CACHE, (uint64_t)time(NULL));
+  for (int i = 1; i < count; ++i) {
+    exchange.cache = strcmp(words[i], "private") == 0 ? SF_PRIVATE_CACHE : exchange.cache;
+    exchange.is_understood |= strcmp(words[i], "understood") == 0;
+  }
+  sf_verdict verdict;
+  check(sf_decide_response(&context, &answered, targets, 2, &exchange, &verdict), &answered, "");
+  for (int i = 0; i < 2; ++i)
+    if (targets[i].status == SF_REFUSED) {
+      context.refusal = targets[i].refusal;
+      check(SF_REFUSED, &answered, targets[i].name);
+    }
+  if (verdict.is_refused)
+    fprintf(stderr, "Cache-Control: malformed in line %d\n",
+            (int)lines[1][verdict.refused_line].number);
+  static const char *const uses[] = {"don't store it", "fresh for", "stale",
+                                     "validate it before each use", "no lifetime"};
+  printf("by %s: %s", verdict.field, uses[verdict.decision.reuse - SF_REUSE_NOT_STORED]);
+  if (verdict.decision.reuse == SF_REUSE_FRESH)
+    printf(" %llu s", (unsigned long long)verdict.decision.seconds);
+  const char *cause = sf_cause_name(verdict.decision.cause);
+  printf(*cause == 0 ? "\n" : " (%s)\n", cause);
 
   /* This cache's hop is the last of Cache-Status, or alone if what came is malformed. */
   sf_own_hop own = sf_hop_named("ExampleCDN", SF_TOKEN);
-  own.hop.outcome = SF_FORWARDED;
-  own.hop.why = SF_URI_MISS;
-  own.hop.has_stored = status == SF_OK; /* otherwise Cache-Control says it, which is not read */
-  own.hop.stored = status == SF_OK && sf_may_store(&decision);
-  own.hop.has_ttl = decision.reuse == SF_REUSE_FRESH;
-  own.hop.ttl = (int64_t)decision.seconds;
-  static char path[SF_APPENDED_SIZE(MOST, 16)];
+  own.hop.outcome = SF_FORWARDED, own.hop.why = SF_URI_MISS;
+  own.hop.has_stored = 1, own.hop.stored = verdict.may_store != 0;
+  own.hop.has_ttl = verdict.decision.reuse == SF_REUSE_FRESH;
+  own.hop.ttl = (int64_t)verdict.decision.seconds;
   sf_buffer out = SF_BUFFER(path);
-  status = sf_append_hop(&context, sf_joined_text(&lines[PATH]), &own, &out);
-  if (status == SF_REFUSED)
-    status = sf_write_hop(&context, &own, &out);
-  if (status != SF_OK)
-    give_up("out of memory");
-  printf("Cache-Status: %.*s\n", (int)out.length, out.at);
+  uint32_t is_appended = 1;
+  sf_text came = field(&answered, "Cache-Status");
+  check(sf_append_or_write_hop(&context, came, &own, &out, &is_appended), &answered, "");
+  check(is_appended ? SF_OK : SF_REFUSED, &answered, "Cache-Status");
+  printf("Cache-Status: %.*s\n", SF_ARGS(out));
   return fflush(stdout) != 0 || ferror(stdout) ? 3 : 0;
 }

@@ -235,6 +235,14 @@ static void layouts(void) {
   AT(sf_rules, proxy_revalidate, 26);
   AT(sf_rules, must_understand, 27);
   AT(sf_rules, is_public, 28);
+  SIZE(sf_time, 16);
+  AT(sf_time, seconds, 0);
+  AT(sf_time, lines, 8);
+  SIZE(sf_fallback, 72);
+  AT(sf_fallback, rules, 0);
+  AT(sf_fallback, expires, 32);
+  AT(sf_fallback, date, 48);
+  AT(sf_fallback, is_refused, 64);
   SIZE(sf_response, 24);
   AT(sf_response, age, 0);
   AT(sf_response, lifetime, 8);
@@ -243,7 +251,7 @@ static void layouts(void) {
   SIZE(sf_decision, 16);
   AT(sf_decision, seconds, 0);
   AT(sf_decision, reuse, 8);
-  AT(sf_decision, by, 9);
+  AT(sf_decision, cause, 9);
   AT(sf_decision, allows_storing, 10);
   AT(sf_decision, allows_authorized, 11);
   SIZE(sf_span, 16);
@@ -652,6 +660,11 @@ static void bad_dialects(void) {
                                      &refusal));
     CHECK(status == SF_BAD_CALL && required == 4711 && all_are(bytes, 8));
     CHECK(is_untouched(&refusal));
+    sf_fallback fallback, zeros;
+    memset(&fallback, 0, sizeof fallback);
+    memset(&zeros, 0, sizeof zeros);
+    FREE_CALL(sf_fallback_line(dialect, "no-store", 8, &fallback));
+    CHECK(status == SF_BAD_CALL && memcmp(&fallback, &zeros, sizeof fallback) == 0);
     sf_decision decision = {4711, 1, 2, 3, 4};
     if (dialect != SF_SHARED_CACHE) {
       FREE_CALL(sf_decide(&no_rules, dialect, &new_response, &decision));
@@ -739,13 +752,18 @@ static int is_text(const unsigned char *bytes, size_t size, size_t at, size_t le
 
 /* A call that writes a text: to a buffer of each length that is too small, of exactly the length,
  * and of longer ones. The call names buffer, size and required. */
-#define WRITES(call, expected)                                                                     \
+#define WRITES(call, expected) WRITES_BY(CALL, call, expected)
+
+/* The same of a call that does not allocate. */
+#define FREE_WRITES(call, expected) WRITES_BY(FREE_CALL, call, expected)
+
+#define WRITES_BY(CALLED, call, expected)                                                          \
   do {                                                                                             \
     size_t whole = strlen(expected);                                                               \
     for (size_t size = 0; size <= whole + 3; ++size) {                                             \
       unsigned char *buffer = take_buffer(NULL, size);                                             \
       size_t *required = take_buffer(NULL, sizeof *required);                                      \
-      CALL(call);                                                                                  \
+      CALLED(call);                                                                                \
       CHECK(*required == whole && status == (size < whole ? SF_SHORT : SF_OK));                    \
       if (size < whole)                                                                            \
         CHECK(all_are(buffer, size));                                                              \
@@ -1304,6 +1322,10 @@ static void lean_refusals(void) {
       sf_rules rules;
       LEAN_CALL(sf_priority(&seed, text, LENGTH, &priority, &refusal));
       LEAN_CALL(sf_priority_in(&seed, SF_RFC8941, text, LENGTH, &priority, &refusal));
+      const sf_priority_flags sets = {1, 1, 1, 1};
+      size_t unused;
+      LEAN_CALL(sf_priority_change(&seed, text, LENGTH, &sets, v.bytes, SF_BYTES_SIZE(LENGTH),
+                                   &unused, &refusal));
       LEAN_CALL(sf_response_priority(&seed, SF_RFC8941, text, LENGTH, &response, &refusal));
       LEAN_CALL(sf_cache_control(&seed, text, LENGTH, &policy, &refusal));
       LEAN_CALL(sf_cache_rules(&seed, SF_RFC8941, text, LENGTH, &rules, &refusal));
@@ -1845,6 +1867,35 @@ static void response_priorities(void) {
   CHECK(status == SF_OK && request.urgency == 3 && request.incremental == 1);
 }
 
+/* Adds lines of a field, each in a buffer of its length. The result is that of the last line. */
+static uint32_t fallback_lines(const char *about, uint32_t field, const char *const *lines,
+                               sf_fallback *fallback) {
+  uint32_t status = SF_OK;
+  for (; *lines != NULL; ++lines) {
+    unsigned char *line = take_buffer(*lines, strlen(*lines));
+    FREE_CALL(sf_fallback_line(field, line, strlen(*lines), fallback));
+    give_buffer(line);
+  }
+  return status;
+}
+
+/* What is decided by Cache-Control, Expires and Date of a row of the table. */
+static void decided_by_fallback(const char *about, const struct decision_row *row) {
+  uint32_t status;
+  sf_fallback *fallback = take_buffer(NULL, sizeof *fallback);
+  sf_response response = row->response;
+  sf_decision decision = {9, 9, 9, 9, 9};
+  memset(fallback, 0, sizeof *fallback);
+  for (uint32_t i = 0; i < 3; ++i)
+    (void)fallback_lines(about, SF_FALLBACK_CACHE_CONTROL + i, row->lines[i], fallback);
+  FREE_CALL(sf_fallback_lifetime(fallback, 0, &response));
+  CHECK(status == (row->lines[1][0] == NULL ? SF_EMPTY : SF_OK));
+  FREE_CALL(sf_decide(&fallback->rules, row->cache, &response, &decision));
+  CHECK(status == SF_OK && decision.reuse == row->decision.reuse);
+  CHECK(decision.cause == row->decision.cause && decision.seconds == row->decision.seconds);
+  give_buffer(fallback);
+}
+
 /* The rows of tests/decisions.txt: the field that is obeyed, and what is decided by it. */
 static void decisions(void) {
   uint32_t status;
@@ -1861,6 +1912,7 @@ static void decisions(void) {
     CALL(sf_select_rules(&seed, SF_RFC9651, texts, length, fields, 2, &index, &rules));
     if (row->index == DECISION_FALLBACK) {
       CHECK(status == SF_EMPTY && index == 4711);
+      decided_by_fallback(about, row);
       continue;
     }
     CHECK(status == SF_OK && index == (size_t)row->index);
@@ -1873,7 +1925,7 @@ static void decisions(void) {
     sf_decision *decision = take_buffer(NULL, sizeof *decision);
     FREE_CALL(sf_decide(&rules, row->cache, &row->response, decision));
     CHECK(status == SF_OK && decision->reuse == row->decision.reuse);
-    CHECK(decision->by == row->decision.by && decision->seconds == row->decision.seconds);
+    CHECK(decision->cause == row->decision.cause && decision->seconds == row->decision.seconds);
     give_buffer(decision);
   }
 }
@@ -1947,22 +1999,144 @@ static void other_decisions(void) {
   }
 }
 
+/* Cache-Control (RFC 9111 section 5.2), line by line. */
+static void cache_control_lines(void) {
+  static const struct {
+    const char *lines[4];
+    uint32_t status; /* of the last line */
+    sf_rules rules;
+  } rows[] = {
+      {{"No-Store, Max-Age=0,,"}, SF_OK, {{0, 0, 1, 0, 0, 1, 0, 0}, 0, 0, 0, 0, 0}},
+      {{"max-age=60", "PRIVATE, s-maxage=\"9\""}, SF_OK,
+       {{60, 9, 1, 1, 0, 0, 0, 1}, 0, 0, 0, 0, 0}},
+      {{"max-age=60", "Max-Age=060"}, SF_OK, {{60, 0, 1, 0, 0, 0, 0, 0}, 0, 0, 0, 0, 0}},
+      {{"max-age=60", "max-age=5"}, SF_OK, {{0, 0, 0, 0, 0, 0, 0, 0}, 1, 0, 0, 0, 0}},
+      {{"max-age=60", "max-age=5", "max-age=60"}, SF_OK, {{0, 0, 0, 0, 0, 0, 0, 0}, 1, 0, 0, 0, 0}},
+      {{"s-maxage=1.5", "public"}, SF_OK, {{0, 0, 0, 0, 0, 0, 0, 0}, 0, 1, 0, 0, 1}},
+      {{"max-age=\"\\60\""}, SF_OK, {{60, 0, 1, 0, 0, 0, 0, 0}, 0, 0, 0, 0, 0}},
+      {{"max-age=9999999999999999999999"}, SF_OK,
+       {{UINT64_C(2147483648), 0, 1, 0, 0, 0, 0, 0}, 0, 0, 0, 0, 0}},
+      {{"x=\"a, no-store\"", "must-understand, proxy-revalidate, must-revalidate, no-cache=\"a\""},
+       SF_OK, {{0, 0, 0, 0, 1, 0, 1, 0}, 0, 0, 1, 1, 0}},
+      {{"", " , \t"}, SF_OK, {{0, 0, 0, 0, 0, 0, 0, 0}, 0, 0, 0, 0, 0}},
+      {{"max-age=60", "a b"}, SF_REFUSED, {{0, 0, 0, 0, 0, 1, 0, 0}, 0, 0, 0, 0, 0}},
+      {{"max-age= 60"}, SF_REFUSED, {{0, 0, 0, 0, 0, 1, 0, 0}, 0, 0, 0, 0, 0}},
+      {{"a; b", "max-age=60, must-understand"}, SF_REFUSED,
+       {{0, 0, 0, 0, 0, 1, 0, 0}, 0, 0, 0, 0, 0}},
+      {{"max-age=60, x=\"a", "b\""}, SF_REFUSED, {{0, 0, 0, 0, 0, 1, 0, 0}, 0, 0, 0, 0, 0}},
+  };
+  for (size_t i = 0; i < sizeof rows / sizeof *rows; ++i) {
+    const char *about = rows[i].lines[0];
+    sf_fallback fallback;
+    memset(&fallback, 0, sizeof fallback);
+    CHECK(fallback_lines(about, SF_FALLBACK_CACHE_CONTROL, rows[i].lines, &fallback) ==
+          rows[i].status);
+    CHECK(is_same_policy(&fallback.rules.policy, &rows[i].rules.policy));
+    CHECK(memcmp(&fallback.rules.invalid_max_age, &rows[i].rules.invalid_max_age, 5) == 0);
+    CHECK(fallback.is_refused == (rows[i].status == SF_REFUSED));
+    CHECK(fallback.expires.lines == 0 && fallback.date.lines == 0);
+  }
+  const char *about = "no bytes, and no list";
+  uint32_t status;
+  sf_fallback fallback;
+  memset(&fallback, 0, sizeof fallback);
+  FREE_CALL(sf_fallback_line(SF_FALLBACK_CACHE_CONTROL, NULL, 0, &fallback));
+  CHECK(status == SF_OK && fallback.is_refused == 0);
+  FREE_CALL(sf_fallback_line(SF_FALLBACK_CACHE_CONTROL, "a\0", 2, &fallback));
+  CHECK(status == SF_REFUSED && fallback.is_refused == 1 && fallback.rules.policy.no_store == 1);
+  fallback.is_refused = 255; /* any number but 0 */
+  FREE_CALL(sf_fallback_line(SF_FALLBACK_CACHE_CONTROL, "public", 6, &fallback));
+  CHECK(status == SF_REFUSED && fallback.rules.is_public == 0);
+}
+
+/* Expires and Date (RFC 9111 sections 4.2.1 and 5.3). The dates are those of RFC 9110 section 5.6.7,
+ * and a minute later; 784111777 is the first one. */
+static void lifetimes(void) {
+#define FIRST "Sun, 06 Nov 1994 08:49:37 GMT"
+#define LATER "Sun, 06 Nov 1994 08:50:37 GMT"
+  static const struct {
+    const char *expires[3], *date[3];
+    uint64_t received;
+    uint32_t status;
+    uint64_t lifetime; /* 7 is what was there before */
+  } rows[] = {
+      {{0}, {0}, 784111777, SF_EMPTY, 7},
+      {{0}, {FIRST}, 784111777, SF_EMPTY, 7},
+      {{LATER}, {FIRST}, 0, SF_OK, 60},
+      {{LATER}, {FIRST}, UINT64_MAX, SF_OK, 60},
+      {{LATER}, {0}, 784111827, SF_OK, 10},
+      {{LATER}, {0}, UINT64_MAX, SF_OK, 0},
+      {{FIRST}, {LATER}, 0, SF_OK, 0},
+      {{FIRST}, {FIRST}, 0, SF_OK, 0},
+      {{"Sunday, 06-Nov-94 08:50:37 GMT"}, {"Sun Nov  6 08:49:37 1994"}, 0, SF_OK, 60},
+      {{"0"}, {FIRST}, 0, SF_OK, 0},
+      {{""}, {FIRST}, 0, SF_OK, 0},
+      {{"-1"}, {0}, 784111777, SF_OK, 0},
+      {{"sun, 06 nov 1994 08:50:37 gmt"}, {FIRST}, 0, SF_OK, 0},
+      {{"Sun, 06 Nov 1994 08:50:37 +0000"}, {FIRST}, 0, SF_OK, 0},
+      {{" " LATER}, {FIRST}, 0, SF_OK, 0},
+      {{LATER, LATER}, {FIRST}, 0, SF_OK, 0},
+      {{LATER, ""}, {FIRST}, 0, SF_OK, 0},
+      {{"0", LATER}, {FIRST}, 0, SF_OK, 0},
+      {{"Sun", "06 Nov 1994 08:50:37 GMT"}, {FIRST}, 0, SF_OK, 0},
+      {{LATER}, {"x"}, 784111827, SF_OK, 10},
+      {{LATER}, {FIRST, FIRST}, 784111827, SF_OK, 10},
+      {{LATER}, {"Sun", "06 Nov 1994 08:49:37 GMT"}, 784111827, SF_OK, 10},
+      {{"Fri, 31 Dec 9999 23:59:59 GMT"}, {"Thu, 01 Jan 1970 00:00:00 GMT"}, 0, SF_OK,
+       UINT64_C(253402300799)},
+  };
+#undef FIRST
+#undef LATER
+  uint32_t status;
+  for (size_t i = 0; i < sizeof rows / sizeof *rows; ++i) {
+    char about[32];
+    sf_fallback fallback;
+    sf_response response = {3, 7, 5, 6};
+    sprintf(about, "lifetime %d", (int)i);
+    memset(&fallback, 0, sizeof fallback);
+    CHECK(fallback_lines(about, SF_FALLBACK_EXPIRES, rows[i].expires, &fallback) == SF_OK);
+    CHECK(fallback_lines(about, SF_FALLBACK_DATE, rows[i].date, &fallback) == SF_OK);
+    FREE_CALL(sf_fallback_lifetime(&fallback, rows[i].received, &response));
+    CHECK(status == rows[i].status && response.lifetime == rows[i].lifetime);
+    CHECK(response.has_lifetime == (status == SF_OK ? 1 : 5));
+    CHECK(response.age == 3 && response.is_understood == 6 && fallback.is_refused == 0);
+  }
+  const char *about = "a third line, and other numbers";
+  sf_fallback fallback;
+  sf_response response = {0, 0, 0, 0};
+  memset(&fallback, 0, sizeof fallback);
+  fallback.expires.lines = UINT32_MAX;
+  fallback.expires.seconds = 7;
+  FREE_CALL(sf_fallback_line(SF_FALLBACK_EXPIRES, NULL, 0, &fallback));
+  CHECK(status == SF_OK && fallback.expires.lines == 2 && fallback.expires.seconds == 0);
+  FREE_CALL(sf_fallback_lifetime(&fallback, 0, &response));
+  CHECK(status == SF_OK && response.has_lifetime == 1 && response.lifetime == 0);
+}
+
 /* The field that came in, with what a struct sets. */
 static void changed_priorities(void) {
   static const struct {
     const char *from;
     sf_priority_flags sets;
     const char *text;
+    int repeats; /* whether a key is repeated: then the call allocates */
   } rows[] = {
-      {"", {1, 1, 1, 1}, "u=1, i"},
-      {"", {3, 0, 0, 0}, ""},
-      {"u=5, i", {3, 0, 0, 0}, "u=5, i"},
-      {"u=5,  i=?1", {1, 0, 1, 0}, "u=1, i"},
-      {"u=5, i", {3, 0, 0, 1}, "u=5, i=?0"},
-      {"x=1;y, u=5, z=(a b);c", {2, 1, 1, 1}, "x=1;y, u=2, z=(a b);c, i"},
-      {"x, u=(1 2), i=7", {0, 1, 1, 1}, "x, u=0, i"},
-      {"u=5, x, u=6", {7, 0, 1, 0}, "u=7, x"},
-      {"x=%\"%c3%bc\", y=:YQ:", {1, 0, 1, 0}, "x=%\"%c3%bc\", y=:YQ==:, u=1"},
+      {"", {1, 1, 1, 1}, "u=1, i", 0},
+      {"", {3, 0, 0, 0}, "", 0},
+      {"", {3, 1, 0, 1}, "i", 0},
+      {"", {0, 0, 1, 0}, "u=0", 0},
+      {"u=5, i", {3, 0, 0, 0}, "u=5, i", 0},
+      {"u=5,  i=?1", {1, 0, 1, 0}, "u=1, i", 0},
+      {"u=5, i", {3, 0, 0, 1}, "u=5, i=?0", 0},
+      {"i;x, u;y=1", {7, 0, 1, 1}, "i=?0, u=7", 0},
+      {"x=1;y, u=5, z=(a b);c", {2, 1, 1, 1}, "x=1;y, u=2, z=(a b);c, i", 0},
+      {"x, u=(1 2), i=7", {0, 1, 1, 1}, "x, u=0, i", 0},
+      {"uu=1, ii", {4, 1, 1, 1}, "uu=1, ii, u=4, i", 0},
+      {"u=5, x, u=6", {7, 0, 1, 0}, "u=7, x", 1},
+      {"x;p=1;p=2, i", {7, 0, 1, 0}, "x;p=2, i, u=7", 1},
+      {"x=%\"%c3%bc\", y=:YQ:", {1, 0, 1, 0}, "x=%\"%c3%bc\", y=:YQ==:, u=1", 0},
+      {"a, b, c, d, e, f, g, h, j, k, l, m, n, o, p, q", {1, 0, 1, 0},
+       "a, b, c, d, e, f, g, h, j, k, l, m, n, o, p, q, u=1", 0},
   };
   uint32_t status;
   for (size_t i = 0; i < sizeof rows / sizeof *rows; ++i) {
@@ -1971,9 +2145,29 @@ static void changed_priorities(void) {
     unsigned char *text = take_buffer(about, length);
     sf_priority_flags *sets = take_buffer(&rows[i].sets, sizeof rows[i].sets);
     sf_refusal refusal = untouched;
-    WRITES(sf_priority_change(&seed, text, length, sets, buffer, size, required, &refusal),
-           rows[i].text);
+    if (rows[i].repeats)
+      WRITES(sf_priority_change(&seed, text, length, sets, buffer, size, required, &refusal),
+             rows[i].text);
+    else
+      FREE_WRITES(sf_priority_change(&seed, text, length, sets, buffer, size, required, &refusal),
+                  rows[i].text);
     CHECK(is_untouched(&refusal));
+    give_buffer(sets);
+    give_buffer(text);
+  }
+  /* Fields of 100 to 125 bytes: what is short is put together on the stack first. */
+  for (size_t length = 100; length <= 125; ++length) {
+    char field[126], about[132];
+    memset(field, 'a', length);
+    memcpy(field, "x=\"", 3);
+    field[length - 1] = '"';
+    field[length] = '\0';
+    snprintf(about, sizeof about, "%s, u=1", field);
+    sf_priority_flags *sets = take_buffer(&(sf_priority_flags){1, 0, 1, 0}, sizeof *sets);
+    unsigned char *text = take_buffer(field, length);
+    sf_refusal refusal = untouched;
+    FREE_WRITES(sf_priority_change(&seed, text, length, sets, buffer, size, required, &refusal),
+                about);
     give_buffer(sets);
     give_buffer(text);
   }
@@ -2299,14 +2493,14 @@ static void paths(void) {
   CHECK(path.is_served == 4715);
 }
 
-/* A hop, written and read back: the text is this one. */
+/* A hop, written and read back: the text is this one. The call does not allocate. */
 static void hop_written(const sf_hop *from, const char *names, const char *text) {
   const char *about = text;
   uint32_t status;
   size_t length = strlen(names);
   sf_hop *hop = take_buffer(from, sizeof *from);
   unsigned char *bytes = take_buffer(names, length);
-  WRITES(sf_hop_text(&seed, hop, bytes, length, buffer, size, required), text);
+  FREE_WRITES(sf_hop_text(&seed, hop, bytes, length, buffer, size, required), text);
   CHECK(memcmp(hop, from, sizeof *from) == 0);
   give_buffer(hop);
   give_buffer(bytes);
@@ -2317,12 +2511,36 @@ static void hop_refused(const sf_hop *from, const char *names, const char *about
   size_t length = strlen(names), required = 4711;
   unsigned char *bytes = take_buffer(names, length), buffer[64];
   memset(buffer, BUFFER_BYTE, sizeof buffer);
-  CALL(sf_hop_text(&seed, from, bytes, length, buffer, sizeof buffer, &required));
+  FREE_CALL(sf_hop_text(&seed, from, bytes, length, buffer, sizeof buffer, &required));
   CHECK(status == SF_INVALID && required == 4711 && all_are(buffer, sizeof buffer));
   give_buffer(bytes);
 }
 
+/* Names of 40 to 80 bytes, without an escape and of escapes alone: what is short is put together on
+ * the stack first. */
+static void long_hops(void) {
+  char names[81], text[163];
+  for (size_t n = 40; n <= 80; ++n)
+    for (int escaped = 0; escaped < 2; ++escaped) {
+      size_t length = 0;
+      text[length++] = '"';
+      for (size_t i = 0; i < n; ++i) {
+        names[i] = escaped ? '"' : 'a';
+        if (escaped)
+          text[length++] = '\\';
+        text[length++] = names[i];
+      }
+      text[length++] = '"';
+      names[n] = text[length] = '\0';
+      sf_hop hop;
+      memset(&hop, 0, sizeof hop);
+      hop.name.length = n;
+      hop_written(&hop, names, text);
+    }
+}
+
 static void written_hops(void) {
+  long_hops();
   /* a hop of one's own: what is not set is zero */
   sf_hop hop;
   memset(&hop, 0, sizeof hop);
@@ -2410,7 +2628,7 @@ static void written_hops(void) {
   hop.why_token = (sf_span){4, 3};
   hop_written(&hop, "edgeodd", "\"edge\";fwd=odd;fwd-status=999");
 
-  /* all at once, also if malloc fails */
+  /* all at once */
   hop = (sf_hop){{0, 1}, {1, 3}, {4, 2}, {6, 3}, -3, SF_FORWARDED, SF_OTHER, 100, 1, 0, 1, 1, 1,
                  1, 1, 1, 1, 0};
   static const char every[] = "c;fwd=odd;fwd-status=100;ttl=-3;stored=?0;collapsed;key=\"k\\\"\";"
@@ -2435,7 +2653,7 @@ static void written_hops(void) {
   for (size_t i = 0; i < 5; ++i) {
     char buffer[80];
     size_t required = 0;
-    CALL(sf_hop_text(&seed, &hops[i], bytes, path.bytes, buffer, sizeof buffer, &required));
+    FREE_CALL(sf_hop_text(&seed, &hops[i], bytes, path.bytes, buffer, sizeof buffer, &required));
     CHECK(status == SF_OK && required == strlen(members[i]));
     CHECK(memcmp(buffer, members[i], required) == 0);
   }
@@ -2557,8 +2775,9 @@ static void excerpts(void) {
     }
     sf_refusal refusal = untouched;
     refusal.offset = places[i].offset;
-    sf_line_place place = sf_refusal_line(&refusal, lines, count);
-    CHECK(place.line == places[i].line && place.offset == places[i].at);
+    sf_location location = sf_locate_in_lines(&refusal, lines, count);
+    CHECK(location.index == places[i].line && location.refusal.offset == places[i].at);
+    CHECK(location.number == places[i].line + 1);
   }
   static const struct {
     const char *text;
@@ -2992,9 +3211,8 @@ static void memory(void) {
   for (size_t least = SMALL; least <= LARGE; least = least * 7 / 6) {
     char *bytes = long_text("", "a", "", least, &length);
     sf_hop hop = {{0, length}, {0, 0}, {0, 0}, {0, 0}, 0, SF_HIT, 0, 0, 0, 0, 0, 0, 0, 0, 0, 0, 1, 0};
-    CALL(sf_hop_text(&seed, &hop, bytes, length, NULL, 0, &required));
+    FREE_CALL(sf_hop_text(&seed, &hop, bytes, length, NULL, 0, &required));
     CHECK(status == SF_SHORT && required == length + 4);
-    CHECK_MEMORY(length);
     free(bytes);
   }
 }
@@ -3098,10 +3316,19 @@ static void want_of_memory(void) {
   about = "sf_priority_change, no memory";
   static const char changed[] = "max-age=30, s-maxage=90, a;b;c, d=(e f), g=\"h\", u=7, i=?0";
   sf_priority_flags change = {7, 0, 1, 1};
+  memset(buffer, 0xa5, sizeof buffer);
+  WITHOUT_MEMORY(sf_priority_change(&seed, directives, sizeof directives - 1, &change, buffer,
+                                    sizeof buffer, &required, &refusal),
+                 required == sizeof changed - 1 && memcmp(buffer, changed, required) == 0 &&
+                     all_are(buffer + required, sizeof buffer - required) &&
+                     is_untouched(&refusal));
+  static const char twice[] = "u=1, a;b=1;b=2, c=\"a text of more than sixteen bytes\"";
+  static const char once_changed[] = "u=7, a;b=2, c=\"a text of more than sixteen bytes\", i=?0";
   EACH_REFUSAL((memset(buffer, 0xa5, sizeof buffer), required = 4711,
-                sf_priority_change(&seed, directives, sizeof directives - 1, &change, buffer,
-                                   sizeof buffer, &required, &refusal)),
-               required == sizeof changed - 1 && memcmp(buffer, changed, required) == 0 &&
+                sf_priority_change(&seed, twice, sizeof twice - 1, &change, buffer, sizeof buffer,
+                                   &required, &refusal)),
+               required == sizeof once_changed - 1 &&
+                   memcmp(buffer, once_changed, required) == 0 &&
                    all_are(buffer + required, sizeof buffer - required),
                required == 4711 && all_are(buffer, sizeof buffer) && is_untouched(&refusal));
 
@@ -3200,12 +3427,11 @@ static void want_of_memory(void) {
   static const char names[] = "ccccccccccccccccccccoddkdddddddddddddddddddd";
   sf_hop hop = {{0, 20}, {20, 3}, {23, 1}, {24, 20}, -3, SF_FORWARDED, SF_OTHER, 100, 1, 0, 1,
                 1, 1, 1, 1, 1, 1, 0};
-  EACH_REFUSAL(
-      (memset(buffer, 0xa5, sizeof buffer), required = 4711,
-       sf_hop_text(&seed, &hop, names, sizeof names - 1, buffer, sizeof buffer, &required)),
+  memset(buffer, 0xa5, sizeof buffer);
+  WITHOUT_MEMORY(
+      sf_hop_text(&seed, &hop, names, sizeof names - 1, buffer, sizeof buffer, &required),
       required == sizeof line - 1 && memcmp(buffer, line, required) == 0 &&
-          all_are(buffer + required, sizeof buffer - required),
-      required == 4711 && all_are(buffer, sizeof buffer));
+          all_are(buffer + required, sizeof buffer - required));
 
   /* what does not allocate has the same result without memory */
   about = "no memory is taken";
@@ -3228,6 +3454,107 @@ static void want_of_memory(void) {
   CALL(sf_priority_text(&sets, buffer, sizeof buffer, &required));
   CHECK(status == SF_OK && required == 6 && memcmp(buffer, "u=1, i", 6) == 0);
   refused_from = 0;
+}
+
+/* How often each call allocates for the fields that most messages have. */
+
+/* The fields that the calls are for; the Priority is one of a request and of a response. */
+static const char asking[] = "u=5, i";
+static const char caching[] = "max-age=60, s-maxage=3600, private";
+static const char passing[] = "OriginCache; fwd=uri-miss; stored; ttl=1100, "
+                              "\"CDN Company Here\"; hit; key=\"/a?b=c\"; detail=pool-7";
+static const char signing[] = "sig1=(\"@method\" \"@authority\" \"@path\" \"content-digest\")"
+                              ";created=1700000000;keyid=\"key-ed25519-7\"";
+
+/* A call that allocates at most so often. */
+#define CALL_WITH(most, call)                                                                      \
+  do {                                                                                             \
+    CALL(call);                                                                                    \
+    CHECK(status == SF_OK && calls <= (most));                                                     \
+  } while (0)
+
+/* The calls for fields of any name, of a text that spells a value of the kind. */
+static void allocations_for(uint32_t kind, const char *text, size_t length) {
+  const char *about = text;
+  uint32_t status, equal;
+  sf_refusal refusal;
+  sf_node nodes[64];
+  char bytes[256], buffer[512];
+  sf_sizes sizes;
+  size_t required, invalid, index;
+  CALL_WITH(0, sf_check(&seed, SF_RFC9651, kind, text, length, &refusal));
+  CALL_WITH(0, sf_check(&seed, SF_RFC8941, kind, text, length, &refusal));
+  FREE_CALL(sf_parse(&seed, SF_RFC9651, kind, text, length, nodes, 1, bytes, 0, &sizes, &refusal));
+  CHECK(status == SF_TOO_MANY);
+  CALL_WITH(0, sf_parse(&seed, SF_RFC9651, kind, text, length, nodes, 64, bytes, sizeof bytes,
+                        &sizes, &refusal));
+  FREE_CALL(sf_find(nodes, sizes.nodes, text, length, bytes, sizes.bytes, SF_MEMBER, "u", 1,
+                    &index));
+  CHECK(status == (text == asking ? SF_OK : SF_ABSENT));
+  CALL_WITH(1, sf_normalise(&seed, SF_RFC9651, kind, text, length, buffer, sizeof buffer, &required,
+                            &refusal));
+  CALL_WITH(24, sf_equal(&seed, SF_RFC9651, kind, text, length, buffer, required, &equal,
+                         &refusal));
+  CALL_WITH(12, sf_write(&seed, SF_RFC9651, kind, nodes, sizes.nodes, text, length, bytes,
+                         sizes.bytes, buffer, sizeof buffer, &required, &invalid));
+  sf_joined joined = {0, 0, 0};
+  CALL_WITH(0, sf_join(text, length, buffer, sizeof buffer, &joined));
+}
+
+/* The calls for the fields that the library knows. */
+static void allocations(void) {
+  allocations_for(SF_DICT, asking, sizeof asking - 1);
+  allocations_for(SF_LIST, passing, sizeof passing - 1);
+  allocations_for(SF_DICT, signing, sizeof signing - 1);
+
+  const char *about = "allocations for a Priority";
+  uint32_t status;
+  sf_refusal refusal;
+  size_t required;
+  char buffer[256];
+  sf_priority_flags priority;
+  sf_response_priority_flags response;
+  CALL_WITH(0, sf_priority(&seed, asking, sizeof asking - 1, &priority, &refusal));
+  CALL_WITH(0, sf_priority_in(&seed, SF_RFC8941, asking, sizeof asking - 1, &priority, &refusal));
+  CALL_WITH(0, sf_response_priority(&seed, SF_RFC8941, asking, sizeof asking - 1, &response,
+                                    &refusal));
+  CALL_WITH(0, (priority = sf_priority_merge(&priority, &response), SF_OK));
+  CALL_WITH(0, sf_priority_text(&priority, buffer, sizeof buffer, &required));
+  CALL_WITH(0, sf_response_priority_text(&response, buffer, sizeof buffer, &required));
+  CALL_WITH(0, sf_priority_change(&seed, asking, sizeof asking - 1, &priority, buffer,
+                                  sizeof buffer, &required, &refusal));
+
+  about = "allocations for a targeted field";
+  sf_policy policy;
+  sf_rules rules;
+  sf_response given = {0};
+  sf_decision decision;
+  const sf_span fields[] = {{0, 0}, {0, sizeof caching - 1}};
+  uint64_t seconds;
+  CALL_WITH(0, sf_cache_control(&seed, caching, sizeof caching - 1, &policy, &refusal));
+  CALL_WITH(0, (sf_lifetime(&policy, 1, &seconds) == 1 ? SF_OK : SF_INVALID));
+  CALL_WITH(0, sf_cache_rules(&seed, SF_RFC8941, caching, sizeof caching - 1, &rules, &refusal));
+  CALL_WITH(0, sf_select(&seed, caching, sizeof caching - 1, fields, 2, &required, &policy));
+  CALL_WITH(0, sf_select_rules(&seed, SF_RFC8941, caching, sizeof caching - 1, fields, 2, &required,
+                               &rules));
+  CALL_WITH(0, sf_decide(&rules, SF_SHARED_CACHE, &given, &decision));
+
+  about = "allocations for a Cache-Status";
+  sf_hop hops[4];
+  char bytes[256];
+  sf_path path;
+  FREE_CALL(sf_cache_status(&seed, passing, sizeof passing - 1, hops, 1, bytes, 0, &path, &refusal));
+  CHECK(status == SF_SHORT);
+  CALL_WITH(0, sf_cache_status_in(&seed, SF_RFC8941, passing, sizeof passing - 1, hops, 4, bytes,
+                                  sizeof bytes, &path, &refusal));
+  CALL_WITH(0, sf_cache_status(&seed, passing, sizeof passing - 1, hops, 4, bytes, sizeof bytes,
+                               &path, &refusal));
+  for (size_t i = 0; i < path.hops; ++i) {
+    CALL_WITH(0, sf_hop_text(&seed, &hops[i], bytes, path.bytes, buffer, sizeof buffer, &required));
+    CALL_WITH(16, sf_cache_status_append(&seed, SF_RFC8941, passing, sizeof passing - 1, &hops[i],
+                                         bytes, path.bytes, buffer, sizeof buffer, &required,
+                                         &refusal));
+  }
 }
 
 /* All of it, with length 0 beside NULL, and beside a pointer one past a block. */
@@ -3257,6 +3584,8 @@ static void all(void) {
     response_priorities();
     decisions();
     other_decisions();
+    cache_control_lines();
+    lifetimes();
     policies();
     selecting();
     selecting_rules();
@@ -3268,6 +3597,7 @@ static void all(void) {
     joining();
   }
   none_is_a_place = 0;
+  allocations();
   want_of_memory();
   scarce_texts();
 }

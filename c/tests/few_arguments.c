@@ -123,25 +123,36 @@ static void checking(void) {
   {
     static const sf_text received[] = {{"a, b", 4}, {"", 0}, {"c, (d e, f", 10}};
     sf_refusal refused = context.refusal;
+    sf_location location;
 #define HEAD(place) "byte 0x32 '2' at place " place ", expected a space or the end\n"
     refused.offset = 2;
-    CHECK(sf_show_excerpt_of_line(&refused, received, 3, 20, &out) == SF_OK);
+    location = sf_locate_in_lines(&refused, received, 3);
+    CHECK(sf_show_excerpt_of_line(&location, 20, &out) == SF_OK);
     CHECK(is(sf_written(&out), HEAD("2") "line 1, place 2:\na, b\n  ^"));
+    CHECK(location.index == 0 && is(location.line, "a, b") && location.refusal.may_end == 1);
     refused.offset = 5; /* in the comma and the space between two lines: after the first */
-    CHECK(sf_show_excerpt_of_line(&refused, received, 3, 20, &out) == SF_OK);
+    location = sf_locate_in_lines(&refused, received, 3);
+    CHECK(sf_show_excerpt_of_line(&location, 20, &out) == SF_OK);
     CHECK(is(sf_written(&out), HEAD("4") "line 1, place 4:\na, b\n    ^"));
     refused.offset = 6;
-    CHECK(sf_show_excerpt_of_line(&refused, received, 3, 20, &out) == SF_OK);
+    location = sf_locate_in_lines(&refused, received, 3);
+    CHECK(sf_show_excerpt_of_line(&location, 20, &out) == SF_OK);
     CHECK(is(sf_written(&out), HEAD("0") "line 2, place 0:\n\n^"));
     refused.offset = 15;
-    CHECK(sf_show_excerpt_of_line(&refused, received, 3, 4, &out) == SF_OK);
+    location = sf_locate_in_lines(&refused, received, 3);
+    CHECK(sf_show_excerpt_of_line(&location, 4, &out) == SF_OK);
     CHECK(is(sf_written(&out), HEAD("7") "line 3, place 7:\n e, \n  ^"));
-    CHECK(sf_show_excerpt_of_line(&refused, received, 3, 4, &small) == SF_SHORT);
+    CHECK(sf_show_excerpt_of_line(&location, 4, &small) == SF_SHORT);
     CHECK(small.required == out.length && small.length == 0);
+    location.number = UINT64_MAX; /* as the caller counts */
+    CHECK(sf_show_excerpt_of_line(&location, 4, &out) == SF_OK);
+    CHECK(is(sf_written(&out), HEAD("7") "line 18446744073709551615, place 7:\n e, \n  ^"));
     refused.offset = 99;
-    CHECK(sf_show_excerpt_of_line(&refused, received, 3, 4, &out) == SF_OK);
+    location = sf_locate_in_lines(&refused, received, 3);
+    CHECK(sf_show_excerpt_of_line(&location, 4, &out) == SF_OK);
     CHECK(is(sf_written(&out), HEAD("10") "line 3, place 10:\ne, f\n    ^"));
-    CHECK(sf_show_excerpt_of_line(&refused, NULL, 0, 4, &out) == SF_OK);
+    location = sf_locate_in_lines(&refused, NULL, 0);
+    CHECK(sf_show_excerpt_of_line(&location, 4, &out) == SF_OK);
     CHECK(is(sf_written(&out), HEAD("0") "line 1, place 0:\n\n^"));
   }
   /* the refusal stays until another text is refused */
@@ -353,7 +364,7 @@ static void decisions(void) {
   CHECK(decision.reuse == SF_REUSE_FRESH && decision.seconds == 600);
   rules.invalid_max_age = 1; /* beside a max-age that is valid, which then has no effect */
   CHECK(sf_decide(&rules, SF_SHARED_CACHE, &response, &decision) == SF_OK);
-  CHECK(decision.reuse == SF_REUSE_STALE && decision.by == SF_BY_INVALID_MAX_AGE);
+  CHECK(decision.reuse == SF_REUSE_STALE && decision.cause == SF_BY_INVALID_MAX_AGE);
 
   /* each target list, and the field that counts; -1 if none does */
   static const struct {
@@ -395,6 +406,43 @@ static void decisions(void) {
   CHECK(sf_choose_rules(&context, NULL, 0, &choice) == SF_EMPTY);
 }
 
+/* Cache-Control, Expires and Date line by line, with white space around each value. */
+static void fallbacks(void) {
+  sf_fallback fallback = sf_fallback_begin(), none = fallback;
+  sf_response response = {0, 0, 0, 0};
+  CHECK(fallback.is_refused == 0 && fallback.expires.lines == 0 && fallback.date.lines == 0);
+  CHECK(fallback.rules.policy.has_max_age == 0 && fallback.rules.is_public == 0);
+  CHECK(sf_fallback_lifetime(&fallback, 9, &response) == SF_EMPTY && response.has_lifetime == 0);
+  CHECK(sf_add_fallback_line(&fallback, SF_FALLBACK_CACHE_CONTROL, sf_cstr("\tMax-Age=60, ")) ==
+        SF_OK);
+  CHECK(fallback.rules.policy.max_age == 60 && fallback.expires.lines == 0);
+  CHECK(sf_add_fallback_line(&fallback, SF_FALLBACK_EXPIRES,
+                             sf_cstr("\tSun, 06 Nov 1994 08:49:37 GMT ")) == SF_OK);
+  CHECK(fallback.expires.lines == 1 && fallback.expires.seconds == 784111777);
+  CHECK(sf_fallback_lifetime(&fallback, 784111770, &response) == SF_OK);
+  CHECK(response.has_lifetime == 1 && response.lifetime == 7 && response.age == 0);
+  CHECK(sf_add_fallback_line(&fallback, SF_FALLBACK_DATE,
+                             sf_cstr(" Sun, 06 Nov 1994 08:49:36 GMT\t")) == SF_OK);
+  CHECK(sf_fallback_lifetime(&fallback, 784111770, &response) == SF_OK && response.lifetime == 1);
+  CHECK(sf_add_fallback_line(&fallback, SF_FALLBACK_CACHE_CONTROL, sf_cstr("a b")) == SF_REFUSED);
+  CHECK(fallback.is_refused == 1 && fallback.rules.policy.no_store == 1);
+  CHECK(fallback.rules.policy.has_max_age == 0 && fallback.expires.lines == 1);
+  CHECK(sf_add_fallback_line(&fallback, (sf_fallback_field)70, sf_cstr("a")) == SF_BAD_CALL);
+  CHECK(sf_add_fallback_line(&none, SF_FALLBACK_EXPIRES, sf_cstr(NULL)) == SF_OK);
+  CHECK(none.expires.lines == 2);
+}
+
+/* What the fields of a row say if no targeted field decides. */
+static sf_fallback fallback_of(const struct decision_row *row) {
+  static const sf_fallback_field fields[] = {SF_FALLBACK_CACHE_CONTROL, SF_FALLBACK_EXPIRES,
+                                             SF_FALLBACK_DATE};
+  sf_fallback fallback = sf_fallback_begin();
+  for (size_t i = 0; i < 3; ++i)
+    for (const char *const *line = row->lines[i]; *line != NULL; ++line)
+      sf_add_fallback_line(&fallback, fields[i], sf_cstr(*line));
+  return fallback;
+}
+
 /* What may be stored. The crate sf has the same rows. */
 static void what_may_be_stored(void) {
   static const struct {
@@ -424,24 +472,332 @@ static void what_may_be_stored(void) {
   for (size_t i = 0; i < sizeof decisions_made / sizeof *decisions_made; ++i)
     CHECK(sf_may_store(&decisions_made[i].decision) == decisions_made[i].may);
 
-  /* of the rows of tests/decisions.txt that a targeted field decides, these may not be stored */
-  static const int not_stored[] = {6,  7,  8,  10, 12, 14, 15, 23, 25,
-                                   27, 28, 43, 47, 48, 63, 64, 66, 74};
+  /* of the rows of tests/decisions.txt these may not be stored */
+  static const int not_stored[] = {6,  7,  8,  10, 12, 14, 15, 23, 25, 27, 28, 43,
+                                   47, 48, 50, 51, 56, 63, 64, 66, 72, 73, 74};
   sf_context context = sf_context_of(seed, SF_RFC8941);
   for (size_t i = 0; i < sizeof decision_rows / sizeof *decision_rows; ++i) {
     const struct decision_row *row = &decision_rows[i];
     sf_text targets[] = {sf_cstr(row->targets[0]), sf_cstr(row->targets[1])};
+    sf_response response = row->response;
     sf_choice choice;
     sf_decision decision;
     int may = 1;
-    if (row->index == DECISION_FALLBACK)
-      continue;
     for (size_t k = 0; k < sizeof not_stored / sizeof *not_stored; ++k)
       may = may && not_stored[k] != row->row;
-    CHECK(sf_choose_rules(&context, targets, 2, &choice) == SF_OK);
-    CHECK(sf_decide(&choice.rules, row->cache, &row->response, &decision) == SF_OK);
-    CHECK(sf_may_store(&decision) == may);
+    sf_status status = sf_choose_rules(&context, targets, 2, &choice);
+    CHECK(status == (row->index == DECISION_FALLBACK ? SF_EMPTY : SF_OK));
+    if (status == SF_EMPTY) {
+      sf_fallback fallback = fallback_of(row);
+      sf_fallback_lifetime(&fallback, 0, &response);
+      choice.rules = fallback.rules;
+    }
+    CHECK(sf_decide(&choice.rules, row->cache, &response, &decision) == SF_OK);
+    CHECK(decision.reuse == row->decision.reuse && decision.cause == row->decision.cause);
+    CHECK(decision.seconds == row->decision.seconds && sf_may_store(&decision) == may);
   }
+}
+
+/* The lines of heads, their fields, and the places of refusals in them. */
+static void heads(void) {
+  sf_text rest = sf_cstr("a: 1\r\nb\n\nc");
+  CHECK(is(sf_take_line(&rest), "a: 1\r\n") && is(sf_take_line(&rest), "b\n"));
+  CHECK(is(sf_take_line(&rest), "\n") && is(sf_take_line(&rest), "c"));
+  CHECK(rest.length == 0 && is(sf_take_line(&rest), ""));
+  sf_text nothing = sf_text_of(NULL, 0);
+  CHECK(sf_take_line(&nothing).length == 0 && nothing.at == NULL);
+
+  sf_head_line few[7];
+  char bytes[16];
+  sf_head head = sf_head_in(SF_HEAD_LINES(few), SF_BUFFER(bytes));
+  CHECK(head.number == 1 && head.lines.length == 0 && head.lines.capacity == 7);
+  head.number = 12;
+  CHECK(sf_add_head_line(&head, sf_cstr("HTTP/1.1 200 OK\r\n")) == SF_REFUSED);
+  CHECK(sf_add_head_line(&head, sf_cstr("Priority: \tu=5 \r\n")) == SF_OK);
+  CHECK(sf_add_head_line(&head, sf_cstr("Server : a:b")) == SF_OK);
+  CHECK(sf_add_head_line(&head, sf_cstr(": a")) == SF_REFUSED);
+  CHECK(sf_add_head_line(&head, sf_cstr(" x: folded")) == SF_REFUSED);
+  CHECK(sf_add_head_line(&head, sf_cstr("\tx: folded")) == SF_REFUSED);
+  CHECK(sf_add_head_line(&head, sf_cstr("PRIORITY:i;x, a=(1 2\n")) == SF_OK);
+  CHECK(sf_add_head_line(&head, sf_cstr("!#$%&'*+-.^_`|~09azAZ: u=1")) == SF_OK);
+  CHECK(sf_add_head_line(&head, sf_cstr("priority:")) == SF_OK);
+  CHECK(sf_add_head_line(&head, sf_cstr("Date \t:now")) == SF_OK);
+  CHECK(sf_add_head_line(&head, sf_cstr("\r\n")) == SF_EMPTY);
+  CHECK(sf_add_head_line(&head, sf_cstr("")) == SF_EMPTY);
+  CHECK(sf_add_head_line(&head, sf_text_of(NULL, 0)) == SF_EMPTY && head.number == 25);
+  CHECK(head.lines.length == 6 && few[0].number == 13 && few[1].number == 14);
+  CHECK(is(few[0].name, "Priority") && is(few[0].value, "u=5"));
+  CHECK(is(few[1].name, "Server") && is(few[1].value, "a:b"));
+  CHECK(sf_add_field_line(&head, sf_cstr("Age"), sf_cstr(" 20 ")) == SF_OK);
+  CHECK(is(few[6].value, "20") && few[6].number == 25 && head.number == 26);
+  CHECK(sf_add_head_line(&head, sf_cstr("a: b")) == SF_SHORT && head.lines.required == 8);
+  CHECK(head.number == 26 && head.lines.length == 7);
+
+  /* names that are no token (RFC 9110 section 5.1), and values with a CR, LF or NUL (section 5.5) */
+  static const sf_text wrong[] = {
+      {"Priority\0: u=1", 14}, {"Date\r:now", 9},       {"Cache Control: no-store", 23}, {"Age\v: 1", 7},
+      {"\x80: 1", 4},          {"(a): 1", 6},           {"a\xc3\xa9: 1", 6},              {"a,b: 1", 6},
+      {" : 1", 4},             {"Age: 20\r\r\n", 10},   {"Age: 2\r0", 8},                {"Age: 2\n0", 8},
+      {"Age: 2\0" "0", 8},     {"Age: 20\n\n", 9},      {"Age: 20\0", 8},               {"Age:\r", 5}};
+  sf_head_line one[1];
+  sf_head strict = sf_head_in(SF_HEAD_LINES(one), SF_BUFFER(bytes));
+  for (size_t i = 0; i + 1 < sizeof wrong / sizeof *wrong; ++i)
+    CHECK(sf_add_head_line(&strict, wrong[i]) == SF_REFUSED && strict.number == i + 2);
+  CHECK(strict.lines.length == 0 && sf_add_head_line(&strict, wrong[15]) == SF_OK);
+  CHECK(is(one[0].name, "Age") && is(one[0].value, ""));
+
+  sf_text text = sf_cstr("before");
+  CHECK(sf_find_field(&head, "Via", &text) == SF_OK && text.length == 0);
+  CHECK(sf_find_field(&head, "server", &text) == SF_OK && text.at == few[1].value.at);
+  CHECK(is(text, "a:b") && head.joined.length == 0);
+  text = sf_cstr("before");
+  /* `u=5, i;x, a=(1 2, ` has 18 bytes */
+  CHECK(sf_find_field(&head, "Priority", &text) == SF_SHORT && head.joined.required == 18);
+  CHECK(is(text, "before") && head.joined.length == 0);
+  char more[22];
+  head.joined = SF_BUFFER(more);
+  CHECK(sf_find_field(&head, "pRIORITY", &text) == SF_OK && is(text, "u=5, i;x, a=(1 2, "));
+  CHECK(head.joined.length == 18 && head.joined.required == 0);
+  head.joined.length = 23; /* past its end */
+  CHECK(sf_find_field(&head, "Priority", &text) == SF_SHORT);
+  head.joined.length = 3; /* after what is there */
+  more[2] = 'x';
+  CHECK(sf_find_field(&head, "Priority", &text) == SF_OK && text.at == more + 3 && more[2] == 'x');
+
+  /* 3 bytes are in the first line, 2 between two lines, 11 in the second, and none in the third */
+  static const struct {
+    uint64_t offset, at, number;
+    size_t index;
+  } rows[] = {{0, 0, 13, 0},  {3, 3, 13, 0},   {4, 3, 13, 0},   {5, 0, 18, 2},
+              {16, 11, 18, 2}, {17, 11, 18, 2}, {18, 0, 20, 4}, {99, 0, 20, 4}};
+  for (size_t i = 0; i < sizeof rows / sizeof *rows; ++i) {
+    sf_refusal refusal;
+    memset(&refusal, 0, sizeof refusal);
+    refusal.offset = rows[i].offset;
+    refusal.found = 'x';
+    sf_location location = sf_locate_in_head(&refusal, &head, "priority");
+    CHECK(location.refusal.offset == rows[i].at && location.number == rows[i].number);
+    CHECK(location.index == rows[i].index && location.refusal.found == 'x');
+    CHECK(location.line.at == few[location.index].value.at);
+    location = sf_locate_in_head(&refusal, &head, "Via");
+    CHECK(location.line.length == 0 && location.number == 1 && location.refusal.offset == 0);
+  }
+}
+
+/* A head with these lines of the fields of a row, and with an Age unless it is NULL. */
+static sf_head head_of(const struct decision_row *row, const char *age, sf_head_lines lines,
+                       sf_buffer joined) {
+  static const char *const targets[] = {"examplecdn-cache-control", "CDN-CACHE-CONTROL"};
+  static const char *const fields[] = {"Cache-Control", "Expires", "Date"};
+  sf_head head = sf_head_in(lines, joined);
+  for (size_t i = 0; i < 2; ++i)
+    if (*row->targets[i] != 0)
+      CHECK(sf_add_field_line(&head, sf_cstr(targets[i]), sf_cstr(row->targets[i])) == SF_OK);
+  for (size_t i = 0; i < 3; ++i)
+    for (const char *const *line = row->lines[i]; *line != NULL; ++line)
+      CHECK(sf_add_field_line(&head, sf_cstr(fields[i]), sf_cstr(*line)) == SF_OK);
+  if (age != NULL) {
+    CHECK(sf_add_field_line(&head, sf_cstr("Age"), sf_cstr(age)) == SF_OK);
+    CHECK(sf_add_field_line(&head, sf_cstr("Age"), sf_cstr("7")) == SF_OK); /* only the first counts */
+  }
+  return head;
+}
+
+/* The rows of tests/decisions.txt by one call each, with the age in the field or by the clock. */
+static void responses(void) {
+  sf_context context = sf_context_of(seed, SF_RFC8941), none = no_dialect();
+  const uint64_t then = 784111777;
+  for (size_t i = 0; i < sizeof decision_rows / sizeof *decision_rows; ++i) {
+    const struct decision_row *row = &decision_rows[i];
+    sf_head_line lines[12];
+    char bytes[8], age[24];
+    int is_fallback = row->index == DECISION_FALLBACK;
+    snprintf(age, sizeof age, "%llu", (unsigned long long)row->response.age);
+    for (int by_clock = 0; by_clock < 2; ++by_clock) {
+      sf_head head = head_of(row, by_clock ? NULL : age, SF_HEAD_LINES(lines), SF_BUFFER(bytes));
+      sf_target targets[] = {sf_target_of("ExampleCDN-Cache-Control"),
+                             sf_target_of("CDN-Cache-Control")};
+      sf_exchange exchange = sf_exchange_of((sf_cache)row->cache, then);
+      exchange.is_understood = row->response.is_understood;
+      exchange.status = 200;
+      if (by_clock)
+        exchange.now = row->response.age < UINT64_MAX - then ? then + row->response.age : UINT64_MAX;
+      sf_verdict verdict;
+      CHECK(sf_decide_response(&context, &head, targets, 2, &exchange, &verdict) == SF_OK);
+      CHECK(verdict.decision.reuse == row->decision.reuse);
+      CHECK(verdict.decision.cause == row->decision.cause);
+      CHECK(verdict.decision.seconds == row->decision.seconds);
+      CHECK(verdict.target == (is_fallback ? 2 : (size_t)row->index));
+      const char *fallback = row->decision.cause == SF_BY_EXPIRES ? "Expires" : "Cache-Control";
+      CHECK(strcmp(verdict.field, is_fallback ? fallback : targets[row->index].name) == 0);
+      /* 200 is heuristically cacheable, so that only a directive can forbid it */
+      CHECK(verdict.may_store == (row->decision.reuse != SF_REUSE_NOT_STORED));
+      CHECK(verdict.obstacle ==
+            (uint32_t)(verdict.may_store ? SF_NO_OBSTACLE : SF_BARRED_DIRECTIVE));
+      CHECK(verdict.age == (row->response.age < UINT64_C(2147483648) ? row->response.age
+                                                                     : UINT64_C(2147483648)));
+      for (size_t k = 0; k < 2; ++k) {
+        uint32_t alone = sf_check_text(&context, SF_DICT, sf_cstr(row->targets[k]));
+        CHECK(targets[k].status == (k > verdict.target           ? (uint32_t)SF_ABSENT
+                                    : *row->targets[k] == 0      ? (uint32_t)SF_EMPTY
+                                                                 : alone));
+        CHECK(targets[k].status != SF_REFUSED ||
+              (alone == SF_REFUSED && targets[k].refusal.offset == context.refusal.offset));
+      }
+    }
+  }
+
+  /* Several lines of a targeted field are one Dictionary, the last value of a key counts, and their
+   * buffer is free again. */
+  sf_head_line lines[4];
+  char bytes[19];
+  sf_head head = sf_head_in(SF_HEAD_LINES(lines), sf_buffer_of(bytes, 18));
+  sf_target targets[] = {sf_target_of("A"), sf_target_of("CDN-Cache-Control")};
+  sf_exchange exchange = sf_exchange_of(SF_SHARED_CACHE, then);
+  sf_verdict verdict, before;
+  memset(&verdict, 0x5a, sizeof verdict);
+  before = verdict;
+  CHECK(sf_add_head_line(&head, sf_cstr("cdn-cache-control: max-age=6")) == SF_OK);
+  CHECK(sf_add_head_line(&head, sf_cstr("Cdn-Cache-Control: max-age")) == SF_OK);
+  lines[1].value = sf_cstr("s-maxage");
+  CHECK(sf_decide_response(&context, &head, targets, 2, &exchange, &verdict) == SF_SHORT);
+  CHECK(head.joined.required == 19 && targets[0].status == SF_EMPTY);
+  CHECK(targets[1].status == SF_SHORT && memcmp(&verdict, &before, sizeof verdict) == 0);
+  head.joined = SF_BUFFER(bytes);
+  CHECK(sf_decide_response(&context, &head, targets, 2, &exchange, &verdict) == SF_OK);
+  CHECK(verdict.decision.cause == SF_BY_INVALID_S_MAXAGE && head.joined.length == 0);
+  lines[1].value = sf_cstr("s-maxage=");
+  CHECK(sf_decide_response(&context, &head, targets, 1, &exchange, &verdict) == SF_OK);
+  CHECK(verdict.decision.reuse == SF_REUSE_UNSPECIFIED && verdict.target == 1);
+
+  /* targets that are used again: the second is not read */
+  targets[0].name = targets[1].name;
+  lines[1].value = sf_cstr("s-maxag=");
+  CHECK(sf_decide_response(&context, &head, targets, 2, &exchange, &verdict) == SF_OK);
+  CHECK(targets[0].status == SF_REFUSED && targets[1].status == SF_REFUSED);
+  lines[1].value = sf_cstr("s-maxage");
+  CHECK(sf_decide_response(&context, &head, targets, 2, &exchange, &verdict) == SF_OK);
+  CHECK(targets[0].status == SF_OK && targets[1].status == SF_ABSENT && verdict.target == 0);
+  targets[0].name = "A";
+
+  /* no such dialect or cache */
+  lines[1].value = sf_cstr("a=1");
+  before = verdict;
+  CHECK(sf_decide_response(&none, &head, targets, 2, &exchange, &verdict) == SF_BAD_CALL);
+  CHECK(sf_decide_response(&none, &head, NULL, 0, &exchange, &verdict) == SF_BAD_CALL);
+  exchange.cache = SF_OK;
+  CHECK(sf_decide_response(&context, &head, targets, 2, &exchange, &verdict) == SF_BAD_CALL);
+  CHECK(memcmp(&verdict, &before, sizeof verdict) == 0);
+
+  /* a line of Cache-Control that is malformed, and an age that is */
+  exchange = sf_exchange_of(SF_SHARED_CACHE, then);
+  head = sf_head_in(SF_HEAD_LINES(lines), SF_BUFFER(bytes));
+  CHECK(sf_add_head_line(&head, sf_cstr("Cache-Control: max-age=60")) == SF_OK);
+  CHECK(sf_add_head_line(&head, sf_cstr("Age: -5")) == SF_OK);
+  CHECK(sf_decide_response(&context, &head, NULL, 0, &exchange, &verdict) == SF_OK);
+  CHECK(verdict.decision.seconds == 60 && verdict.age == 0 && verdict.is_refused == 0);
+  CHECK(verdict.refused_line == 0);
+  CHECK(sf_add_head_line(&head, sf_cstr("Cache-Control: a b")) == SF_OK);
+  CHECK(sf_decide_response(&context, &head, NULL, 0, &exchange, &verdict) == SF_OK);
+  CHECK(verdict.decision.cause == SF_BY_NO_STORE && verdict.is_refused == 1 && !verdict.may_store);
+  CHECK(verdict.refused_line == 2 && lines[verdict.refused_line].number == 3);
+  CHECK(sf_add_head_line(&head, sf_cstr("Cache-Control: c d")) == SF_OK);
+  CHECK(sf_decide_response(&context, &head, NULL, 0, &exchange, &verdict) == SF_OK);
+  CHECK(verdict.refused_line == 2); /* the first */
+}
+
+/* What RFC 9111 section 3 asks for beside the directives: "the response status code is final", "if
+ * the response status code is 206 or 304 .. the cache understands the response status code", "if the
+ * cache is shared: the Authorization header field is not present in the request .. or a response
+ * directive is present that explicitly allows shared caching", and one of a directive, Expires and
+ * "a status code that is defined as heuristically cacheable". Those of RFC 9110 section 15.1 are
+ * "200, 203, 204, 206, 300, 301, 308, 404, 405, 410, 414, and 501". */
+static void storing(void) {
+  static const struct {
+    const char *line;
+    uint32_t cache, status, is_understood, is_authorized, obstacle;
+  } rows[] = {
+      {"Cache-Control: max-age=60", SF_SHARED_CACHE, 200, 0, 0, SF_NO_OBSTACLE},
+      {"Cache-Control: max-age=60", SF_SHARED_CACHE, 500, 0, 0, SF_NO_OBSTACLE},
+      {"Cache-Control: max-age=60", SF_SHARED_CACHE, 0, 0, 0, SF_NO_OBSTACLE},
+      {"Cache-Control: max-age=60", SF_SHARED_CACHE, 103, 0, 0, SF_BARRED_STATUS},
+      {"Cache-Control: max-age=60", SF_SHARED_CACHE, 199, 1, 0, SF_BARRED_STATUS},
+      {"Cache-Control: max-age=60", SF_SHARED_CACHE, 206, 0, 0, SF_BARRED_STATUS},
+      {"Cache-Control: max-age=60", SF_SHARED_CACHE, 206, 1, 0, SF_NO_OBSTACLE},
+      {"Cache-Control: max-age=60", SF_SHARED_CACHE, 304, 0, 0, SF_BARRED_STATUS},
+      {"Cache-Control: max-age=60", SF_SHARED_CACHE, 304, 1, 0, SF_NO_OBSTACLE},
+      {"Cache-Control: max-age=60", SF_SHARED_CACHE, 200, 0, 1, SF_BARRED_REQUEST},
+      {"Cache-Control: max-age=60", SF_PRIVATE_CACHE, 200, 0, 1, SF_NO_OBSTACLE},
+      {"Cache-Control: max-age=60, must-revalidate", SF_SHARED_CACHE, 200, 0, 1, SF_NO_OBSTACLE},
+      {"Cache-Control: public", SF_SHARED_CACHE, 500, 0, 1, SF_NO_OBSTACLE},
+      {"Cache-Control: s-maxage=60", SF_SHARED_CACHE, 500, 0, 1, SF_NO_OBSTACLE},
+      {"Cache-Control: s-maxage=60", SF_PRIVATE_CACHE, 500, 0, 0, SF_BARRED_UNPERMITTED},
+      {"Cache-Control: private", SF_SHARED_CACHE, 200, 0, 0, SF_BARRED_DIRECTIVE},
+      {"Cache-Control: private", SF_PRIVATE_CACHE, 500, 0, 0, SF_NO_OBSTACLE},
+      {"Cache-Control: no-store", SF_PRIVATE_CACHE, 103, 0, 1, SF_BARRED_DIRECTIVE},
+      {"Cache-Control: must-understand", SF_SHARED_CACHE, 200, 0, 0, SF_BARRED_DIRECTIVE},
+      {"Cache-Control: must-understand, no-store", SF_SHARED_CACHE, 200, 1, 0, SF_NO_OBSTACLE},
+      {"Cache-Control: no-cache", SF_SHARED_CACHE, 200, 0, 0, SF_NO_OBSTACLE},
+      {"Cache-Control: no-cache", SF_SHARED_CACHE, 500, 0, 0, SF_BARRED_UNPERMITTED},
+      {"Cache-Control: no-cache", SF_SHARED_CACHE, 0, 0, 0, SF_BARRED_UNPERMITTED},
+      {"Expires: 0", SF_SHARED_CACHE, 500, 0, 0, SF_NO_OBSTACLE},
+      {"T: x", SF_SHARED_CACHE, 500, 0, 0, SF_BARRED_UNPERMITTED},
+      {"T: max-age=60", SF_SHARED_CACHE, 500, 0, 0, SF_NO_OBSTACLE},
+  };
+  static const uint32_t heuristic[] = {200, 203, 204, 206, 300, 301, 308, 404, 405, 410, 414, 501};
+  sf_context context = sf_context_of(seed, SF_RFC8941);
+  sf_target target = sf_target_of("t");
+  sf_head_line lines[2];
+  sf_verdict verdict;
+  for (size_t i = 0; i < sizeof rows / sizeof *rows; ++i) {
+    sf_head head = sf_head_in(SF_HEAD_LINES(lines), sf_buffer_of(NULL, 0));
+    sf_exchange exchange = sf_exchange_of((sf_cache)rows[i].cache, 0);
+    exchange.status = rows[i].status;
+    exchange.is_understood = rows[i].is_understood;
+    exchange.is_authorized = rows[i].is_authorized;
+    CHECK(sf_add_head_line(&head, sf_cstr(rows[i].line)) == SF_OK);
+    CHECK(sf_decide_response(&context, &head, &target, 1, &exchange, &verdict) == SF_OK);
+    CHECK(verdict.obstacle == rows[i].obstacle);
+    CHECK(verdict.may_store == (rows[i].obstacle == SF_NO_OBSTACLE));
+  }
+  /* beside a targeted field Expires does not count (RFC 9213 section 2.2) */
+  sf_head head = sf_head_in(SF_HEAD_LINES(lines), sf_buffer_of(NULL, 0));
+  sf_exchange exchange = sf_exchange_of(SF_SHARED_CACHE, 0);
+  exchange.status = 500;
+  CHECK(sf_add_head_line(&head, sf_cstr("Expires: 0")) == SF_OK);
+  CHECK(sf_add_head_line(&head, sf_cstr("T: no-cache")) == SF_OK);
+  CHECK(sf_decide_response(&context, &head, &target, 1, &exchange, &verdict) == SF_OK);
+  CHECK(verdict.obstacle == SF_BARRED_UNPERMITTED);
+  CHECK(sf_decide_response(&context, &head, &target, 0, &exchange, &verdict) == SF_OK);
+  CHECK(verdict.obstacle == SF_NO_OBSTACLE);
+  /* each status code without a field */
+  head.lines.length = 0;
+  for (exchange.status = 0; exchange.status < 1000; ++exchange.status) {
+    int is_heuristic = 0;
+    for (size_t i = 0; i < sizeof heuristic / sizeof *heuristic; ++i)
+      is_heuristic = is_heuristic || heuristic[i] == exchange.status;
+    exchange.is_understood = 1;
+    CHECK(sf_decide_response(&context, &head, &target, 1, &exchange, &verdict) == SF_OK);
+    CHECK(verdict.may_store == (uint32_t)is_heuristic);
+  }
+  /* RFC 9111 section 4.2.3: age_value + (response_time - request_time) + (now - response_time) */
+  exchange = sf_exchange_of(SF_SHARED_CACHE, 1000);
+  exchange.received = 1003;
+  exchange.now = 1010;
+  CHECK(sf_add_head_line(&head, sf_cstr("Age: 20")) == SF_OK);
+  CHECK(sf_decide_response(&context, &head, &target, 1, &exchange, &verdict) == SF_OK);
+  CHECK(verdict.age == 30);
+  exchange.now = 900; /* a clock that was set back */
+  CHECK(sf_decide_response(&context, &head, &target, 1, &exchange, &verdict) == SF_OK);
+  CHECK(verdict.age == 20);
+  /* of Expires without a Date the time of receipt counts: 1994-11-06T08:49:37Z is 784111777 */
+  CHECK(sf_add_head_line(&head, sf_cstr("Expires: Sun, 06 Nov 1994 08:49:37 GMT")) == SF_OK);
+  exchange = sf_exchange_of(SF_SHARED_CACHE, 784111700);
+  exchange.received = 784111717;
+  CHECK(sf_decide_response(&context, &head, NULL, 0, &exchange, &verdict) == SF_OK);
+  CHECK(verdict.decision.reuse == SF_REUSE_FRESH && verdict.decision.seconds == 60 - 20);
+  CHECK(strcmp(sf_obstacle_name(SF_BARRED_STATUS), "the status code") == 0);
+  CHECK(strcmp(sf_obstacle_name(SF_NO_OBSTACLE), "") == 0 && strcmp(sf_obstacle_name(0), "") == 0);
 }
 
 /* The Age field (RFC 9111 sections 5.1 and 1.2.2). */
@@ -550,6 +906,29 @@ static void paths(void) {
   own.hop.outcome = SF_HIT;
   CHECK(sf_write_hop(&context, &own, &out) == SF_OK);
   CHECK(is(sf_written(&out), "ExampleCache;hit;detail=MEMORY"));
+
+  /* what came with the own hop, or that alone, and which of the two */
+  uint32_t is_appended = 7;
+  own = sf_hop_named("ExampleCache", SF_TOKEN);
+  own.hop.outcome = SF_HIT;
+  CHECK(sf_append_or_write_hop(&context, sf_cstr("a;hit,  b"), &own, &out, &is_appended) == SF_OK);
+  CHECK(is(sf_written(&out), "a;hit, b, ExampleCache;hit") && is_appended == 1);
+  CHECK(sf_append_or_write_hop(&context, sf_cstr("a;hit, b="), &own, &out, &is_appended) == SF_OK);
+  CHECK(is(sf_written(&out), "ExampleCache;hit") && is_appended == 0);
+  CHECK(context.refusal.offset == 8 && context.refusal.found == '=');
+  is_appended = 7;
+  CHECK(sf_append_or_write_hop(&context, sf_text_of(NULL, 0), &own, &out, &is_appended) == SF_OK);
+  CHECK(is(sf_written(&out), "ExampleCache;hit") && is_appended == 1);
+  is_appended = 7;
+  CHECK(sf_append_or_write_hop(&context, sf_cstr("a,"), &own, &empty, &is_appended) == SF_SHORT);
+  CHECK(empty.required == 16 && is_appended == 7);
+  CHECK(sf_append_or_write_hop(&context, sf_cstr("a"), &own, &empty, &is_appended) == SF_SHORT);
+  CHECK(empty.required == 19);
+  CHECK(sf_append_or_write_hop(&none, sf_cstr("a,"), &own, &out, &is_appended) == SF_BAD_CALL);
+  own.hop.outcome = SF_CONFLICT;
+  own.hop.why = SF_MISS;
+  CHECK(sf_append_or_write_hop(&context, sf_cstr("a,"), &own, &out, &is_appended) == SF_INVALID);
+  CHECK(out.length == 0 && is_appended == 7);
 }
 
 int main(void) {
@@ -561,8 +940,12 @@ int main(void) {
   builders();
   priorities();
   decisions();
+  fallbacks();
   what_may_be_stored();
   ages();
+  heads();
+  responses();
+  storing();
   paths();
   printf("%ld passed, %ld failed\n", passed, failed);
   return failed != 0;

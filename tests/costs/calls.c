@@ -57,6 +57,7 @@ static int answered_plainly(const struct record *record) {
   sf_response_priority_flags response;
   sf_policy policy;
   sf_rules rules;
+  sf_response aged = {0};
   sf_span field = {0, record->length};
   size_t index;
   uint32_t equal = 0;
@@ -97,6 +98,14 @@ static int answered_plainly(const struct record *record) {
     calls_begin();
     for (size_t i = 0; i < times; ++i)
       add_status(sf_select_rules(&seed, SF_RFC9651, text, length, &field, 1, &index, &rules));
+  } else if (is(record, "c_fallback")) {
+    calls_begin();
+    for (size_t i = 0; i < times; ++i) {
+      sf_fallback fallback = sf_fallback_begin();
+      add_status(sf_fallback_line(SF_FALLBACK_CACHE_CONTROL, text, length, &fallback));
+      add_status(sf_fallback_line(SF_FALLBACK_EXPIRES, text, length, &fallback));
+      add_status(sf_fallback_lifetime(&fallback, 0, &aged));
+    }
   } else {
     return 0;
   }

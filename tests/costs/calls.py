@@ -18,7 +18,7 @@ TEXTS = [
     *calls_of("c_check, c_normalise, c_parse, c_equal"),
     *calls_of("item_cursor, hop_cursor, c_cache_status, c_append", LIST),
     *calls_of("dict_cursor, of_cache_control", DICT),
-    *calls_of("c_cache_control, c_cache_rules, c_select, c_select_rules", DICT),
+    *calls_of("c_cache_control, c_cache_rules, c_select, c_select_rules, c_fallback", DICT),
     *calls_of("c_priority, c_response_priority, c_priority_change", DICT),
 ]
 # Calls on texts that are refused, and on texts that are accepted.
@@ -40,7 +40,7 @@ LINE_MESSAGES = calls_of("message_in_lines")
 COMMANDS = [
     *calls_of("sf_check, sf_normalise, sf_show, sflint"),
     *calls_of("sf_cache_status", LIST),
-    *calls_of("sf_priority, sf_targeted", DICT),
+    *calls_of("sf_priority, sf_targeted, sf_decide, sflint_decide", DICT),
 ]
 
 # The most bytes that a command reads.
@@ -93,7 +93,7 @@ def job(made_by, shape, call, size):
     """The program that makes a call on a shape of this size, and its record."""
     operation, _, parameter = call.partition(" ")
     text = text_of(shape, size)
-    if call in ("sf_targeted", "sflint"):
+    if call in ("sf_targeted", "sf_decide", "sflint", "sflint_decide"):
         name = NAMES[shape.kind]
         text = name + text.replace(b"\n", b"\n" + name)
     program = made_by[is_for_c(call)]

@@ -4,6 +4,7 @@ import concurrent.futures
 import os
 import re
 import shutil
+import signal
 import subprocess
 import sys
 import tempfile
@@ -53,9 +54,10 @@ def crates_below(crate, dependencies=None):
 
 
 def is_built(program):
-    """Whether there is a program that LLVM compiled. `rt run --backend rattle` leaves one of the same
-    name that Rattle's own compiler made. That inlines also functions with `inline(never)`, as the
-    marks between which calls are counted."""
+    """Whether there is a program that LLVM compiled, which alone is counted. `rt ci` and `rt run`
+    leave it there; what Rattle's own compiler made is left by `rt ci` beside it, as NAME.by-rattle,
+    but by `rt run --backend rattle` under the same name. That inlines also functions with
+    `inline(never)`, as the marks between which calls are counted."""
     if not os.path.exists(program):
         return False
     with open(program, "rb") as file:
@@ -124,9 +126,22 @@ def tuned(*tunables):
 
 
 def counted(program, records, folder):
-    """The instructions of the calls of each record, which one run of the program makes; `None` for
-    a record at which it fails or takes too long. The calls begin and end where the program calls
-    `calls_begin` and `calls_end`."""
+    """The instructions of the calls of each record; `None` for a record at which the program fails
+    or takes too long. The records behind that one are given to another run."""
+    found = []
+    while len(found) < len(records):
+        first, is_late = counted_first(program, records[len(found) :], folder)
+        found += first
+        # A run that is late may have spent its time on other records.
+        if len(found) < len(records) and not (is_late and first):
+            found.append(None)
+    return found
+
+
+def counted_first(program, records, folder):
+    """The instructions of the calls of each record that one run of the program finishes, and
+    whether it took too long for more. The calls begin and end where the program calls `calls_begin`
+    and `calls_end`."""
     source = tempfile.TemporaryFile(dir=folder)
     source.write(b"".join(records))
     source.seek(0)
@@ -140,19 +155,18 @@ def counted(program, records, folder):
         how = {"stdin": source, "capture_output": True, "env": tuned(COPYING, ALLOCATING)}
         limited = ["sh", "-c", f'ulimit -t {SECONDS}; exec "$@"', "", *VALGRIND, *flags, program]
         ran = subprocess.run(limited, **how)
-        if ran.returncode and len(records) > 1:
-            half = len(records) // 2
-            halves = (records[:half], records[half:])
-            return [it for given in halves for it in counted(program, given, folder)]
-        if ran.returncode:
-            return [None]
-        with open(f"{work}/counts", "rb") as lines:
-            found = [int(line.split()[1]) for line in lines if line.startswith(b"summary:")]
-    # The last count is of what comes after the last record.
-    if len(found) != len(records) + 1:
+        found = []
+        if os.path.exists(f"{work}/counts"):
+            with open(f"{work}/counts", "rb") as lines:
+                found = [int(line.split()[1]) for line in lines if line.startswith(b"summary:")]
+    is_late = ran.returncode == -signal.SIGKILL
+    # If it ends by itself, the last count is of what comes after the last record.
+    if not is_late:
+        found = found[:-1]
+    if len(found) > len(records) or not ran.returncode and len(found) < len(records):
         name = os.path.basename(program)
-        stop(f"{name}: {len(found) - 1} pairs of marks were found for {len(records)} records")
-    return found[:-1]
+        stop(f"{name}: {len(found)} pairs of marks were found for {len(records)} records")
+    return found, is_late
 
 
 def counted_all(jobs, folder):

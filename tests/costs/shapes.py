@@ -118,7 +118,9 @@ SHAPES = [
           lambda n: entries([b"k" * 15 + b"%d" % i for i in range(7)] + [b"k" * 15 + b"g"] * n)),
     Shape("keys of one tag", "dict", 320, lambda n: entries(keys_of_one_tag(n))),
     Shape("keys of one tag repeated", "dict", 160, lambda n: entries(keys_of_one_tag(n) * 2)),
-    Shape("long keys of one tag", "dict", 32, lambda n: entries(keys_of_one_tag(n, b"k" * 500))),
+    # From some 32 such keys on, the search for keys ends at its bound, and a tree is built after
+    # it: each key costs up to 2.5 times as much. That is a step, so both sizes are behind it.
+    Shape("long keys of one tag", "dict", 64, lambda n: entries(keys_of_one_tag(n, b"k" * 500))),
     Shape("long keys of one tag repeated", "dict", 32,
           lambda n: entries(keys_of_one_tag(n, b"k" * 500) * 2)),
     Shape("64 long keys of one tag, and the last", "dict", 50,
@@ -190,6 +192,10 @@ SHAPES = [
     # Mistakes.
     Shape("a mistake, then members", "list", 400,
           lambda n: MISTAKE + members([b"a;q=1"] * n), "early"),
+    Shape("a member, a mistake, then members", "list", 800,
+          lambda n: b"a, =" + b", a" * n, "early"),
+    Shape("an entry, a mistake, then entries", "dict", 400,
+          lambda n: b"a=1, =, " + entries(numbered(n)), "early"),
     Shape("a mistake, then no comma", "list", 8000, lambda n: b'x"' + b"x" * n, "early"),
     Shape("a mistake, then quotes", "list", 2000, lambda n: b"x=" + b',""' * n, "early"),
     Shape("a mistake, then blanks", "item", 8000, lambda n: b"a=" + b" " * n, "early"),

@@ -4,18 +4,20 @@
  *   $sf_urgency      0 to 7, by the Priority fields of the request and of the response (RFC 9218
  *                    section 8); 3 if neither sets it
  *   $sf_incremental  1 if the response is of use as it arrives, otherwise 0
- *   $sf_target       the field of the target list that decides (RFC 9213 section 2.2); empty if none
- *                    does, so that Cache-Control decides, and then the others are empty too
+ *   $sf_target       the field of the target list that decides (RFC 9213 section 2.2); Cache-Control if
+ *                    none does, with Expires and Date; empty without a target list, and then the others
+ *                    are empty too
  *   $sf_reuse        what a shared cache does by that field (RFC 9111): not-stored, fresh, stale,
  *                    revalidate (it is never used without validation) or unspecified (no lifetime)
  *   $sf_seconds      for how many seconds the response stays fresh; 0 if it is not fresh
- *   $sf_cause        the directive that decided, such as no-store; empty if none did
+ *   $sf_cause        the directive that decided, such as no-store, or expires; empty if none did
  *
  *   sf_target_list NAME ..;    in http, server or location: the names of the target list, in order.
  *                              Without it there is none. What nginx's cache would store is then stored
  *                              only if the field that decides says that it is fresh, and for so many
  *                              seconds; and a stale response is answered by status 504 if that field
- *                              forbids its use without validation.
+ *                              forbids its use without validation. If Cache-Control decides and sets no
+ *                              lifetime, nor Expires, nginx does what it does without the module.
  *
  *   sf_cache_status NAME;      in http, server or location: adds this cache to Cache-Status (RFC 9211) of
  *                              a response from an upstream server or from the cache of one; NAME is this
@@ -23,8 +25,8 @@
  *                              whoever reads it would ignore this cache's part with the rest.
  *
  * A field that is malformed counts as absent; the error log says where it is malformed, at level info.
- * The fields of the response are those that are sent on; before the response's head arrives they are
- * absent. All memory is from the pool of the request.
+ * The fields of the response are those that are sent on, but Cache-Control, Expires and Date are those
+ * that came; before the response's head arrives they are absent. All memory is from the pool of the request.
  */
 #include <ngx_config.h>
 #include <ngx_core.h>
@@ -37,11 +39,13 @@ typedef struct {
   ngx_str_t cache;    /* this cache's name; NULL without one */
 } sf_settings;
 
-/* What the target list decides. */
+/* What is decided. */
 typedef struct {
-  ngx_str_t name; /* empty if no field decides */
+  ngx_str_t name;   /* of the field that decides; empty without a target list */
+  int is_fallback;  /* whether it is Cache-Control, since no field of the list decides */
+  int allows_stale; /* whether nothing forbids to use it without validation when it is stale */
   sf_decision decision;
-} sf_target;
+} sf_obeyed;
 
 static sf_context fields; /* of this worker */
 
@@ -132,9 +136,59 @@ static uint64_t age_of(ngx_http_request_t *r) {
   return age;
 }
 
+/* What a shared cache does now by these directives, and whether it may when the response is stale. */
+static ngx_int_t decide(const sf_rules *rules, const sf_response *response, sf_obeyed *target) {
+  sf_response older = *response;
+  sf_decision decision;
+  older.age = UINT64_MAX;
+  if (sf_decide(rules, SF_SHARED_CACHE, response, &target->decision) != SF_OK ||
+      sf_decide(rules, SF_SHARED_CACHE, &older, &decision) != SF_OK)
+    return NGX_ERROR;
+  target->allows_stale = decision.reuse == SF_REUSE_STALE;
+  return NGX_OK;
+}
+
+/* When the response came, in seconds since 1970. */
+static uint64_t received_at(ngx_http_request_t *r) {
+#if (NGX_HTTP_CACHE)
+  if (r->cached && r->cache != NULL && r->upstream->cache_status != NGX_HTTP_CACHE_REVALIDATED)
+    return (uint64_t)r->cache->date;
+#endif
+  (void)r;
+  return (uint64_t)ngx_time();
+}
+
+/* What Cache-Control, Expires and Date decide, as they came: nginx doesn't send Date on, and marks lines
+ * that it ignores. */
+static ngx_int_t fall_back(ngx_http_request_t *r, sf_obeyed *target) {
+  static const ngx_str_t names[] = {ngx_string("Cache-Control"), ngx_string("Expires"),
+                                    ngx_string("Date")};
+  static const sf_fallback_field fields_of[] = {SF_FALLBACK_CACHE_CONTROL, SF_FALLBACK_EXPIRES,
+                                                SF_FALLBACK_DATE};
+  const ngx_list_part_t *part = r->upstream != NULL ? &r->upstream->headers_in.headers.part
+                                                    : &r->headers_out.headers.part;
+  sf_fallback fallback = sf_fallback_begin();
+  sf_response response = {.age = age_of(r)};
+  for (; part != NULL; part = part->next) {
+    const ngx_table_elt_t *lines = part->elts;
+    for (ngx_uint_t at = 0; at < part->nelts; ++at)
+      for (size_t i = 0; i < sizeof names / sizeof *names; ++i)
+        if (lines[at].key.len == names[i].len &&
+            ngx_strncasecmp(lines[at].key.data, names[i].data, names[i].len) == 0)
+          sf_add_fallback_line(&fallback, fields_of[i],
+                               sf_text_of(lines[at].value.data, lines[at].value.len));
+  }
+  if (fallback.is_refused)
+    ngx_log_error(NGX_LOG_INFO, r->connection->log, 0, "Cache-Control is no list of directives");
+  sf_fallback_lifetime(&fallback, received_at(r), &response);
+  target->name = names[0];
+  target->is_fallback = 1;
+  return decide(&fallback.rules, &response, target);
+}
+
 /* What the first field of the target list that is well-formed and not empty decides, in a shared
- * cache. */
-static ngx_int_t read_targets(ngx_http_request_t *r, sf_target *target) {
+ * cache, or Cache-Control if there is none. */
+static ngx_int_t read_targets(ngx_http_request_t *r, sf_obeyed *target) {
   const sf_settings *settings = ngx_http_get_module_loc_conf(r, ngx_http_sf_module);
   ngx_memzero(target, sizeof *target);
   if (settings->names == NULL)
@@ -149,13 +203,12 @@ static ngx_int_t read_targets(ngx_http_request_t *r, sf_target *target) {
     if (status == SF_OK) {
       sf_response response = {.age = age_of(r)};
       target->name = names[i];
-      status = sf_decide(&rules, SF_SHARED_CACHE, &response, &target->decision);
-      return status == SF_OK ? NGX_OK : NGX_ERROR;
+      return decide(&rules, &response, target);
     }
     if (passed(r, status, &names[i], text) != NGX_OK)
       return NGX_ERROR;
   }
-  return NGX_OK;
+  return fall_back(r, target);
 }
 
 /* Sets a variable to a text that outlives the request, or that is from its pool. */
@@ -192,7 +245,7 @@ static ngx_int_t get_incremental(ngx_http_request_t *r, ngx_http_variable_value_
 
 static ngx_int_t get_target(ngx_http_request_t *r, ngx_http_variable_value_t *value,
                             uintptr_t data) {
-  sf_target target;
+  sf_obeyed target;
   (void)data;
   if (read_targets(r, &target) != NGX_OK)
     return NGX_ERROR;
@@ -203,7 +256,7 @@ static ngx_int_t get_reuse(ngx_http_request_t *r, ngx_http_variable_value_t *val
                            uintptr_t data) {
   static ngx_str_t words[] = {ngx_string("not-stored"), ngx_string("fresh"), ngx_string("stale"),
                               ngx_string("revalidate"), ngx_string("unspecified")};
-  sf_target target;
+  sf_obeyed target;
   (void)data;
   if (read_targets(r, &target) != NGX_OK)
     return NGX_ERROR;
@@ -215,7 +268,7 @@ static ngx_int_t get_reuse(ngx_http_request_t *r, ngx_http_variable_value_t *val
 
 static ngx_int_t get_seconds(ngx_http_request_t *r, ngx_http_variable_value_t *value,
                              uintptr_t data) {
-  sf_target target;
+  sf_obeyed target;
   (void)data;
   if (read_targets(r, &target) != NGX_OK)
     return NGX_ERROR;
@@ -226,11 +279,11 @@ static ngx_int_t get_seconds(ngx_http_request_t *r, ngx_http_variable_value_t *v
 
 static ngx_int_t get_cause(ngx_http_request_t *r, ngx_http_variable_value_t *value,
                            uintptr_t data) {
-  sf_target target;
+  sf_obeyed target;
   (void)data;
   if (read_targets(r, &target) != NGX_OK)
     return NGX_ERROR;
-  const char *name = sf_cause_name(target.decision.by); /* "" if there is no target */
+  const char *name = sf_cause_name(target.decision.cause); /* "" if there is no target */
   return set_text(value, (u_char *)name, ngx_strlen(name));
 }
 
@@ -288,11 +341,10 @@ static ngx_int_t append_hop(ngx_http_request_t *r, const sf_own_hop *own, sf_tex
   sf_buffer out = sf_buffer_of(ngx_pnalloc(r->pool, size), size);
   if (out.at == NULL)
     return NGX_ERROR;
-  uint32_t status = sf_append_hop(&fields, came, own, &out);
-  if (passed(r, status, &name, came) != NGX_OK)
-    return NGX_ERROR;
-  if (status == SF_REFUSED)
-    status = sf_write_hop(&fields, own, &out);
+  uint32_t is_appended = 0;
+  sf_status status = sf_append_or_write_hop(&fields, came, own, &out, &is_appended);
+  if (status == SF_OK && !is_appended)
+    (void)passed(r, SF_REFUSED, &name, came);
   text->data = (u_char *)out.at;
   text->len = out.length;
   return status == SF_OK ? NGX_OK : NGX_ERROR;
@@ -326,17 +378,40 @@ static ngx_int_t add_hop(ngx_http_request_t *r) {
   return NGX_OK;
 }
 
-/* Lets nginx store what the target list lets it store, for as long; nginx reads these numbers after the
- * head was sent. Gives NGX_DECLINED for a stale response from the cache that must not be used. */
+#if (NGX_HTTP_CACHE)
+/* Lets nginx store a response that is fresh, for as long; nginx reads these numbers after the head was
+ * sent. It reads stale-while-revalidate and stale-if-error of Cache-Control itself: they count only if
+ * Cache-Control decides, and no directive forbids to use the response when it is stale. */
+static void store_by(ngx_http_request_t *r, const sf_obeyed *target) {
+  ngx_http_upstream_t *upstream = r->upstream;
+  if (r->headers_in.authorization != NULL && !target->decision.allows_authorized)
+    upstream->cacheable = 0; /* RFC 9111 section 3.5 */
+  else if (target->decision.reuse == SF_REUSE_FRESH)
+    r->cache->valid_sec = ngx_time() + (time_t)target->decision.seconds;
+  else if (target->decision.reuse != SF_REUSE_UNSPECIFIED || !target->is_fallback)
+    upstream->cacheable = 0;
+  else
+    return; /* proxy_cache_valid says it */
+  if (!target->is_fallback || !target->allows_stale)
+    r->cache->updating_sec = r->cache->error_sec = 0;
+}
+#endif
+
+/* Has nginx's cache do what is decided. Gives NGX_DECLINED for a stale response from the cache that must
+ * not be used. */
 static ngx_int_t obey_target(ngx_http_request_t *r) {
 #if (NGX_HTTP_CACHE)
   ngx_http_upstream_t *upstream = r->upstream;
-  sf_target target;
+  sf_obeyed target;
   if (r->cache == NULL)
     return NGX_OK;
   if (read_targets(r, &target) != NGX_OK)
     return NGX_ERROR;
   if (target.name.len == 0)
+    return NGX_OK;
+  /* X-Accel-Expires is for nginx, which obeys it before Cache-Control. */
+  if (target.is_fallback && upstream->headers_in.x_accel_expires != NULL &&
+      !(upstream->conf->ignore_headers & NGX_HTTP_UPSTREAM_IGN_XA_EXPIRES))
     return NGX_OK;
   uint8_t reuse = target.decision.reuse;
   switch (upstream->cache_status) {
@@ -346,13 +421,7 @@ static ngx_int_t obey_target(ngx_http_request_t *r) {
   case NGX_HTTP_CACHE_HIT:
     return NGX_OK;
   default: /* it came from the upstream server, or was validated there */
-    /* RFC 9111 section 3.5 */
-    if (r->headers_in.authorization != NULL && !target.decision.allows_authorized)
-      upstream->cacheable = 0;
-    else if (reuse == SF_REUSE_FRESH)
-      r->cache->valid_sec = ngx_time() + (time_t)target.decision.seconds;
-    else
-      upstream->cacheable = 0;
+    store_by(r, &target);
     return NGX_OK;
   }
 #else

@@ -18,7 +18,7 @@ use Rattle.sf_view.specs.View.{slice_at, type_of, text_of, DescribesText}
 use Rattle.sf_view.specs.Decoding.{HasBytes}
 use Rattle.sf_c.specs.Decodings.{EachMeans, IsUncoded, AreDecoded, IsNodeDecoded, HasCoded}
 use Rattle.sf_c.specs.Decodings.{decoded_to}
-use Rattle.sf_nodes.proofs.Slices.{slice_at-append, slice_at_behind}
+use Rattle.sf_nodes.proofs.Slices.{slice_at-append, slice_at_after}
 use Rattle.sf_c.proofs.Carrying.{each_more, each_push}
 
 -- a number that is not 0 says that bytes are coded
@@ -72,7 +72,7 @@ slice_free text old free new used count fits e small =
     ∙ drop-append_seam (take used old) free in
     let enough : length (take count free) ≤ count =
     (let l = length-take-le count free small in omega arith) in
-    slice_at_behind text (take (used + count) new) used count
+    slice_at_after text (take (used + count) new) used count
     ∙ ap (take count) (drop-take used count new ∙ ap (take count) behind)
     ∙ take_all count (take count free) enough
 

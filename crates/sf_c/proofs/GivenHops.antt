@@ -31,13 +31,13 @@ use Rattle.sf_c.specs.GivenHops.{GivesToken, GivesWhy, IsReadAs, WritesHop, hop_
 use Rattle.sf_c.specs.TextBuffers.{PutsText, TextBuffer}
 use Rattle.sf_c.proofs.NodeTexts.{canon_only}
 
-forwarded : (bytes : List ℕ) (n : HopNode) → n.outcome ≡ 2
+pub forwarded : (bytes : List ℕ) (n : HopNode) → n.outcome ≡ 2
     → ((p : Passed) → GivesPassed bytes n p → ⊥) → (o : Outcome) → GivesOutcome bytes n o → ⊥
 forwarded bytes n e h (Forwarded p) g = h p g.1
 forwarded bytes n e h (Conflict p) g = let other = g.0 in absurd cc
 forwarded bytes n e h o g = absurd cc
 
-conflicting : (bytes : List ℕ) (n : HopNode) → n.outcome ≡ 3
+pub conflicting : (bytes : List ℕ) (n : HopNode) → n.outcome ≡ 3
     → ((p : Passed) → GivesPassed bytes n p → ⊥) → (o : Outcome) → GivesOutcome bytes n o → ⊥
 conflicting bytes n e h (Forwarded p) g = let other = g.0 in absurd cc
 conflicting bytes n e h (Conflict p) g = h p g.1
@@ -65,12 +65,12 @@ no_conflict bytes n s e =
     (conflicting bytes n e) s
 
 -- a name
-not_text : (bytes : List ℕ) (p : Span) (flag : ℕ) → flag ≡ 0
+pub not_text : (bytes : List ℕ) (p : Span) (flag : ℕ) → flag ≡ 0
     → ((t : List ℕ) → GivesString bytes p t → ⊥) → (x : Name) → GivesName bytes p flag x → ⊥
 not_text bytes p flag e none (name.Text t) g = none t g.1
 not_text bytes p flag e none (name.Token t) g = absurd (g.0 e)
 
-not_token : (bytes : List ℕ) (p : Span) (flag : ℕ) → flag ≢ 0
+pub not_token : (bytes : List ℕ) (p : Span) (flag : ℕ) → flag ≢ 0
     → ((t : List ℕ) → GivesToken bytes p t → ⊥) → (x : Name) → GivesName bytes p flag x → ⊥
 not_token bytes p flag e none (name.Text t) g = absurd (e g.0)
 not_token bytes p flag e none (name.Token t) g = none t g.1
@@ -88,7 +88,7 @@ no_token_name bytes p flag s e =
     (not_token bytes p flag e) s
 
 -- a value whose flag is set
-not_some : {X : Type 0} (flag : ℕ) (P : X → Type 0) → flag ≢ 0 → ((x : X) → P x → ⊥)
+pub not_some : {X : Type 0} (flag : ℕ) (P : X → Type 0) → flag ≢ 0 → ((x : X) → P x → ⊥)
     → (x : Option X) → GivesMaybe flag P x → ⊥
 not_some flag P e none None g = e g
 not_some flag P e none (Some x) g = none x g.1
@@ -99,7 +99,7 @@ no_some flag P s e =
     carries P (GivesMaybe flag P) (λ x. Some x) (λ x g. (e, g)) (not_some flag P e) s
 
 -- a reason with a token of its own
-not_other : (bytes : List ℕ) (n : HopNode) → n.why ≡ 9
+pub not_other : (bytes : List ℕ) (n : HopNode) → n.why ≡ 9
     → ((t : List ℕ) → GivesToken bytes n.why_token t → ⊥) → (w : Forward) → GivesWhy bytes n w → ⊥
 not_other bytes n e none (Other t) g = none t g.1
 not_other bytes n e none w g = absurd cc

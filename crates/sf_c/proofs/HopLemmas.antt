@@ -162,8 +162,8 @@ module _ {b0 b1 b2 b3 b4 n w k d : List ℕ} {x : HopNode}
       )
   hops_order_more at (m ∷ ns) h = (h.0, hops_order_more (end_of m.detail) ns h.1)
 
-  put_behind : b4 ≡ b0 ++ (n ++ (w ++ (k ++ d)))
-  put_behind =
+  put_after : b4 ≡ b0 ++ (n ++ (w ++ (k ++ d)))
+  put_after =
       p.detail.0
       ∙ ap (λ z. z ++ d) (p.key.0 ∙ ap (λ z. z ++ k) (p.why.0 ∙ ap (λ z. z ++ w) p.name.0))
       ∙ append_assoc ((b0 ++ n) ++ w) k d
@@ -192,7 +192,7 @@ module _ {b0 b1 b2 b3 b4 n w k d : List ℕ} {x : HopNode}
         let all = hop_content_is ns ms e a.0 in
         let size = a.1 in
         let whole : b4 ≡ hops_bytes (map (hop_content_by b4) ms) =
-        put_behind
+        put_after
         ∙ ap (λ z. z ++ (n ++ (w ++ (k ++ d)))) a.3
         ∙ ap (λ z. hops_bytes (map (hop_content_by b0) ns) ++ z) (hop_bytes_are n w k d h t)
         ∙ sym (hops_bytes-push (map (hop_content_by b0) ns) (hop_content h))

@@ -26,8 +26,8 @@ pub prefix_at : (n : ℕ) (xs ys : List ℕ) → length xs ≡ n → take n (xs 
 prefix_at n xs ys e =
     let P : ℕ → Type 0 = λ m. take m (xs ++ ys) ≡ xs in subst P e (take-append_seam xs ys)
 
-pub behind_at : (n : ℕ) (xs ys : List ℕ) → length xs ≡ n → drop n (xs ++ ys) ≡ ys
-behind_at n xs ys e =
+pub after_at : (n : ℕ) (xs ys : List ℕ) → length xs ≡ n → drop n (xs ++ ys) ≡ ys
+after_at n xs ys e =
     let P : ℕ → Type 0 = λ m. drop m (xs ++ ys) ≡ ys in subst P e (drop-append_seam xs ys)
 
 -- how long the prefix with what was put is
@@ -125,7 +125,7 @@ puts_one old line comma mid new is fits e f =
           ∙ append_assoc (take n buffer) comma line
           ∙ ap (λ t. take n buffer ++ (t ++ line)) is;
       behind = ap (drop all) whole
-          ∙ behind_at all text (drop (n + length comma + length line) buffer) long
+          ∙ after_at all text (drop (n + length comma + length line) buffer) long
           ∙ ap (λ k. drop k buffer) same;
       kept = omega arith;
     }

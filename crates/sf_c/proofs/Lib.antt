@@ -11,9 +11,14 @@ pub mod ShownHops
 pub mod ScannedPaths
 pub mod GivenTexts
 pub mod GivenHops
+pub mod DecidedHops
+pub mod WrittenHops
+pub mod FilledBuffers
 pub mod Selecting
 pub mod WrittenPriorities
 pub mod Canonicals
 pub mod NodeTexts
 pub mod SetValues
+pub mod ChangedMembers
 pub mod OwnHops
+pub mod Fallbacks

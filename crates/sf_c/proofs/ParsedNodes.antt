@@ -11,7 +11,7 @@ use Rattle.sf_parse.specs.Parsers.{IsOnly}
 use Rattle.sf_view.specs.declared.node.Node.{Node}
 use Rattle.sf_view.specs.Accepts.{Accepts}
 use Rattle.sf_view.specs.View.{DescribesField}
-use Rattle.sf_c.specs.declared.parsing.Sizes.{Sizes}
+use Rattle.sf_c.specs.declared.parse.Sizes.{Sizes}
 use Rattle.sf_c.specs.Decodings.{AreDecoded, IsUncoded}
 use Rattle.sf_view.specs.declared.counting.Counts.{Counts}
 use Rattle.sf_view.specs.Counting.{HasCounts}

@@ -47,10 +47,10 @@ use Rattle.sf_c.proofs.HopLemmas.{prefix_of, hop_held, hop_content_is, PutsHop, 
 use Rattle.sf_c.proofs.ShownHops.{says_shown, token_shown}
 
 -- bytes that were put after those that were used
-pub put_behind : (old new free t : Seq ℕ) (used count : ℕ) (p : Span) → used ≤ length old
+pub put_after : (old new free t : Seq ℕ) (used count : ℕ) (p : Span) → used ≤ length old
     → new ≡ take used old ++ free → count ≤ length free → take count free ≡ t → p.at ≡ used
     → p.length ≡ count → PutsBehind old new used t p
-put_behind old new free t used count p fits e small is at long =
+put_after old new free t used count p fits e small is at long =
     let prefix : length (take used old) ≡ used = length-take-le used old fits in
     let end : end_of p ≡ length (take used old) + count = omega arith in (
       ap (λ n. take n new) end

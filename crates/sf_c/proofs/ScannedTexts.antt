@@ -17,10 +17,10 @@ use Rattle.sf_use.specs.Scanning.{IsScanned, IsScannedIn}
 use Rattle.sf_use.specs.Targeted.{policy}
 use Rattle.sf_use.specs.TargetedChoice.{MayOffer}
 use Rattle.sf_use.specs.TargetedRules.{MayOfferRules, rules}
-use Rattle.sf_c.specs.declared.rules.RulesFlags.{RulesFlags}
+use Rattle.sf_c.specs.declared.cache_rules.RulesFlags.{RulesFlags}
 use Rattle.sf_c.specs.declared.status.Status.{Status}
 use Rattle.sf_c.specs.declared.status.Status.TheVariants as status
-use Rattle.sf_c.specs.declared.targeted.PolicyFlags.{PolicyFlags}
+use Rattle.sf_c.specs.declared.cache_control.PolicyFlags.{PolicyFlags}
 use Rattle.sf_c.specs.Policies.{Directs, PolicyOutput, SaysPolicy, SaysToCache}
 use Rattle.sf_c.specs.Priorities.{AsksFor, PriorityOutput, SaysAsked}
 use Rattle.sf_c.specs.ResponsePriorities.{AnswersPriority, ResponseOutput, SaysResponse}

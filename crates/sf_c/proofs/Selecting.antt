@@ -5,11 +5,11 @@ use Rattle.std.proofs.lemmas.List.{length-take-le, take-append-drop, take_more}
 use Rattle.sf_value.specs.declared.dialect.Dialect.{Dialect}
 use Rattle.sf_value.specs.declared.dialect.Dialect.TheVariants.{Rfc9651}
 use Rattle.sf_value.specs.declared.value.Field.TheVariants as field
-use Rattle.sf_c.specs.declared.rules.RulesFlags.{RulesFlags}
+use Rattle.sf_c.specs.declared.cache_rules.RulesFlags.{RulesFlags}
 use Rattle.sf_c.specs.declared.span.Span.{Span}
 use Rattle.sf_c.specs.declared.status.Status.{Status}
 use Rattle.sf_c.specs.declared.status.Status.TheVariants as status
-use Rattle.sf_c.specs.declared.targeted.PolicyFlags.{PolicyFlags}
+use Rattle.sf_c.specs.declared.cache_control.PolicyFlags.{PolicyFlags}
 use Rattle.sf_c.specs.Rules.{RulesCache, RulesOutput}
 use Rattle.sf_c.specs.Selecting.{AreIgnored, ChoiceOutput, HasPolicy, HasRules, IsIgnored}
 use Rattle.sf_c.specs.Selecting.{IsReached, Selects}

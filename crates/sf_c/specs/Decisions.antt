@@ -10,9 +10,9 @@ use Rattle.sf_use.specs.declared.caching.Decision.{Decision}
 use Rattle.sf_use.specs.declared.caching.Reuse.{Reuse}
 use Rattle.sf_use.specs.declared.caching.Reuse.TheVariants as reuse
 use Rattle.sf_use.specs.Caching.{decision, permits_authorized, permits_storing, understood}
-use Rattle.sf_c.specs.declared.decision.DecisionFlags.{DecisionFlags}
-use Rattle.sf_c.specs.declared.decision.Response.{Response}
-use Rattle.sf_c.specs.declared.rules.RulesFlags.{RulesFlags}
+use Rattle.sf_c.specs.declared.decide.DecisionFlags.{DecisionFlags}
+use Rattle.sf_c.specs.declared.decide.Response.{Response}
+use Rattle.sf_c.specs.declared.cache_rules.RulesFlags.{RulesFlags}
 use Rattle.sf_c.specs.declared.status.Status.{Status}
 use Rattle.sf_c.specs.declared.status.Status.TheVariants.{Answered, BadCall, Invalid}
 use Rattle.sf_c.specs.Policies.{seconds_at}
@@ -56,7 +56,7 @@ abbrev pub SaysDecision : DecisionFlags → Decision → Type 0
 SaysDecision n d =
     (n.seconds ≡ fresh_seconds d.reuse)
     × (n.reuse ≡ reuse_number d.reuse)
-    × (n.by ≡ cause_number d.by)
+    × (n.cause ≡ cause_number d.by)
 
 -- the lifetime by Expires, or by a heuristic
 abbrev pub other_lifetime : Response → Option ℕ

@@ -1,7 +1,7 @@
 -- Whether a value exceeds the buffers of a call.
 use Rattle.std.specs.Prelude.{◌≡◌, ℕ, ◌+◌, ◌^◌, ◌<◌, ◌≤◌, List, length, Option, Some, None}
 use Rattle.sf_view.specs.declared.counting.Counts.{Counts}
-use Rattle.sf_c.specs.declared.parsing.Sizes.{Sizes}
+use Rattle.sf_c.specs.declared.parse.Sizes.{Sizes}
 use Rattle.sf_c.specs.declared.status.Status.{Status}
 use Rattle.sf_c.specs.declared.status.Status.TheVariants.{Short, TooLong, TooMany}
 

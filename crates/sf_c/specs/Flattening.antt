@@ -7,7 +7,7 @@ use Rattle.sf_value.specs.Grammar.Words.{Each}
 use Rattle.sf_parse.specs.Parsers.{IsOnly}
 use Rattle.sf_view.specs.declared.node.Node.{Node}
 use Rattle.sf_view.specs.View.{DescribesField}
-use Rattle.sf_c.specs.declared.parsing.Sizes.{Sizes}
+use Rattle.sf_c.specs.declared.parse.Sizes.{Sizes}
 use Rattle.sf_c.specs.declared.refusal.SyntaxRefusal.{SyntaxRefusal}
 use Rattle.sf_c.specs.declared.status.Status.{Status}
 use Rattle.sf_c.specs.declared.status.Status.TheVariants.{Answered, Refused, Short, OutOfMemory}

@@ -4,7 +4,7 @@ use Rattle.std.specs.Prelude.{List, [], ◌∷◌, ◌++◌, length, take, drop,
 use Rattle.sf_value.specs.Ascii.{comma, space}
 use Rattle.sf_value.specs.Devices.{capped}
 use Rattle.sf_value.specs.Grammar.Lines.{join}
-use Rattle.sf_c.specs.declared.joining.Joined.{Joined}
+use Rattle.sf_c.specs.declared.join.Joined.{Joined}
 use Rattle.sf_c.specs.declared.status.Status.{Status}
 use Rattle.sf_c.specs.declared.status.Status.TheVariants.{Answered, Short, BadCall}
 

@@ -11,9 +11,11 @@ pub mod RefusalTexts
 pub mod Priorities
 pub mod ResponsePriorities
 pub mod PriorityChanges
+pub mod PriorityParts
 pub mod Policies
 pub mod Rules
 pub mod Decisions
+pub mod Fallbacks
 pub mod Joining
 pub mod Spans
 pub mod Finding
@@ -25,6 +27,8 @@ pub mod ScannedHops
 pub mod Paths
 pub mod Selecting
 pub mod GivenHops
+pub mod HopParts
+pub mod Filling
 pub mod Appending
 pub mod Writing
 pub mod Laws

@@ -8,7 +8,7 @@ use Rattle.sf_value.specs.declared.value.Kind.TheVariants as kind
 use Rattle.sf_parse.specs.Parsers.{IsOnly}
 use Rattle.sf_use.specs.declared.targeted.Policy.{Policy}
 use Rattle.sf_use.specs.Targeted.{life, policy}
-use Rattle.sf_c.specs.declared.targeted.PolicyFlags.{PolicyFlags}
+use Rattle.sf_c.specs.declared.cache_control.PolicyFlags.{PolicyFlags}
 use Rattle.sf_c.specs.declared.refusal.SyntaxRefusal.{SyntaxRefusal}
 use Rattle.sf_c.specs.declared.status.Status.{Status}
 use Rattle.sf_c.specs.declared.status.Status.TheVariants.{Answered, Refused, Empty, OutOfMemory}

@@ -7,7 +7,7 @@ use Rattle.sf_value.specs.declared.value.Kind.TheVariants as kind
 use Rattle.sf_parse.specs.Parsers.{IsOnly}
 use Rattle.sf_use.specs.declared.caching.CacheRules.{CacheRules}
 use Rattle.sf_use.specs.TargetedRules.{rules}
-use Rattle.sf_c.specs.declared.rules.RulesFlags.{RulesFlags}
+use Rattle.sf_c.specs.declared.cache_rules.RulesFlags.{RulesFlags}
 use Rattle.sf_c.specs.declared.refusal.SyntaxRefusal.{SyntaxRefusal}
 use Rattle.sf_c.specs.declared.status.Status.{Status}
 use Rattle.sf_c.specs.declared.status.Status.TheVariants.{Answered, Refused, Empty, OutOfMemory}

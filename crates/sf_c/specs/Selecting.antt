@@ -8,11 +8,11 @@ use Rattle.sf_value.specs.Grammar.Fields.{SpellsField}
 use Rattle.sf_parse.specs.Parsers.{IsOnly}
 use Rattle.sf_use.specs.Targeted.{policy}
 use Rattle.sf_use.specs.TargetedRules.{rules}
-use Rattle.sf_c.specs.declared.rules.RulesFlags.{RulesFlags}
+use Rattle.sf_c.specs.declared.cache_rules.RulesFlags.{RulesFlags}
 use Rattle.sf_c.specs.declared.span.Span.{Span}
 use Rattle.sf_c.specs.declared.status.Status.{Status}
 use Rattle.sf_c.specs.declared.status.Status.TheVariants.{Answered, Empty, BadCall, OutOfMemory}
-use Rattle.sf_c.specs.declared.targeted.PolicyFlags.{PolicyFlags}
+use Rattle.sf_c.specs.declared.cache_control.PolicyFlags.{PolicyFlags}
 use Rattle.sf_c.specs.Policies.{SaysPolicy}
 use Rattle.sf_c.specs.Rules.{SaysRules}
 use Rattle.sf_c.specs.Spans.{IsSpanWithin, span_bytes}

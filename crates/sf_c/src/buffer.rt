@@ -32,5 +32,5 @@ pub(crate) fn put_text(text: &[u8], buffer: &mut [u8], required: &mut usize) -> 
 /// length needs: four fifths of it, and eight fifths.
 pub(crate) fn are_large(text: &[u8], count: usize, bytes: usize) -> bool {
     let length = text.len();
-    count >= length - length / 5 && bytes >= (length / 5).saturating_mul(8)
+    count >= length.saturating_mul(4) / 5 && bytes >= (length / 5).saturating_mul(8)
 }

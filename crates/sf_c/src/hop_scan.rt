@@ -135,6 +135,7 @@ fn last_hit(last: Option<usize>, place: usize, outcome: u16) -> Option<usize>
 }
 
 /// Puts the bytes of a hop after so many of the buffer; `None` if it is too small.
+#[inline(always)]
 fn put_hop(hop: HopView, bytes: &mut [u8], used: usize) -> Option<HopNode>
     requires used { used ≤ length bytes.old }
     ensures same { length bytes.new ≡ length bytes.old }
@@ -234,6 +235,7 @@ fn token_slice(token: Option<&[u8]>) -> Slice
 }
 
 /// The struct of a hop whose bytes are in these spans.
+#[inline(always)]
 fn node_of(hop: HopView, name: Span, why_token: Span, key: Span, detail: Span) -> HopNode
     ensures name { result.name ≡ name }
     ensures why_token { result.why_token ≡ why_token }
@@ -307,23 +309,15 @@ fn why_number(token: Option<&[u8]>) -> u16
 fn reason_number(token: &[u8]) -> u16
     ensures { result ≡ token_number token.now }
 {
-    if token == b"bypass".as_slice() {
-        1
-    } else if token == b"method".as_slice() {
-        2
-    } else if token == b"uri-miss".as_slice() {
-        3
-    } else if token == b"vary-miss".as_slice() {
-        4
-    } else if token == b"miss".as_slice() {
-        5
-    } else if token == b"request".as_slice() {
-        6
-    } else if token == b"stale".as_slice() {
-        7
-    } else if token == b"partial".as_slice() {
-        8
-    } else {
-        9
+    match token {
+        b"bypass" => 1,
+        b"method" => 2,
+        b"uri-miss" => 3,
+        b"vary-miss" => 4,
+        b"miss" => 5,
+        b"request" => 6,
+        b"stale" => 7,
+        b"partial" => 8,
+        _ => 9,
     }
 }

@@ -1,86 +1,58 @@
 //! The member of a Cache-Status field for a hop.
-ghost use Rattle.std.specs.Prelude.{◌≡◌, [], ◌∷◌, Some, IfOk, IfErr, MatchResult};
-ghost use Rattle.sf_value.specs.declared.dialect.Dialect.TheVariants.{Rfc9651};
-ghost use Rattle.sf_value.specs.declared.value.Kind.TheVariants as kind_is;
-ghost use Rattle.sf_value.specs.Grammar.Fields.{list_of};
-ghost use Rattle.sf_value.specs.Grammar.Valid.{Valid};
-ghost use Rattle.sf_use.specs.CacheStatus.Members.{entry};
+ghost use Rattle.std.specs.Prelude.{◌≡◌, ◌≤◌, ◌+◌, ◌^◌, length, Some, IfErr, MatchResult};
+ghost use Rattle.sf_use.specs.declared.cache_status.hop.Hop.{Hop as HopValue};
 ghost use Rattle.sf_c.specs.GivenHops.{AreBytes, GivesFlag, GivesHop, GivesInteger, GivesMaybe};
 ghost use Rattle.sf_c.specs.GivenHops.{GivesName, GivesNone, GivesOutcome, GivesPassed};
 ghost use Rattle.sf_c.specs.GivenHops.{fault_status, hop_text, is_invalid as is_invalid_part};
 ghost use Rattle.sf_c.specs.GivenHops.{GivesStatus, GivesString, GivesToken, GivesWhy, WritesHop};
 ghost use Rattle.sf_c.specs.Statuses.{status_at};
-ghost use Rattle.sf_c.specs.declared.status.Status.TheVariants.{Invalid};
+ghost use Rattle.sf_c.specs.declared.status.Status.TheVariants.{Invalid, OutOfMemory};
 
-use crate::buffer::put_text;
+use crate::filling::put_parts;
+use crate::hop_parts::{GivenHop, is_hop};
 use crate::hops::HopNode;
 use crate::seed::Seed;
 use crate::span::Span;
 use crate::status::Status;
-use sf_use::{Forward, Hop, HopStatus, Name, Outcome, Passed, append_hop};
-use sf_value::{Field, Int, List, OutOfMemory, Sequence, Text, TextFault, Token};
-use sf_write::to_text;
+use sf_use::{Forward, Hop, HopStatus, Name, Outcome, Passed};
+use sf_value::{Int, Text, TextFault, Token};
 use std::alloc::Global;
-use std::hash::RandomState;
 
 /// The text of a Cache-Status field whose only member is this hop (RFC 9211 section 2): a field
 /// line to be sent after those from the caches nearer the origin. The spans of the hop are in
-/// `bytes`. Returns `Answered` if the buffer holds the text; `Short` if it is too small; `Invalid`
-/// if and only if the struct is not a valid hop; or `OutOfMemory`.
+/// `bytes`. Returns `Answered` if the buffer holds the text; `Short` if it is too small; or
+/// `Invalid` if and only if the struct is not a valid hop. Does not allocate; the seed is not used.
 #[unsafe(no_mangle)]
 pub extern "C" fn sf_hop_text(
-    alloc: Global,
-    seed: &Seed,
+    _seed: &Seed,
     hop: &HopNode,
     bytes: &[u8],
     buffer: &mut [u8],
     required: &mut usize,
 ) -> u32
     // The text of the hop that the struct describes, or why there is none.
-    ensures { WritesHop (record { buffer = buffer.old; required = required.old })
+    ensures writes { WritesHop (record { buffer = buffer.old; required = required.old })
         (record { buffer = buffer.new; required = required.new }) bytes.now hop.now
         (status_at result) }
+    // It is out of memory only for a text that no memory holds.
+    ensures long { status_at result ≡ Some OutOfMemory
+        → (h : HopValue) → GivesHop bytes.now hop.now h → 2 ^ 64 ≤ length (hop_text h) + 1 }
 {
-    write(alloc, seed, hop, bytes, buffer, required).code()
+    write(hop, bytes, buffer, required).code()
 }
 
 /// As [`sf_hop_text`].
-fn write(
-    alloc: Global,
-    seed: &Seed,
-    hop: &HopNode,
-    bytes: &[u8],
-    buffer: &mut [u8],
-    required: &mut usize,
-) -> Status
-    ensures { WritesHop (record { buffer = buffer.old; required = required.old })
+fn write(hop: &HopNode, bytes: &[u8], buffer: &mut [u8], required: &mut usize) -> Status
+    ensures writes { WritesHop (record { buffer = buffer.old; required = required.old })
         (record { buffer = buffer.new; required = required.new }) bytes.now hop.now
         (Some result) }
+    ensures long { result ≡ OutOfMemory
+        → (h : HopValue) → GivesHop bytes.now hop.now h → 2 ^ 64 ≤ length (hop_text h) + 1 }
 {
-    let hop = match hop_of(alloc, hop, bytes) {
-        Ok(hop) => hop,
-        Err(status) => return status,
-    };
-    let Some(state) = seed.state() else {
-        return Status::OutOfMemory;
-    };
-    match text_of(alloc, &state, &hop) {
-        Ok(text) => put_text(text.as_slice(), buffer, required),
-        Err(_) => Status::OutOfMemory,
+    if is_hop(hop, bytes) {
+        return put_parts(&GivenHop { node: hop, bytes }, buffer, required);
     }
-}
-
-/// The text of a List whose only member is that of the hop.
-fn text_of(alloc: Global, seed: &RandomState, hop: &Hop) -> Result<Vec<u8>, OutOfMemory>
-    ensures text { IfOk result (λ text. text.items ≡ hop_text hop.now) }
-    ensures valid { IfOk result
-        (λ _. Valid Rfc9651 kind_is.List (list_of (entry hop.now ∷ []))) }
-{
-    let mut list = List {
-        members: Sequence::new(alloc),
-    };
-    append_hop(alloc, seed, &mut list, hop)?;
-    to_text(alloc, &Field::List(list))
+    Status::Invalid
 }
 
 /// The hop that the struct describes.
@@ -235,7 +207,7 @@ fn why_of(alloc: Global, hop: &HopNode, bytes: &[u8]) -> Result<Forward, Status>
 }
 
 /// The status code of the next hop's response, if there is one.
-fn status_of(has_status: u8, status: u16) -> Result<Option<HopStatus>, Status>
+pub(crate) fn status_of(has_status: u8, status: u16) -> Result<Option<HopStatus>, Status>
     ensures gives { MatchResult result (λ made. GivesMaybe has_status (GivesStatus status) made)
         (GivesNone (GivesMaybe has_status (GivesStatus status))) }
     // It allocates nothing.
@@ -251,7 +223,7 @@ fn status_of(has_status: u8, status: u16) -> Result<Option<HopStatus>, Status>
 }
 
 /// A flag, if there is one.
-fn flag_of(has_flag: u8, flag: u8) -> Option<bool>
+pub(crate) fn flag_of(has_flag: u8, flag: u8) -> Option<bool>
     ensures { GivesMaybe has_flag (GivesFlag flag) result }
 {
     if has_flag == 0 {
@@ -261,7 +233,7 @@ fn flag_of(has_flag: u8, flag: u8) -> Option<bool>
 }
 
 /// The seconds for which the response is fresh, if `ttl` is present.
-fn ttl_of(hop: &HopNode) -> Result<Option<Int>, Status>
+pub(crate) fn ttl_of(hop: &HopNode) -> Result<Option<Int>, Status>
     ensures gives { MatchResult result
         (λ made. GivesMaybe hop.now.has_ttl (GivesInteger hop.now.ttl) made)
         (GivesNone (GivesMaybe hop.now.has_ttl (GivesInteger hop.now.ttl))) }

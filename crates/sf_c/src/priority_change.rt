@@ -11,22 +11,28 @@ ghost use Rattle.sf_c.specs.Statuses.{status_at};
 
 use crate::buffer::put_text;
 use crate::call::{Scan, parse_dict};
+use crate::filling::put_parts;
 use crate::priority::PriorityFlags;
+use crate::priority_parts::ChangedPriority;
 use crate::refusal::SyntaxRefusal;
 use crate::seed::Seed;
 use crate::status::Status;
 use sf_use::{Asked, update_priority};
-use sf_value::{Dialect, Dict, Field, OutOfMemory};
+use sf_value::{Dialect, Dict, Field, Kind, OutOfMemory};
+use sf_view::{Node, View};
 use sf_write::to_text;
 use std::alloc::Global;
 use std::hash::RandomState;
+
+/// The most nodes that are kept on the stack: most Priority fields have two.
+const FEW_NODES: usize = 16;
 
 /// The canonical text of a Priority field (RFC 9218 section 4) with what the struct sets put into
 /// it: the members `u` and `i` are overwritten in place, or go last if the field has none, and all
 /// others stay. Returns `Answered` if the text is at the start of the buffer; `Short` if the buffer
 /// has fewer than `required` bytes; `Refused` if the text spells no Dictionary, with the refusal in
 /// `refusal`; `Invalid` if the struct has a value that it does not set, or an urgency above 7; or
-/// `OutOfMemory`.
+/// `OutOfMemory`. Does not allocate for a text of at most 16 nodes in which no key is repeated.
 #[unsafe(no_mangle)]
 pub extern "C" fn sf_priority_change(
     alloc: Global,
@@ -68,7 +74,8 @@ fn change_valid(
     change(alloc, seed, text, priority, buffer, required, refusal)
 }
 
-/// As [`sf_priority_change`], for a struct whose values are all set.
+/// As [`sf_priority_change`], for a struct whose values are all set. The text is written from its
+/// nodes, without an allocation, if there are few and no key is repeated.
 fn change(
     alloc: Global,
     seed: &Seed,
@@ -83,7 +90,39 @@ fn change(
         (record { buffer = buffer.new; required = required.new; refusal = refusal.new })
         text.now priority.now (Some result) }
 {
-    let dict = match parse_dict(alloc, seed, Scan::Skipped, Dialect::Rfc9651, text, refusal) {
+    let mut nodes = [Node::NONE; FEW_NODES];
+    match View::scan(Dialect::Rfc9651, Kind::Dict, text, &mut nodes) {
+        Ok(view) => {
+            let asked = priority.asked();
+            let parts = ChangedPriority {
+                view,
+                asked,
+                text_length: text.len(),
+            };
+            return put_parts(&parts, buffer, required);
+        }
+        Err(_) => return change_tree(alloc, seed, text, priority, buffer, required, refusal),
+    }
+}
+
+/// As [`change`], from the tree of the value. It is not inlined, so that a text that is written from
+/// nodes doesn't pay for its stack.
+#[inline(never)]
+fn change_tree(
+    alloc: Global,
+    seed: &Seed,
+    text: &[u8],
+    priority: &PriorityFlags,
+    buffer: &mut [u8],
+    required: &mut usize,
+    refusal: &mut SyntaxRefusal,
+) -> Status
+    ensures { ChangesBy
+        (record { buffer = buffer.old; required = required.old; refusal = refusal.old })
+        (record { buffer = buffer.new; required = required.new; refusal = refusal.new })
+        text.now priority.now (Some result) }
+{
+    let dict = match parse_dict(alloc, seed, Scan::Declined, Dialect::Rfc9651, text, refusal) {
         Ok(dict) => dict,
         Err(status) => return status,
     };

@@ -83,7 +83,7 @@ pub(crate) fn write(asked: Asked, buffer: &mut [u8], required: &mut usize) -> St
 }
 
 /// The digit of an urgency.
-fn digit(urgency: Urgency) -> u8
+pub(crate) fn digit(urgency: Urgency) -> u8
     ensures { result ∷ [] ≡ decimal urgency }
 {
     b'0' + urgency.get()

@@ -5,13 +5,13 @@ ghost use Rattle.sf_c.specs.Calls.{ChecksDialect, dialect_at};
 ghost use Rattle.sf_c.specs.Selecting.{Considers, HasPolicy, HasRules, Selects};
 ghost use Rattle.sf_c.specs.Statuses.{status_at};
 
+use crate::cache_control::PolicyFlags;
+use crate::cache_rules::{RulesFlags, rule};
 use crate::call::dialect_of;
 use crate::refusal::SyntaxRefusal;
-use crate::rules::{RulesFlags, rule};
 use crate::seed::Seed;
 use crate::span::Span;
 use crate::status::Status;
-use crate::targeted::PolicyFlags;
 use sf_use::CacheRules;
 use sf_value::Dialect;
 use std::alloc::Global;

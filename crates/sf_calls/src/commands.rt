@@ -3,10 +3,11 @@
 use crate::record::Record;
 use crate::session::Session;
 use anyhow::anyhow;
-use http_header::HeaderName;
-use sf_lint::Settings;
+use http_header::{CDN_CACHE_CONTROL, HeaderName};
+use sf_lint::{CacheSettings, Options, Settings, run_with};
 use sf_tool::{ErrorStream, Request, Status, run};
 use sf_value::{Dialect, Reading, Writing};
+use std::alloc::Global;
 
 /// Runs the command of an operation; `false` if it is no such operation.
 pub(crate) fn answer(session: &mut Session, record: &Record) -> anyhow::Result<bool> {
@@ -18,13 +19,16 @@ pub(crate) fn answer(session: &mut Session, record: &Record) -> anyhow::Result<b
         "sf_cache_status" => run_all(session, record, &Request::CacheStatus)?,
         "sf_targeted" => run_targeted(session, record)?,
         "sf_priority" => run_all(session, record, &Request::Priority)?,
-        "sflint" => run_lint(session, record)?,
+        "sf_decide" => run_decide(session, record)?,
+        "sflint" => run_lint(session, record, None)?,
+        "sflint_decide" => run_lint_deciding(session, record)?,
         _ => return Ok(false),
     }
     Ok(true)
 }
 
-/// Runs a request on the text so many times, with an error stream that is a terminal.
+/// Runs a request on the text so many times, with an error stream that is a terminal, on which a
+/// refusal is explained, unless the parameter is not 0.
 fn run_all(session: &mut Session, record: &Record, request: &Request) -> anyhow::Result<()> {
     session.calls_begin();
     for _ in 0..record.times {
@@ -32,7 +36,7 @@ fn run_all(session: &mut Session, record: &Record, request: &Request) -> anyhow:
         let mut sink = Writing::new(Vec::new(session.alloc));
         let mut errors = ErrorStream {
             device: Writing::new(Vec::new(session.alloc)),
-            is_terminal: true,
+            is_terminal: record.parameter == 0,
         };
         let status = run(
             session.alloc,
@@ -48,26 +52,47 @@ fn run_all(session: &mut Session, record: &Record, request: &Request) -> anyhow:
     Ok(())
 }
 
+/// Returns the target list of a CDN.
+fn cdn_targets(alloc: Global) -> anyhow::Result<Vec<HeaderName>> {
+    let mut names = Vec::new(alloc);
+    names.push(CDN_CACHE_CONTROL)?;
+    Ok(names)
+}
+
 fn run_targeted(session: &mut Session, record: &Record) -> anyhow::Result<()> {
-    let mut names = Vec::new(session.alloc);
-    names.push(HeaderName::from_static("cdn-cache-control"))?;
+    let names = cdn_targets(session.alloc)?;
     run_all(session, record, &Request::Targeted(names))
 }
 
-fn run_lint(session: &mut Session, record: &Record) -> anyhow::Result<()> {
+fn run_decide(session: &mut Session, record: &Record) -> anyhow::Result<()> {
+    let names = cdn_targets(session.alloc)?;
+    run_all(session, record, &Request::Decide(names, 0))
+}
+
+fn run_lint_deciding(session: &mut Session, record: &Record) -> anyhow::Result<()> {
+    let targets = cdn_targets(session.alloc)?;
+    run_lint(session, record, Some(CacheSettings { targets, age: None }))
+}
+
+fn run_lint(
+    session: &mut Session,
+    record: &Record,
+    caches: Option<CacheSettings>,
+) -> anyhow::Result<()> {
     let settings = Settings {
         fields: Vec::new(session.alloc),
         quiet: false,
         colour: false,
     };
+    let options = Options { settings, caches };
     session.calls_begin();
     for _ in 0..record.times {
         let mut source = Reading::new(record.text);
         let mut sink = Writing::new(Vec::new(session.alloc));
-        let status = sf_lint::run(
+        let status = run_with(
             session.alloc,
             &session.seed,
-            &settings,
+            &options,
             &mut source,
             &mut sink,
         );

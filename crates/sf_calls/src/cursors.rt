@@ -54,7 +54,7 @@ fn items_in(text: &[u8]) -> u64 {
         let Some(Some(item)) = cursor.next() else {
             break;
         };
-        let Some(next) = behind(item.params, text.len()) else {
+        let Some(next) = item_after(item.params, text.len()) else {
             break;
         };
         cursor = next;
@@ -63,8 +63,8 @@ fn items_in(text: &[u8]) -> u64 {
     count
 }
 
-/// The cursor behind at most so many parameters of an Item; `None` if they are declined.
-fn behind(params: ParamCursor<'_>, most: usize) -> Option<ItemCursor<'_>> {
+/// The cursor after at most so many parameters of an Item; `None` if they are declined.
+fn item_after(params: ParamCursor<'_>, most: usize) -> Option<ItemCursor<'_>> {
     let mut params = params;
     for _ in 0..most {
         if params.next()?.is_none() {

@@ -14,13 +14,13 @@ abbrev pub behind : Bool → List (List ℕ) → List ℕ
 behind after [] = []
 behind after (l ∷ ls) = in_line after l ++ behind true ls
 
-join_behind : (l : List ℕ) (ls : List (List ℕ)) → join (l ∷ ls) ≡ l ++ behind true ls
-join_behind l [] = sym (append-nil l)
-join_behind l (m ∷ ls) = ap (λ t. l ++ 44 ∷ 32 ∷ t) (join_behind m ls)
+join_after : (l : List ℕ) (ls : List (List ℕ)) → join (l ∷ ls) ≡ l ++ behind true ls
+join_after l [] = sym (append-nil l)
+join_after l (m ∷ ls) = ap (λ t. l ++ 44 ∷ 32 ∷ t) (join_after m ls)
 
 pub joined : (ls : List (List ℕ)) → join ls ≡ behind false ls
 joined [] = refl
-joined (l ∷ ls) = join_behind l ls
+joined (l ∷ ls) = join_after l ls
 
 -- a line was appended to the text of the lines before it
 pub appended : (text new line item whole : List ℕ) (after : Bool) (lines : List (List ℕ)) (i : ℕ)
@@ -51,7 +51,7 @@ fed_first o p line ls n t f =
     subst (λ b. FedSoFar o p (join (line ∷ ls)) (behind b ls)) (sym t)
     (record {
       prefix = line;
-      split = join_behind line ls;
+      split = join_after line ls;
       fed = subst (λ b. Feeds o p (Ok tt) (in_line b line)) n f;
     })
 
@@ -60,7 +60,7 @@ pub first_refused : (o q : Progress) (e : Refusal) (line : List ℕ) (ls : List 
     → o.after_line ≡ false → Feeds o q (Err e) (in_line o.after_line line)
     → Feeds o q (Err e) (join (line ∷ ls))
 first_refused o q e line ls n f =
-    subst (Feeds o q (Err e)) (sym (join_behind line ls))
+    subst (Feeds o q (Err e)) (sym (join_after line ls))
     (fed_before o q e line (behind true ls) (subst (λ b. Feeds o q (Err e) (in_line b line)) n f))
 
 -- the lines do not allocate: the first one, and what is left
@@ -69,7 +69,7 @@ pub free_first : (o : Progress) (line : List ℕ) (ls : List (List ℕ)) → o.a
     → IsAllocationFree o (in_line o.after_line line ++ behind true ls)
 free_first o line ls n h =
     subst (λ b. IsAllocationFree o (in_line b line ++ behind true ls)) (sym n)
-    (subst (IsAllocationFree o) (join_behind line ls) h)
+    (subst (IsAllocationFree o) (join_after line ls) h)
 
 -- a further piece was fed
 pub fed_piece : (o p q : Progress) (all left chunk more : List ℕ) → FedSoFar o p all left

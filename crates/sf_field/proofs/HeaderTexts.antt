@@ -41,11 +41,11 @@ pub set_none : (m : Headers) (name t : List ℕ) → length t ≡ 0 → set_text
 set_none m name [] e = refl
 set_none m name (b ∷ t) e = absurd (let n : ⊥ = omega arith in n)
 
-there_behind : (e : Entry FieldValue) (m : Headers) (name : List ℕ) (value : FieldValue) (t : Bool)
+there_after : (e : Entry FieldValue) (m : Headers) (name : List ℕ) (value : FieldValue) (t : Bool)
     → bytes_eq e.0 name ≡ t → ContainsKey (insert m name value) name
     → ContainsKey (insert (e ∷ m) name value) name
-there_behind e m name value true q k = rw q (0, omega arith, (bytes_decides e.0 name).0 q)
-there_behind e m name value false q k =
+there_after e m name value true q k = rw q (0, omega arith, (bytes_decides e.0 name).0 q)
+there_after e m name value false q k =
     let l : k.0 < length (keys (insert m name value)) = k.1 in
     rw q (suc k.0, omega arith, k.2)
 
@@ -53,7 +53,7 @@ there_behind e m name value false q k =
 there : (m : Headers) (name : List ℕ) (value : FieldValue) → ContainsKey (insert m name value) name
 there [] name value = (0, omega arith, refl)
 there (e ∷ m) name value =
-    there_behind e m name value (bytes_eq e.0 name) refl (there m name value)
+    there_after e m name value (bytes_eq e.0 name) refl (there m name value)
 
 read_back : (headers : Headers) (name : List ℕ) (kind : Kind) (v : Field) (t : List ℕ)
     → t ≡ canon v → Valid Rfc9651 kind v → 0 < length t → length (canon v) < 2 ^ 64

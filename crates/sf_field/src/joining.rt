@@ -68,8 +68,8 @@ fn put_line(buffer: &mut [u8], used: usize, line: &[u8]) -> Option<usize>
     if buffer.len() - used < line.len() + 2 {
         return None;
     }
-    let behind_comma = put(buffer, used, b", ");
-    Some(put(buffer, behind_comma, line))
+    let after_comma = put(buffer, used, b", ");
+    Some(put(buffer, after_comma, line))
 }
 
 /// Puts bytes after the first `used` bytes of the buffer, and returns the number of bytes with

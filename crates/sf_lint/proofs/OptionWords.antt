@@ -17,11 +17,13 @@ use Rattle.sf_value.specs.declared.value.Kind.TheVariants as kind_is
 use Rattle.sf_tool.specs.Fields.{is_colon, is_header_name, has_name, name_of, word_of}
 use Rattle.sf_lint.specs.declared.settings.CustomField.{CustomField}
 use Rattle.sf_lint.specs.declared.settings.Settings.{Settings}
+use Rattle.sf_lint.specs.declared.options.Options.{Options}
 use Rattle.sf_lint.specs.declared.options.OptionsFault.{OptionsFault}
 use Rattle.sf_lint.specs.declared.options.OptionsFault.TheVariants.{Usage, Help, Version}
 use Rattle.sf_lint.specs.declared.options.OptionsFault.TheVariants.{OutOfMemory}
 use Rattle.sf_lint.specs.Options.{custom_of, field_with, kind_named, AreFields, AreGiven}
-use Rattle.sf_lint.specs.Options.{AreSettingsOf, IsFaultOf, IsGivenFault, IsFieldsFault}
+use Rattle.sf_lint.specs.Options.{AreOptionsOf, AreGivenOptions, IsFaultOf, IsGivenFault}
+use Rattle.sf_lint.specs.Options.{IsFieldsFault, IsOptionsFault}
 use Rattle.sf_lint.specs.Options.{command_line, field_words}
 use Rattle.sf_lint.proofs.Lines.{colon}
 
@@ -106,14 +108,14 @@ unfolding clap_on_literals
 command_line-is_free = refl
 
 -- what was given is what clap finds in the words
-pub settings-from : (words : List Text) (rows : List Row) → fault_of command_line words ≡ []
-    → rows ≡ matches_of command_line words → (r : Result Settings OptionsFault)
-    → MatchResult r (AreGiven rows) (IsGivenFault rows)
-    → MatchResult r (AreSettingsOf words) (IsFaultOf words)
-settings-from words rows none e (Ok settings) h =
-    (none, subst (λ (rows : List Row). AreGiven rows settings) e h)
-settings-from words rows none e (Err Usage) h = λ settings are.
-    h settings (subst (λ (rows : List Row). AreGiven rows settings) (sym e) are.1)
-settings-from words rows none e (Err Help) h = absurd h
-settings-from words rows none e (Err Version) h = absurd h
-settings-from words rows none e (Err OutOfMemory) h = tt
+pub options-from : (words : List Text) (rows : List Row) → fault_of command_line words ≡ []
+    → rows ≡ matches_of command_line words → (r : Result Options OptionsFault)
+    → MatchResult r (AreGivenOptions rows) (IsOptionsFault rows)
+    → MatchResult r (AreOptionsOf words) (IsFaultOf words)
+options-from words rows none e (Ok options) h =
+    (none, subst (λ (rows : List Row). AreGivenOptions rows options) e h)
+options-from words rows none e (Err Usage) h = λ options are.
+    h options (subst (λ (rows : List Row). AreGivenOptions rows options) (sym e) are.1)
+options-from words rows none e (Err Help) h = absurd h
+options-from words rows none e (Err Version) h = absurd h
+options-from words rows none e (Err OutOfMemory) h = tt

@@ -9,4 +9,8 @@ pub mod Colours
 pub mod Marks
 pub mod Meanings
 pub mod Report
+pub mod StatusCodes
+pub mod Ages
+pub mod Deciding
+pub mod Heads
 pub mod Run

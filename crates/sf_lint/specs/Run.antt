@@ -1,12 +1,14 @@
 -- What a run reads and writes.
-use Rattle.std.specs.Prelude.{◌≡◌, ℕ, ◌⊎◌, Bool, true, false, List, ◌++◌, codes, decimal}
+use Rattle.std.specs.Prelude.{◌≡◌, ℕ, ◌⊎◌, Bool, true, false, List, ◌++◌, codes, decimal, Option}
 use Rattle.sf_value.specs.Devices.{SourceState, SinkState}
 use Rattle.sf_tool.specs.declared.status.Status.{Status}
 use Rattle.sf_tool.specs.declared.status.Status.TheVariants.{Accepted, Refused, Stopped}
 use Rattle.sf_tool.specs.Run.{ReportsText, IsWhole, IsTooLong, ReadsInPart, input_limit}
 use Rattle.sf_lint.specs.declared.colours.Verdict.TheVariants as verdict
+use Rattle.sf_lint.specs.declared.settings.CacheSettings.{CacheSettings}
 use Rattle.sf_lint.specs.declared.settings.Settings.{Settings}
 use Rattle.sf_lint.specs.Colours.{verdict_text}
+use Rattle.sf_lint.specs.Heads.{ReportsWith}
 use Rattle.sf_lint.specs.Report.{Reports}
 
 abbrev pub status_of : Bool → Status
@@ -30,5 +32,21 @@ Answers settings input old new status =
 abbrev pub Runs : Settings → SourceState → SourceState → SinkState → SinkState → Status → Type 0
 Runs settings source source' sink sink' status =
     ((input : List ℕ) × IsWhole source source' input × Answers settings input sink sink' status)
+    ⊎ ((IsTooLong source source' × ReportsText (too_long_text settings) Refused sink sink' status)
+    ⊎ (ReadsInPart source source' × (sink' ≡ sink) × (status ≡ Stopped)))
+
+-- the same with the decisions of caches, if there are any: without them it is `Answers` and `Runs`
+abbrev pub AnswersWith : Option CacheSettings → Settings → List ℕ → SinkState → SinkState → Status
+    → Type 0
+AnswersWith caches settings input old new status =
+    ((new ≡ old) × (status ≡ Stopped))
+    ⊎ ((text : List ℕ) × (refused : Bool) × ReportsWith caches settings input text refused
+    × ReportsText text (status_of refused) old new status)
+
+abbrev pub RunsWith : Option CacheSettings → Settings → SourceState → SourceState
+    → SinkState → SinkState → Status → Type 0
+RunsWith caches settings source source' sink sink' status =
+    ((input : List ℕ) × IsWhole source source' input
+    × AnswersWith caches settings input sink sink' status)
     ⊎ ((IsTooLong source source' × ReportsText (too_long_text settings) Refused sink sink' status)
     ⊎ (ReadsInPart source source' × (sink' ≡ sink) × (status ≡ Stopped)))

@@ -2,7 +2,8 @@
 ghost use Rattle.std.specs.Prelude.{◌≡◌, ◌∷◌, ◌<◌, ◌≤◌, length, map, IfOk};
 ghost use Rattle.std.specs.Str.Lines.{lines};
 ghost use Rattle.sf_lint.specs.Head.{word_after, begins_with_protocol, is_start as is_start_in};
-ghost use Rattle.sf_lint.specs.Head.{is_named as is_named_in, line_of};
+ghost use Rattle.sf_lint.specs.Head.{is_named as is_named_in, is_status_line as is_status_line_in};
+ghost use Rattle.sf_lint.specs.Head.{line_of};
 ghost use Rattle.sf_tool.specs.Fields.{value_of as value_in};
 ghost use Rattle.std.specs.List.{before_first};
 ghost use Rattle.sf_value.specs.Grammar.Classes.{is_sp};
@@ -28,7 +29,7 @@ pub enum Line {
 }
 
 /// Returns what is before the first space, or the whole line if there is none.
-fn first_word(line: &[u8]) -> &[u8]
+pub(crate) fn first_word(line: &[u8]) -> &[u8]
     ensures { result.now ≡ before_first is_sp line.now }
 {
     match split_at_first(line, b' ') {
@@ -38,7 +39,7 @@ fn first_word(line: &[u8]) -> &[u8]
 }
 
 /// Returns what is after the first space; nothing if there is no space.
-fn after_word(line: &[u8]) -> &[u8]
+pub(crate) fn after_word(line: &[u8]) -> &[u8]
     ensures { result.now ≡ word_after line.now }
 {
     match split_at_first(line, b' ') {
@@ -52,6 +53,13 @@ fn has_protocol(bytes: &[u8]) -> bool
     ensures { result ≡ begins_with_protocol bytes.now }
 {
     bytes.starts_with(b"HTTP/")
+}
+
+/// Returns whether the line is a status line.
+pub(crate) fn is_status_line(line: &[u8]) -> bool
+    ensures { result ≡ is_status_line_in line.now }
+{
+    has_protocol(line)
 }
 
 /// Returns whether the line begins a message: whether it is a status line or a request line.

@@ -7,7 +7,8 @@ ghost use Rattle.sf_parse.specs.Spots.{line_place};
 ghost use Rattle.sf_value.specs.declared.value.Field.{Field};
 ghost use Rattle.std.specs.List.{before_first};
 ghost use Rattle.sf_lint.specs.Head.{IsRepeated, is_start as is_start_in, values_in};
-ghost use Rattle.sf_lint.specs.Report.{ReportsLine, ReportsField, ReportsLines, Reports, shown as shown_in};
+ghost use Rattle.sf_lint.specs.Report.{ReportsLine, ReportsField, shown as shown_in};
+ghost use Rattle.sf_lint.specs.Heads.{ReportsLinesWith, ReportsWith};
 ghost use Rattle.sf_lint.specs.Meanings.{meaning_of};
 ghost use Rattle.sf_lint.specs.Report.{no_cache_text, ReportsValue, ReportsRefusal};
 ghost use Rattle.sf_lint.specs.Report.{ReportsOlder, newer_text};
@@ -19,9 +20,10 @@ ghost use Rattle.sf_lint.specs.declared.head.Line.TheVariants as line;
 
 use crate::colours::Verdict;
 use crate::head::{Line, is_named, is_start, read_line, split_lines, value_of};
+use crate::heads::decisions_if;
 use crate::marking::find_mark;
 use crate::meaning::{joined, meaning};
-use crate::settings::{FieldType, Settings, type_of};
+use crate::settings::{CacheSettings, FieldType, Settings, type_of};
 use http_header::HeaderName;
 use sf_field::{UseFault, parse_from};
 use sf_parse::{InLine, Refusal, Spot};
@@ -468,16 +470,18 @@ fn report_line(
     }
 }
 
-/// Reports all lines, in order.
+/// Reports all lines, in order, and after those of each response what caches decide about it.
 fn report_lines(
     alloc: Global,
     seed: &RandomState,
     settings: &Settings,
+    caches: &Option<CacheSettings>,
     lines: &[&[u8]],
 ) -> Result<LineReport, OutOfMemory>
-    requires { length lines.now < 2 ^ 63 }
-    ensures { IfOk result (λ reported. ReportsLines settings.now (map (λ line. line.now) lines.now)
-        (length lines.now) reported.text.items reported.refused reported.others) }
+    requires { length lines.now < 2 ^ 62 }
+    ensures { IfOk result (λ reported. ReportsLinesWith caches.now settings.now
+        (map (λ line. line.now) lines.now) (length lines.now)
+        reported.text.items reported.refused reported.others) }
 {
     let mut all = nothing(alloc);
     for n in 0..lines.len() {
@@ -485,6 +489,8 @@ fn report_lines(
         all.text.extend_from_slice(reported.text.as_slice())?;
         all.refused |= reported.refused;
         all.others += reported.others;
+        let decided = decisions_if(alloc, seed, caches, lines, n)?;
+        all.text.extend_from_slice(decided.as_slice())?;
     }
     Ok(all)
 }
@@ -502,14 +508,17 @@ pub(crate) fn report(
     alloc: Global,
     seed: &RandomState,
     settings: &Settings,
+    caches: &Option<CacheSettings>,
     input: &[u8],
 ) -> Result<LineReport, OutOfMemory>
     requires { length input.now ≤ 2 ^ 32 }
-    // The report on each line, in order, and then the number of fields that are not structured.
-    ensures { IfOk result (λ reported. Reports settings.now input.now reported.text.items reported.refused) }
+    // The report on each line, in order, with what caches decide if that is asked for, and then the
+    // number of fields that are not structured.
+    ensures { IfOk result (λ reported. ReportsWith caches.now settings.now input.now
+        reported.text.items reported.refused) }
 {
     let lines = split_lines(alloc, input)?;
-    let mut reported = report_lines(alloc, seed, settings, lines.as_slice())?;
+    let mut reported = report_lines(alloc, seed, settings, caches, lines.as_slice())?;
     let line = shown(alloc, settings, others_line(alloc, reported.others)?);
     reported.text.extend_from_slice(line.as_slice())?;
     Ok(reported)

@@ -1,12 +1,13 @@
 //! Running the check of an input.
 ghost use Rattle.std.specs.Prelude.{◌≡◌, ◌≤◌, ◌⊎◌, length};
-ghost use Rattle.sf_lint.specs.Run.{Answers, Runs, status_of as status_in};
+ghost use Rattle.sf_lint.specs.Run.{AnswersWith, Runs, RunsWith, status_of as status_in};
 ghost use Rattle.sf_lint.specs.Run.{too_long_text as too_long_in};
 ghost use Rattle.sf_tool.specs.declared.status.Status.TheVariants as status_is;
 ghost use Rattle.sf_tool.specs.Run.{input_limit};
 
+use crate::options::Options;
 use crate::report::report;
-use crate::settings::Settings;
+use crate::settings::{CacheSettings, Settings};
 use sf_tool::{INPUT_LIMIT, ReadAllFault, Status, answer_made, read_all};
 use sf_value::{Sink, Source};
 use std::alloc::Global;
@@ -40,8 +41,60 @@ pub fn run<R: Source, W: Sink>(
     ensures { Runs settings.now (R.state source.old) (R.state source.new)
         (W.state sink.old) (W.state sink.new) result }
 {
+    run_in(alloc, seed, settings, &None, source, sink)
+}
+
+/// Checks the heads of an input, as [`run`] does, and if the options have caches, writes after the
+/// lines of each response what a shared and a private cache decide about it (RFC 9111).
+///
+/// The lines are those of the field that is obeyed, in the words of `sf targeted --fallback`, and
+/// are written with `quiet` too. A decision is by the status code of the status line, by `Age` if the
+/// caches have no age, and by `Expires` and `Date` if `Cache-Control` sets no lifetime.
+///
+/// ```
+/// // caches: Some(CacheSettings { targets: [CDN_CACHE_CONTROL], age: Some(15) })
+/// let mut source = Reading::new(b"HTTP/2 200\r\nCache-Control: max-age=60\r\n".as_slice());
+/// run_with(alloc, &seed, &options, &mut source, &mut sink);
+/// // HTTP/2 200
+/// // decision cache-control: shared fresh 45 max-age
+/// // decision cache-control: private fresh 45 max-age
+/// // other fields: 1
+/// ```
+pub fn run_with<R: Source, W: Sink>(
+    alloc: Global,
+    seed: &RandomState,
+    options: &Options,
+    source: &mut R,
+    sink: &mut W,
+) -> Status
+    // The whole input is read and answered, or refused as too long; otherwise nothing is written.
+    ensures { RunsWith options.now.caches options.now.settings (R.state source.old)
+        (R.state source.new) (W.state sink.old) (W.state sink.new) result }
+{
+    run_in(
+        alloc,
+        seed,
+        &options.settings,
+        &options.caches,
+        source,
+        sink,
+    )
+}
+
+/// Checks the heads of an input, by settings and with the decisions of these caches.
+fn run_in<R: Source, W: Sink>(
+    alloc: Global,
+    seed: &RandomState,
+    settings: &Settings,
+    caches: &Option<CacheSettings>,
+    source: &mut R,
+    sink: &mut W,
+) -> Status
+    ensures { RunsWith caches.now settings.now (R.state source.old) (R.state source.new)
+        (W.state sink.old) (W.state sink.new) result }
+{
     match read_all(alloc, INPUT_LIMIT, source) {
-        Ok(input) => answer(alloc, seed, settings, input.as_slice(), sink),
+        Ok(input) => answer(alloc, seed, settings, caches, input.as_slice(), sink),
         Err(ReadAllFault::TooLong { max: _ }) => answer_made(
             too_long_text(settings),
             Status::Refused,
@@ -79,14 +132,16 @@ fn answer<W: Sink>(
     alloc: Global,
     seed: &RandomState,
     settings: &Settings,
+    caches: &Option<CacheSettings>,
     input: &[u8],
     sink: &mut W,
 ) -> Status
     requires { length input.now ≤ input_limit }
     // The whole answer was written; or a prefix of it, and a write failed; or nothing.
-    ensures { Answers settings.now input.now (W.state sink.old) (W.state sink.new) result }
+    ensures { AnswersWith caches.now settings.now input.now (W.state sink.old) (W.state sink.new)
+        result }
 {
-    match report(alloc, seed, settings, input) {
+    match report(alloc, seed, settings, caches, input) {
         Ok(reported) => {
             let status = status_of(reported.refused);
             answer_made(reported.text.as_slice(), status, sink)

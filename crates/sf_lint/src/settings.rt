@@ -29,6 +29,16 @@ pub struct Settings {
     pub colour: bool,
 }
 
+/// The caches whose decisions are printed, and what a head doesn't say of a response.
+#[derive(Debug, Drop)]
+pub struct CacheSettings {
+    /// The target list of the caches (RFC 9213 section 2.2): the first field of these names that
+    /// can be used decides alone. [`crate::read_options`] returns from 1 to 64.
+    pub targets: Vec<HeaderName>,
+    /// The age of each response, in seconds; `None` for the age that its `Age` states.
+    pub age: Option<u64>,
+}
+
 /// The kind and the dialect of a structured field.
 #[derive(Clone, Copy, Debug, PartialEq, Eq)]
 pub struct FieldType {

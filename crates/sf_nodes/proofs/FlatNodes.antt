@@ -29,7 +29,7 @@ use Rattle.sf_nodes.specs.Nodes.{bare_content, params_content, item_content, ite
 use Rattle.sf_nodes.specs.Nodes.{inside_content, inner_content}
 use Rattle.sf_nodes.specs.Nodes.{member_content, members_content, entries_content, field_content}
 use Rattle.sf_nodes.proofs.NodeSteps.{length_params}
-use Rattle.sf_nodes.proofs.Slices.{slice_at_behind, slice_at_length}
+use Rattle.sf_nodes.proofs.Slices.{slice_at_after, slice_at_length}
 
 -- the first part, and the others
 heads_equal : (t u : NodeContent) (ts us : List NodeContent) → t ∷ ts ≡ u ∷ us → (t ≡ u) × (ts ≡ us)
@@ -58,11 +58,11 @@ bare_node d source bytes r k size x p e w =
       role = ap (λ t. role_number t.role) e;
       size = ap (λ t. t.size) e;
       key_within = omega arith;
-      key = slice_at_behind source bytes p.key_at p.key_length ∙ ap (λ t. t.key) e;
+      key = slice_at_after source bytes p.key_at p.key_length ∙ ap (λ t. t.key) e;
       node_type = ap (λ t. type_number t.node_type) e;
       number = ap (λ t. t.number) e;
       text_within = omega arith;
-      text = slice_at_behind source bytes p.text_at p.text_length ∙ ap (λ t. t.text) e;
+      text = slice_at_after source bytes p.text_at p.text_length ∙ ap (λ t. t.text) e;
     }
 
 abbrev opening_content : List ℕ → ℕ → NodeContent
@@ -85,7 +85,7 @@ opening_node source bytes k size p e w =
       role = ap (λ t. role_number t.role) e;
       size = ap (λ t. t.size) e;
       key_within = omega arith;
-      key = slice_at_behind source bytes p.key_at p.key_length ∙ ap (λ t. t.key) e;
+      key = slice_at_after source bytes p.key_at p.key_length ∙ ap (λ t. t.key) e;
       node_type = ap (λ t. type_number t.node_type) e;
       number = ap (λ t. t.number) e;
       empty =
@@ -286,9 +286,9 @@ all_decoded : (start : ℕ) (ws : List Part) → Each IsDecoded (map (node_of st
 all_decoded start [] = tt
 all_decoded start (p ∷ ws) = (refl, all_decoded start ws)
 
-all_behind : (start : ℕ) (ws : List Part) → Each (IsInOne start) (map (node_of start) ws)
-all_behind start [] = tt
-all_behind start (p ∷ ws) = ((inr (omega arith), inr (omega arith)), all_behind start ws)
+all_after : (start : ℕ) (ws : List Part) → Each (IsInOne start) (map (node_of start) ws)
+all_after start [] = tt
+all_after start (p ∷ ws) = ((inr (omega arith), inr (omega arith)), all_after start ws)
 
 pub written : (start : ℕ) (ts : List NodeContent) (ws : List Part) (bytes buffer new : List ℕ)
     (ns : List Node) → map (content_by bytes) ws ≡ ts → HoldsUp bytes ws
@@ -310,5 +310,5 @@ written start ts ws bytes buffer new ns described h put e =
           (ap (λ n. map (node_of n) ws) at ∙ sym these)
           (field_nodes d source bytes ws v (described ∙ is) h.0));
       decoded = subst (Each IsDecoded) (sym these) (all_decoded start ws);
-      in_one = subst (Each (IsInOne start)) (sym these) (all_behind start ws);
+      in_one = subst (Each (IsInOne start)) (sym these) (all_after start ws);
     }

@@ -152,29 +152,29 @@ entry_small d key (member.Item i) named valid =
 entry_small d key (member.Inner l) named valid =
     omega (arith, member_small d (member.Inner l) valid, lengths)
 
-members_behind : (d : Dialect) (ms : Seq Member) → Each (ValidMember d) ms
+members_after : (d : Dialect) (ms : Seq Member) → Each (ValidMember d) ms
     → Small (members_nodes ms) (members_bytes ms) (length (canon_commas canon_member ms))
     (length (canon_commas canon_member ms))
-members_behind d [] valid = omega arith
-members_behind d (m ∷ ms) valid =
-    omega (arith, member_small d m valid.0, members_behind d ms valid.1, lengths)
+members_after d [] valid = omega arith
+members_after d (m ∷ ms) valid =
+    omega (arith, member_small d m valid.0, members_after d ms valid.1, lengths)
 
 members_small : (d : Dialect) (ms : Seq Member) → Each (ValidMember d) ms
     → Small (members_nodes ms) (members_bytes ms) (1 + length (canon_series canon_member ms))
     (length (canon_series canon_member ms))
 members_small d [] valid = omega arith
 members_small d (m ∷ ms) valid =
-    omega (arith, member_small d m valid.0, members_behind d ms valid.1, lengths)
+    omega (arith, member_small d m valid.0, members_after d ms valid.1, lengths)
 
-entries_behind : (d : Dialect) (ps : Pairs Member) → AreEntries d ps
+entries_after : (d : Dialect) (ps : Pairs Member) → AreEntries d ps
     → Small (entries_nodes ps) (entries_bytes ps) (length (canon_commas canon_entry ps))
     (length (canon_commas canon_entry ps))
-entries_behind d [] valid = omega arith
-entries_behind d (p ∷ ps) valid =
+entries_after d [] valid = omega arith
+entries_after d (p ∷ ps) valid =
     omega (
       arith,
       entry_small d p.0 p.1 valid.0.0 valid.0.1,
-      entries_behind d ps valid.1,
+      entries_after d ps valid.1,
       lengths,
     )
 
@@ -186,7 +186,7 @@ entries_small d (p ∷ ps) valid =
     omega (
       arith,
       entry_small d p.0 p.1 valid.0.0 valid.0.1,
-      entries_behind d ps valid.1,
+      entries_after d ps valid.1,
       lengths,
     )
 

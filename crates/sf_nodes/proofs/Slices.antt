@@ -27,6 +27,6 @@ slice_at_last bytes more =
     ap (take (length more)) (drop-append_seam bytes more) ∙ take-length more
 
 -- so is each slice of them
-pub slice_at_behind : (prefix bytes : List ℕ) (at count : ℕ)
+pub slice_at_after : (prefix bytes : List ℕ) (at count : ℕ)
     → slice_at (length prefix + at) count (prefix ++ bytes) ≡ slice_at at count bytes
-slice_at_behind prefix bytes at count = ap (take count) (drop-append-add prefix bytes at)
+slice_at_after prefix bytes at count = ap (take count) (drop-append-add prefix bytes at)

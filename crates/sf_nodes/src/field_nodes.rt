@@ -59,9 +59,9 @@ impl<'a> FieldNodes<'a> {
 
     /// Reads a text as a field of this kind (RFC 9651 section 4.2), and returns its nodes, or the
     /// refusal that [`parse_declined`] returns. The text is scanned, as by [`View::scan`]; only if
-    /// the scanner declines it, for example because a key is repeated, the field is built and its
-    /// nodes are made from that. It allocates. `Refusal::OutOfMemory` is also returned for a text
-    /// of some gigabytes whose keys and texts together have 4 GiB or more.
+    /// the scanner declines it, for example because a key of parameters is repeated, the field is
+    /// built and its nodes are made from that. It allocates. `Refusal::OutOfMemory` is also
+    /// returned for a text of some gigabytes whose keys and texts together have 4 GiB or more.
     ///
     /// ```
     /// let nodes = FieldNodes::of_text(alloc, &seed, Dialect::Rfc9651, Kind::Item, b"a;b=1;b=2")?;

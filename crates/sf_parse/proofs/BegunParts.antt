@@ -57,7 +57,7 @@ put_some [] k x e = cc
 put_some (p ∷ ps) k x e = cc
 
 -- after whole parameters a semicolon opens another one
-finish_opens : (d : Dialect) (s : ParamsState) (ps : Pairs Bare) → params_finish s ≡ Some ps
+pub finish_opens : (d : Dialect) (s : ParamsState) (ps : Pairs Bare) → params_finish s ≡ Some ps
     → params_step d s 59 ≡ Some (Opened ps)
 finish_opens d (Between qs) ps e = let k : qs ≡ ps = cc in ap (λ y. Some (Opened y)) k
 finish_opens d (Opened qs) ps e = absurd cc

@@ -26,7 +26,7 @@ use Rattle.sf_parse.specs.Machine.Params.{InValue, params_step}
 use Rattle.sf_parse.specs.Machine.Items.{ItemState}
 use Rattle.sf_parse.specs.Machine.Items.{InBare, InParams}
 use Rattle.sf_parse.specs.Machine.Items.{item_start, item_step, item_finish}
-use Rattle.sf_parse.specs.Machine.Inners.{InnerState, BetweenItems, InItem, Closing, behind_step}
+use Rattle.sf_parse.specs.Machine.Inners.{InnerState, BetweenItems, InItem, Closing, after_step}
 use Rattle.sf_parse.specs.Machine.Inners.{inner_step}
 use Rattle.sf_parse.specs.Machine.Members.{MemberState}
 use Rattle.sf_parse.specs.Machine.Members.{InOne, InMany}
@@ -148,8 +148,8 @@ inner_near (BetweenItems is) b =
     (near_second (allow (b == 41) (Closing is (Between [])))
     (mark_none (λ b. allow (b == 41) (Closing is (Between []))) refl refl b)
     (near_map (InItem is) (item_start_near b)))
-inner_near (InItem is s) b = near_onward (InItem is) (item_finish s) (λ i. behind_step (is
-    ++ i ∷ []) b) (λ i. mark_none (behind_step (is ++ i ∷ [])) refl refl b) (item_near s b)
+inner_near (InItem is s) b = near_onward (InItem is) (item_finish s) (λ i. after_step (is
+    ++ i ∷ []) b) (λ i. mark_none (after_step (is ++ i ∷ [])) refl refl b) (item_near s b)
 inner_near (Closing is s) b = near_map (Closing is) (params_near s b)
 
 member_start_near : (b : ℕ) → Near b (member_start Rfc8941 b) (member_start Rfc9651 b)

@@ -104,10 +104,10 @@ comma_refused o q e after line t f =
     (fed_before o q e (44 ∷ 32 ∷ []) line f)
 
 -- a line after another: they are taken, and then the line is fed
-pub line_behind : (o p q : Progress) (r : Result (Unit {0}) Refusal) (after : Bool) (line : List ℕ)
+pub line_after : (o p q : Progress) (r : Result (Unit {0}) Refusal) (after : Bool) (line : List ℕ)
     → after ≡ true → Feeds o p (Ok tt) (44 ∷ 32 ∷ []) → Feeds p q r line
     → Feeds o q r (in_line after line)
-line_behind o p q r after line t f g =
+line_after o p q r after line t f g =
     subst (λ b. Feeds o q r (in_line b line)) (sym t) (fed_after o p q r (44 ∷ 32 ∷ []) line f g)
 
 -- the first line

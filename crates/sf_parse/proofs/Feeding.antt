@@ -95,9 +95,9 @@ at_seam [] b more = refl
 at_seam (x ∷ xs) b more = at_seam xs b more
 
 -- a byte is refused after a prefix
-pub refused_behind : (o p q : Progress) (x : List ℕ) (b : ℕ) (more chunk : List ℕ) (e : Refusal)
+pub refused_after : (o p q : Progress) (x : List ℕ) (b : ℕ) (more chunk : List ℕ) (e : Refusal)
     → Feeds o p (Ok tt) x → Feeds p q (Err e) (b ∷ []) → chunk ≡ x ++ b ∷ more → Feeds o q (Err e) chunk
-refused_behind o p q x b more chunk e a f s =
+refused_after o p q x b more chunk e a f s =
     subst (Feeds o q (Err e)) (sym s)
     (stopped_in o p q (x ++ b ∷ more) (length x) e (omega (arith, length-append x (b ∷ more)))
     (subst (FedPrefix o p) (sym (take-append_seam x (b ∷ more)))

@@ -33,11 +33,11 @@ use Rattle.sf_parse.proofs.Machines.{cases_le}
 use Rattle.sf_parse.proofs.GrammarLaws.{is_read}
 use Rattle.sf_parse.proofs.Reaching.{reached_nothing, reaches_more, reached_viable}
 
-slice_get_behind : (p s : List ℕ) (n : ℕ) → slice_get (p ++ s) (length p + n) ≡ slice_get s n
-slice_get_behind [] s n = ap (slice_get s) (let e : 0 + n ≡ n = omega arith in e)
-slice_get_behind (b ∷ p) s n =
+slice_get_after : (p s : List ℕ) (n : ℕ) → slice_get (p ++ s) (length p + n) ≡ slice_get s n
+slice_get_after [] s n = ap (slice_get s) (let e : 0 + n ≡ n = omega arith in e)
+slice_get_after (b ∷ p) s n =
     let e : length (b ∷ p) + n ≡ suc (length p + n) = omega arith in
-    ap (slice_get (b ∷ (p ++ s))) e ∙ slice_get_behind p s n
+    ap (slice_get (b ∷ (p ++ s))) e ∙ slice_get_after p s n
 
 module _ (d : Dialect) (kind : Kind) where
   swapped : (p q : List ℕ) → AreInterchangeable d kind p q → AreInterchangeable d kind q p
@@ -68,7 +68,7 @@ module _ (d : Dialect) (kind : Kind) where
 
   moved_byte : (p q s : List ℕ) (n : ℕ)
       → slice_get (q ++ s) (length q + n) ≡ slice_get (p ++ s) (length p + n)
-  moved_byte p q s n = slice_get_behind q s n ∙ sym (slice_get_behind p s n)
+  moved_byte p q s n = slice_get_after q s n ∙ sym (slice_get_after p s n)
 
   -- a byte may come next after both
   moved_next : (p q s : List ℕ) (n b : ℕ) → AreInterchangeable d kind p q

@@ -47,12 +47,12 @@ get_between l rest place h k = by (place - length l) refl
     by (suc (suc i)) e = absurd (let n : ⊥ = omega arith in n)
 
 -- a spot in the other lines, with one line more before them
-behind_one : (n : ℕ) (l m : List ℕ) (ls : List (List ℕ)) (place : ℕ) → 2 ≤ place - length l
+after_one : (n : ℕ) (l m : List ℕ) (ls : List (List ℕ)) (place : ℕ) → 2 ≤ place - length l
     → (o : Option LinePlace)
     → MatchOption o (m ∷ ls ≡ []) (IsSpot (suc n) (m ∷ ls) (place - length l - 2))
     → MatchOption o (l ∷ m ∷ ls ≡ []) (IsSpot n (l ∷ m ∷ ls) place)
-behind_one n l m ls place h None k = absurd (let e : m ∷ ls ≡ [] = k in cc)
-behind_one n l m ls place h (Some p) k =
+after_one n l m ls place h None k = absurd (let e : m ∷ ls ≡ [] = k in cc)
+after_one n l m ls place h (Some p) k =
     let one : IsSpot (suc n) (m ∷ ls) (place - length l - 2) p = k in
     let same = get_next l (join (m ∷ ls)) place h in
     record {
@@ -97,7 +97,7 @@ spot n (l ∷ m ∷ ls) place =
           )
       | inr f ↦ (
           let far : 2 ≤ place - length l = search (rules, f) in
-          rw f (behind_one n l m ls place far _ (spot (suc n) (m ∷ ls) (place - length l - 2)))
+          rw f (after_one n l m ls place far _ (spot (suc n) (m ∷ ls) (place - length l - 2)))
           )
     ]
 

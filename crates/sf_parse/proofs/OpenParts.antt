@@ -16,9 +16,9 @@ use Rattle.sf_parse.specs.Machine.Params.{ParamsState, Opened, InParamKey, InVal
 use Rattle.sf_parse.specs.Machine.Params.{key_step}
 use Rattle.sf_parse.specs.Machine.Params.{params_step}
 use Rattle.sf_parse.specs.Machine.Items.{ItemState, InBare, InParams, item_step, item_finish}
-use Rattle.sf_parse.specs.Machine.Inners.{BetweenItems, InItem, Closing, behind_step, inner_step}
+use Rattle.sf_parse.specs.Machine.Inners.{BetweenItems, InItem, Closing, after_step, inner_step}
 use Rattle.sf_parse.specs.Machine.Members.{MemberState, InOne, InMany, member_step}
-use Rattle.sf_parse.specs.Machine.Entries.{InKey, InMemberValue, InFlag, behind_key_step}
+use Rattle.sf_parse.specs.Machine.Entries.{InKey, InMemberValue, InFlag, after_key_step}
 use Rattle.sf_parse.specs.Machine.Entries.{entry_step}
 use Rattle.sf_parse.specs.Machine.States.{BeforeItem, InsideItem, AfterItem}
 use Rattle.sf_parse.specs.ItemFieldView.{after_of}
@@ -56,11 +56,11 @@ space_in_inner d is b h = rw h refl
 pub item_in_inner : (d : Dialect) (is : List Item) (s t : ItemState) (b : ℕ)
     → item_step d s b ≡ Some t → inner_step d (InItem is s) b ≡ Some (InItem is t)
 item_in_inner d is s t b e =
-    ap (λ o. onward (InItem is) o (item_finish s) (λ i. behind_step (is ++ i ∷ []) b)) e
+    ap (λ o. onward (InItem is) o (item_finish s) (λ i. after_step (is ++ i ∷ []) b)) e
 
 pub key_in_entry : (d : Dialect) (s t : List ℕ) (b : ℕ) → word_step is_in_key s b ≡ Some t
     → entry_step d (InKey s) b ≡ Some (InKey t)
-key_in_entry d s t b e = ap (λ o. onward InKey o (Some s) (λ k. behind_key_step k b)) e
+key_in_entry d s t b e = ap (λ o. onward InKey o (Some s) (λ k. after_key_step k b)) e
 
 pub item_in_field : (d : Dialect) (s t : ItemState) (b : ℕ) → item_step d s b ≡ Some t
     → step d (InsideItem s) b ≡ Some (InsideItem t)
@@ -184,7 +184,7 @@ pub space_before : (d : Dialect) (b : ℕ) → is_sp b ≡ true → step d Befor
 space_before d b h = rw h refl
 
 -- spaces after an item
-pub space_behind : (d : Dialect) (o : Option Item) → IsSome o → (b : ℕ) → is_sp b ≡ true
+pub space_after : (d : Dialect) (o : Option Item) → IsSome o → (b : ℕ) → is_sp b ≡ true
     → step d (after_of o) b ≡ Some (after_of o)
-space_behind d (Some i) k b h = rw h refl
-space_behind d None k b h = absurd cc
+space_after d (Some i) k b h = rw h refl
+space_after d None k b h = absurd cc

@@ -29,7 +29,7 @@ use Rattle.sf_parse.specs.Machine.Items.{ItemState, InBare, InParams, item_start
 use Rattle.sf_parse.specs.Machine.Items.{item_finish}
 use Rattle.sf_parse.specs.Machine.Members.{MemberState, InOne, InMany, member_start}
 use Rattle.sf_parse.specs.Machine.Members.{member_step, member_finish}
-use Rattle.sf_parse.specs.Machine.Inners.{BetweenItems, InItem, Closing, behind_step, inner_finish}
+use Rattle.sf_parse.specs.Machine.Inners.{BetweenItems, InItem, Closing, after_step, inner_finish}
 use Rattle.sf_parse.specs.Machine.Entries.{EntryState, InKey, Equals, InMemberValue, InFlag}
 use Rattle.sf_parse.specs.Machine.Entries.{with_key, flag_of, entry_start, entry_step, entry_finish}
 use Rattle.sf_parse.specs.Machine.Fields.{step}
@@ -43,19 +43,19 @@ use Rattle.sf_parse.specs.SeriesView.{series_next, series_end, series_of}
 use Rattle.sf_parse.specs.Stops.{StopsAt, StopsIn, RefusesLeft}
 use Rattle.sf_parse.specs.WholeMembers.{NoneOpen, IsBetween, RefusesAt, RefusesAfter}
 use Rattle.sf_parse.specs.WholeMembers.{begins_between, ends_between}
-use Rattle.sf_parse.specs.WholeParts.{Behind, ReadsAs}
+use Rattle.sf_parse.specs.WholeParts.{Behind, ReadsAs, OpensParams}
 use Rattle.sf_parse.specs.declared.refusal.Refusal.{Refusal}
 use Rattle.sf_parse.specs.declared.refusal.Refusal.TheVariants.{Syntax}
 use Rattle.sf_parse.specs.declared.series.SeriesPhase.{SeriesPhase}
 use Rattle.sf_parse.specs.declared.series.SeriesPhase.TheVariants as phase
 use Rattle.sf_parse.specs.declared.stop.Stop.{Stop}
-use Rattle.sf_parse.proofs.BegunParts.{within_more}
+use Rattle.sf_parse.proofs.BegunParts.{within_more, finish_opens}
 use Rattle.sf_parse.proofs.ByteRuns.{stay_goes, word_goes}
 use Rattle.sf_parse.proofs.LevelMarks.{marks_before, marks_items}
 use Rattle.sf_parse.proofs.Machine.Bares.{bare_apart}
 use Rattle.sf_parse.proofs.Machine.Items.{item_apart, item_starts}
 use Rattle.sf_parse.proofs.Machine.Fields.{no_ows}
-use Rattle.sf_parse.proofs.Machine.Language.{is_none}
+use Rattle.sf_parse.proofs.Machine.Language.{is_none, and_then_cases, map_cases}
 use Rattle.sf_parse.proofs.Marks.{marks_map, marks_onward, marks_steps}
 use Rattle.sf_parse.proofs.OpenParts.{space_in_params, value_in_params, bare_in_item, item_in_member}
 use Rattle.sf_parse.proofs.OpenParts.{space_in_member, key_in_entry, member_in_entry, item_in_many, item_in_field}
@@ -267,34 +267,6 @@ module _ (d : Dialect) where
       (value_marks ps key t x.expected x.may_end m k))
       (λ t k. g ∙ k ∙ sym (some_then (put ps key) (bare_finish t))) h)
 
-  opens_value : (ps : Pairs Bare) (k : List ℕ) (t : BareState) (v : Bare) → bare_finish t ≡ Some v
-      → params_step d (InValue ps k t) 59 ≡ Some (Opened (put ps k v))
-  opens_value ps k t v e =
-      rw (is_none (bare_step t 59) (λ u n. bare_apart t v 59 u e n refl), e) refl
-
-  -- the semicolon where parameters may end
-  opens_next : (s : ParamsState) → ParamsEnd s ≡ true
-      → (ps : Pairs Bare) × (params_step d s 59 ≡ Some (Opened ps))
-  opens_next (Between ps) e = (ps, refl)
-  opens_next (Opened ps) e = absurd cc
-  opens_next (InParamKey ps k) e = (put ps k (Boolean true), refl)
-  opens_next (EqualsParam ps k) e = absurd cc
-  opens_next (InValue ps k t) e =
-      let v = whole_value (bare_finish t) (sym (some_then (put ps k) (bare_finish t)) ∙ e) in
-      (put ps k v.0, opens_value ps k t v.0 v.1)
-
-  -- the next parameters, after the semicolon where those before stop
-  pub stop_opens : (ps : Pairs Bare) (text more : List ℕ) (x : Stop)
-      → StopsAt (params_step d) ParamsEnd (Opened ps) text x → x.may_end ≡ true
-      → x.left.now ≡ 59 ∷ more
-      → (qs : Pairs Bare) × Goes (params_step d) (Opened ps) text more (Opened qs)
-  stop_opens ps text more x a m e =
-      let next = opens_next a.state (sym a.ending ∙ m) in (
-        next.0,
-        goes_byte (params_step d) (Opened ps) a.state (Opened next.0) text 59 more
-            (subst (λ y. Goes (params_step d) (Opened ps) text y a.state) e a.goes) next.1,
-      )
-
   -- a key after a semicolon, and what may come after it
   pub keyed_goes : (ps : Pairs Bare) (text named key after : List ℕ) → Behind is_sp text named
       → named ≡ key ++ after → IsKey key
@@ -327,6 +299,53 @@ module _ (d : Dialect) where
       → item_step d (InBare t) 59 ≡ Some (InParams v (Opened []))
   opens_params t v e =
       rw (is_none (bare_step t 59) (λ u n. bare_apart t v 59 u e n refl), e) refl
+
+  -- the parameters of an Item of an Inner List, after the semicolon after it
+  item_opens : (t : ItemState) (i : Item) → item_finish t ≡ Some i
+      → (x : Bare) × (ps : Pairs Bare) × (item_step d t 59 ≡ Some (InParams x (Opened ps)))
+  item_opens (InBare s) i e =
+      let c = and_then_cases (bare_finish s) (λ x. Some (item x [])) i e in
+      (c.0, [], opens_params s c.0 c.1)
+  item_opens (InParams x s) i e =
+      let c = map_cases (item x) (params_finish s) i e in
+      (x, c.0, ap (option_map (InParams x)) (finish_opens d s c.0 c.1))
+
+  pub many_opens : (is new : List Item) (text more : List ℕ) (i : Item)
+      → ReadsAs (SpellsItem d) text i (59 ∷ more) → new ≡ is → OpensParams d is new text more
+  many_opens is new text more i r e =
+      let w = spells_run (item_machine d) (SpellsItem d) (item_start d) (item_starts d) r.prefix i
+      r.spelled in
+      let all = w.more ++ 59 ∷ more in
+      let o = item_opens w.last i w.ends in
+      let next = member_step d in
+      let many : ItemState → MemberState = λ s. InMany (InItem is s) in
+      let now = many (InParams o.0 (Opened o.1)) in record {
+        bare = o.0;
+        params = o.1;
+        goes = subst
+            (λ y. Goes next (InMany (BetweenItems is)) text more
+            (InMany (InItem y (InParams o.0 (Opened o.1)))))
+            (sym e)
+            (subst (λ y. Goes next (InMany (BetweenItems is)) y more now)
+            (sym (r.split ∙ ap (λ y. y ++ 59 ∷ more) w.split))
+            (goes_more next (InMany (BetweenItems is)) (many w.first) now (w.byte ∷ all) all more
+            (goes_one next (InMany (BetweenItems is)) (many w.first) w.byte all
+            (begins_item d is w.byte w.first w.starts))
+            (goes_more next (many w.first) (many w.last) now all (59 ∷ more) more
+            (goes_above (item_step d) next many (item_in_many d is) w.first w.last all (59 ∷ more)
+            (record { taken = w.more; split = refl; leads = w.leads }))
+            (goes_one next (many w.last) now 59 more (rw (o.2) refl)))));
+      }
+
+  pub opens_more : (is mid new : List Item) (text rest more : List ℕ)
+      → Goes (member_step d) (InMany (BetweenItems is)) text rest (InMany (BetweenItems mid))
+      → OpensParams d mid new rest more → OpensParams d is new text more
+  opens_more is mid new text rest more a o = record {
+    bare = o.bare;
+    params = o.params;
+    goes = goes_more (member_step d) (InMany (BetweenItems is)) (InMany (BetweenItems mid))
+        (InMany (InItem new (InParams o.bare (Opened o.params)))) text rest more a o.goes;
+  }
 
   -- the parameters of an Item
   pub params_stop : (text more : List ℕ) (w x : Stop)
@@ -397,10 +416,10 @@ module _ (d : Dialect) where
       (goes_one (member_step d) between closed 41 after refl) h)
 
   -- after the closing bracket
-  pub behind_stop : (after : List ℕ) (is : List Item) (x : Stop) → x.left.now ≡ after
+  pub after_stop : (after : List ℕ) (is : List Item) (x : Stop) → x.left.now ≡ after
       → x.expected ≡ 2 ^ 59 → x.may_end ≡ true
       → StopsAt (member_step d) MemberEnds (InMany (Closing is (Between []))) after x
-  behind_stop after is x e f k =
+  after_stop after is x e f k =
       let closed = InMany (Closing is (Between [])) in
       stop_here (member_step d) MemberEnds closed closed after x
       (record { taken = []; split = sym e; leads = refl })
@@ -446,8 +465,8 @@ module _ (d : Dialect) where
       subst (λ m. MarksStep (bit_or x (cond m 2203318222848 0))
       (member_step d (InMany (InItem is t)))) (sym e)
       (marks_map InMany _ _ (marks_onward (InItem is) x 2203318222848 (item_step d t)
-      (item_finish t) (λ i. behind_step (is ++ i ∷ [])) h
-      (λ i. marks_steps 2203318222848 (behind_step (is ++ i ∷ [])) refl)))
+      (item_finish t) (λ i. after_step (is ++ i ∷ [])) h
+      (λ i. marks_steps 2203318222848 (after_step (is ++ i ∷ [])) refl)))
 
   pub within_stop : (rest : List ℕ) (is : List Item) (x y : Stop) → y.left.now ≡ x.left.now
       → y.expected ≡ bit_or x.expected (cond x.may_end 2203318222848 0) → y.may_end ≡ false
@@ -458,6 +477,23 @@ module _ (d : Dialect) where
       (item_in_many d is) (item_start d) (InMany (BetweenItems is)) rest x y (begins_item d is) e
       (λ t m k. subst (λ z. MarksStep z (member_step d (InMany (InItem is t)))) (sym f)
       (within_marks is t x.expected x.may_end m k)) (λ t k. g) h
+
+  -- in the parameters of an Item of it
+  pub open_item_stop : (text : List ℕ) (is : List Item) (x : Bare) (ps : Pairs Bare) (y z : Stop)
+      → z.left.now ≡ y.left.now
+      → z.expected ≡ bit_or y.expected (cond y.may_end 2203318222848 0) → z.may_end ≡ false
+      → StopsAt (params_step d) ParamsEnd (Opened ps) text y
+      → StopsAt (member_step d) MemberEnds (InMany (InItem is (InParams x (Opened ps)))) text z
+  open_item_stop text is x ps y z e f g h =
+      stop_above (params_step d) (member_step d) (λ s. InMany (InItem is (InParams x s)))
+      ParamsEnd MemberEnds
+      (λ s t b n. item_in_many d is (InParams x s) (InParams x t) b (ap (option_map (InParams x)) n))
+      (Opened ps) text y z e
+      (λ t m k. subst (λ c. MarksStep c (member_step d (InMany (InItem is (InParams x t))))) (sym f)
+      (within_marks is (InParams x t) y.expected y.may_end
+      (marks_map (InParams x) y.expected (params_step d t) m)
+      (k ∙ sym (some_map (item x) (params_finish t)))))
+      (λ t k. g) h
 
   -- what comes after the key of a member of a Dictionary
   pub key_stop : (text key after : List ℕ) (x : Stop) → text ≡ key ++ after → IsKey key
@@ -663,11 +699,11 @@ module _ (d : Dialect) where
       rw (is_none (item_step d t 32) (λ u n. item_apart d t i 32 u e n refl), e) refl
 
   -- after a whole Item and one or more spaces
-  pub left_behind_item : (text more end : List ℕ) (i : Item) (whole : ℕ) (e : Refusal)
+  pub left_after_item : (text more end : List ℕ) (i : Item) (whole : ℕ) (e : Refusal)
       → ReadsAs (SpellsItem d) text i (32 ∷ more) → Behind is_sp more end
       → RefusesLeft (2 ^ 32) true end (whole - length end) e
       → RefusesAfter (step d) may_end BeforeItem text whole e
-  left_behind_item text more end i whole e r b h =
+  left_after_item text more end i whole e r b h =
       let w = spells_run (item_machine d) (SpellsItem d) (item_start d) (item_starts d) r.prefix i
       r.spelled in
       let all = w.more ++ 32 ∷ more in

@@ -229,12 +229,12 @@ module _ {S X V : Type 0} (first : ℕ → Option S) (next : S → ℕ → Optio
   pub comma_may_begin : (q : SeriesPhase) (given : V) → q ≡ phase.Comma → MayBegin none q given
   comma_may_begin q given e = subst (λ y. MayBegin none y given) (sym e) tt
 
-  pub behind_open : (q : SeriesPhase) (is_whole : Bool) (given : V) (text rest : List ℕ)
+  pub after_open : (q : SeriesPhase) (is_whole : Bool) (given : V) (text rest : List ℕ)
       → IsBehindMember is_whole text q rest → NoneOpen none q given
-  behind_open phase.Begin is_whole given text rest b = absurd b
-  behind_open phase.InMember is_whole given text rest b = absurd b
-  behind_open phase.Gap is_whole given text rest b = tt
-  behind_open phase.Comma is_whole given text rest b = tt
+  after_open phase.Begin is_whole given text rest b = absurd b
+  after_open phase.InMember is_whole given text rest b = absurd b
+  after_open phase.Gap is_whole given text rest b = tt
+  after_open phase.Comma is_whole given text rest b = tt
 
   pub none_taken : (is_whole : Bool) (p : SeriesPhase) (given : V) (s : S) (text rest : List ℕ)
       → is_whole ≡ false

@@ -29,11 +29,11 @@ use Rattle.sf_parse.specs.Machine.Bares.{BareState, InNumber, InText, GoodBare, 
 use Rattle.sf_parse.specs.Machine.Bares.{bare_start, bare_step, bare_finish}
 use Rattle.sf_parse.specs.Machine.Params.{MoreParams}
 use Rattle.sf_parse.specs.Leaves.{number_bare, leaf_bare}
-use Rattle.sf_parse.specs.declared.leaf.Leaf.{Leaf}
 use Rattle.sf_parse.specs.declared.whole_parts.BehindItems.{BehindItems}
+use Rattle.sf_parse.specs.declared.whole_parts.BehindItems.TheVariants as behind
 use Rattle.sf_parse.specs.Prefixes.{Goes, LongestPrefix, Starts}
 use Rattle.sf_parse.specs.declared.number.Number.{Number}
-use Rattle.sf_parse.specs.WholeParts.{ReadsAs, ReadsParam, ReadsItems, AddsItem, AddsFound, Behind}
+use Rattle.sf_parse.specs.WholeParts.{ReadsAs, ReadsParam, ReadsItems, AddsItem, TakesItem, Behind}
 use Rattle.sf_parse.proofs.Machine.Language.{and_then_cases}
 use Rattle.sf_parse.proofs.Machine.Bares.{bare_reads, bare_starts, bare_lives}
 use Rattle.sf_parse.proofs.Machines.{may_end, accepted}
@@ -252,19 +252,21 @@ built_item d text after rest x y ps b e r =
     item_whole d text after rest y ps
     (subst (λ z. ReadsAs (SpellsBare d) text z after) (sym e) b) r
 
--- with the parameters after it
-pub with_params : (d : Dialect) (l : Leaf) (text after : List ℕ) (old new : List Item)
-    → ((e : Dialect) → ReadsAs (SpellsBare e) text (leaf_bare l) after)
-    → (o : Option BehindItems)
-    → IfSome o (AddsFound d l after old new) → IfSome o (AddsItem d text old new)
-with_params d l text after old new b None h = h
-with_params d l text after old new b (Some end) h = record {
-  item = item (leaf_bare l) h.params;
-  rest = h.rest;
-  reads = item_whole d text after h.rest (leaf_bare l) h.params (b d) h.reads;
-  added = h.added;
-  behind = h.behind;
-}
+-- an Item that is whole
+pub adds_taken : (d : Dialect) (text : List ℕ) (old new : List Item) (end : BehindItems)
+    → AddsItem d text old new end → TakesItem d text old new end
+adds_taken d text old new (behind.Open rest) a = a
+adds_taken d text old new (behind.Closed rest) a = a
+adds_taken d text old new (behind.InParams rest) a = absurd a.behind
+
+-- an Item that begins with this bare item
+pub takes_found : (d : Dialect) (x : Bare) (text after : List ℕ) (old new : List Item)
+    → ReadsAs (SpellsBare d) text x after → (o : Option BehindItems)
+    → IfSome o (λ end. (t : List ℕ) → ReadsAs (SpellsBare d) t x after
+    → TakesItem d t old new end)
+    → IfSome o (TakesItem d text old new)
+takes_found d x text after old new b None h = h
+takes_found d x text after old new b (Some end) h = h text b
 
 -- Items of an Inner List: those after spaces, none, or one before others
 spaces_before : (d : Dialect) (least low : ℕ) (gap suffix : List ℕ) (is : List Item)

@@ -2,10 +2,12 @@
 use Rattle.std.specs.Prelude.{◌≡◌, ℕ, List, [], ◌∷◌, ◌++◌, Some, None}
 use Rattle.sf_value.specs.Ascii.{semicolon}
 use Rattle.sf_value.specs.declared.dialect.Dialect.{Dialect}
+use Rattle.sf_value.specs.declared.value.Item.{Item}
 use Rattle.sf_parse.specs.Machine.Params.{Between, Opened, params_step}
 use Rattle.sf_parse.specs.Machine.Inners.{BetweenItems, Closing}
 use Rattle.sf_parse.specs.Machine.Members.{InMany, member_step}
 use Rattle.sf_parse.specs.Prefixes.{Goes}
+use Rattle.sf_parse.specs.WholeParts.{OpensParams}
 use Rattle.sf_parse.specs.declared.begun.Begun.{Begun}
 use Rattle.sf_parse.specs.declared.begun.Parts.{Parts}
 use Rattle.sf_parse.specs.declared.begun.Parts.TheVariants as parts
@@ -19,6 +21,7 @@ LeadsBy d (parts.Inner is None) from left =
     Goes (member_step d) (InMany (BetweenItems [])) from left (InMany (Closing is (Between [])))
 LeadsBy d (parts.Inner is (Some ps)) from left =
     Goes (member_step d) (InMany (BetweenItems [])) from left (InMany (Closing is (Opened ps)))
+LeadsBy d parts.Unkept from left = (is : List Item) × OpensParams d [] is from left
 
 -- the same, for parts with their place in the text
 abbrev pub IsBegun : Dialect → Begun → Type 0

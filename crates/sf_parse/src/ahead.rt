@@ -3,7 +3,7 @@
 ghost use Rattle.std.specs.Prelude.{◌≤◌, length};
 
 use memchr::{memchr, memchr2, memchr3};
-use sf_value::classes::behind;
+use sf_value::classes::strip_byte;
 
 /// At most this many bytes of a text are searched, so that a long text that is refused early isn't
 /// first searched to its end.
@@ -115,7 +115,7 @@ fn outside_of_quotes(text: &[u8], place: usize) -> Option<&[u8]>
     }
     let end = memchr2(b'"', b'\\', from)?;
     let (_, quote) = from.split_at(end);
-    behind(quote, b'"')
+    strip_byte(quote, b'"')
 }
 
 /// Whether there is an odd number of quotes in these bytes, and whether there is a backslash. The

@@ -13,6 +13,7 @@ use crate::boolean::BooleanState;
 use crate::context::Context;
 use crate::date::DateReader;
 use crate::display_string::ShownPlace;
+use crate::gathering::extend;
 use crate::level::Level;
 use crate::number::NumberReader;
 use crate::sets::{BARE_8941, BARE_9651, TOKEN};
@@ -201,7 +202,7 @@ impl Level for BareReader {
             BareKind::Text => return self.text.take_run(&mut self.bytes, chunk),
             BareKind::Token => {
                 let (run, rest) = long_prefix::<InToken>(chunk);
-                self.bytes.extend(run)?;
+                extend(&mut self.bytes, run)?;
                 return Ok(rest);
             }
             BareKind::Blob => return self.blob.take_run(&mut self.bytes, chunk),

@@ -8,7 +8,7 @@ ghost use Rattle.sf_parse.specs.BegunParts.{IsBegunAt, IsBegunParams, LeadsBy};
 ghost use Rattle.sf_parse.specs.WholeParts.{ReadsAs};
 ghost use Rattle.sf_parse.specs.declared.begun.Parts.TheVariants as parts_are;
 
-use sf_value::classes::behind;
+use sf_value::classes::strip_byte;
 use sf_value::{Bare, Entries, Item, Sequence};
 
 /// Whole parts are looked for only in chunks of at least this many bytes. A smaller chunk seldom
@@ -25,6 +25,9 @@ pub enum Parts {
     /// The Items of an Inner List whose closing bracket was read. If a semicolon was read after it,
     /// its parameters: after them a semicolon was read.
     Inner(Sequence<Item>, Option<Entries<Bare>>),
+    /// Whole Items of an Inner List, and the next one up to a semicolon after it. Only where they
+    /// end is kept, since what may come there is the same for all.
+    Unkept,
 }
 
 /// The whole parts of a member that was begun, and where they are in the text.
@@ -43,8 +46,8 @@ pub fn begun_params<'a>(text: &'a [u8], params: Entries<Bare>, rest: &'a [u8]) -
     ensures { IfSome result (λ b. (d : Dialect)
         → ReadsAs (SpellsParams d) text.now params rest.now → IsBegunParams d text.now b) }
 {
-    let from = behind(text, b';')?;
-    let left = behind(rest, b';')?;
+    let from = strip_byte(text, b';')?;
+    let left = strip_byte(rest, b';')?;
     Some(Begun {
         from,
         parts: Parts::Params(params),
@@ -77,7 +80,7 @@ pub fn keep_params<'a>(
     keep_some_params(begun, text, params, rest);
 }
 
-/// As [`keep_params`]. It is not inlined, nor are the next three: a function that they were inlined
+/// As [`keep_params`]. It is not inlined, nor are the next four: a function that they were inlined
 /// into would clear stack for the parts even if they are not kept.
 #[inline(never)]
 fn keep_some_params<'a>(
@@ -125,6 +128,19 @@ fn keep_some_items<'a>(
     *begun = Some(Begun {
         from,
         parts: Parts::Items(items),
+        left,
+    });
+}
+
+/// Keeps only where Items of an Inner List end, up to a semicolon.
+#[inline(never)]
+pub fn keep_end<'a>(begun: &mut Option<Begun<'a>>, from: &'a [u8], left: &'a [u8])
+    ensures { (d : Dialect) → LeadsBy d parts_are.Unkept from.now left.now
+        → IfSome begun.new (IsBegunAt d from.now) }
+{
+    *begun = Some(Begun {
+        from,
+        parts: Parts::Unkept,
         left,
     });
 }

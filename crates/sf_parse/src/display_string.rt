@@ -72,6 +72,7 @@ impl ShownPlace {
 
     /// Takes one more byte, or reports that the display string can't continue with it and is
     /// unchanged. Its bytes so far are `bytes`.
+    #[inline(always)]
     pub fn step(&mut self, bytes: &mut ShortBytes, byte: u8) -> Result<bool, OutOfMemory>
         // The bytes so far lead to the state in a character, and fit the phase.
         requires { FitsShown self.old.phase bytes.old self.old.chars }

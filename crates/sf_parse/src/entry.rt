@@ -1,15 +1,19 @@
 //! A member of a Dictionary that is being read (RFC 9651 section 4.2.2).
-ghost use Rattle.std.specs.Prelude.{◌≡◌, is_some, [], ◌∷◌, false, IfOk};
+ghost use Rattle.std.specs.Prelude.{◌≡◌, is_some, [], ◌∷◌, false, IfOk, OnOk};
 ghost use Rattle.sf_value.specs.Ascii.{asterisk};
 ghost use Rattle.sf_value.specs.Grammar.Fields.{flag as flag_member};
+ghost use Rattle.sf_value.specs.Grammar.Pairs.{put as put_pair};
+ghost use Rattle.sf_value.specs.Grammar.Tokens.{IsKey};
 ghost use Rattle.sf_parse.specs.Prefixes.{Starts};
 ghost use Rattle.sf_parse.specs.EntryView.{entry_stuck};
 ghost use Rattle.sf_parse.specs.MemberEnds.{with_entry};
 ghost use Rattle.sf_parse.specs.SeriesView.{Ends};
-ghost use Rattle.sf_parse.specs.Machine.Entries.{entry_start, entry_step, entry_finish};
+ghost use Rattle.sf_parse.specs.Machine.Entries.{InMemberValue, entry_start, entry_step};
+ghost use Rattle.sf_parse.specs.Machine.Entries.{entry_finish};
 
 use crate::begun::Begun;
 use crate::context::Context;
+use crate::gathering::extend;
 use crate::level::Level;
 use crate::member::MemberReader;
 use crate::sets::BEHIND_KEY;
@@ -90,30 +94,31 @@ impl EntryReader {
     {
         match self.phase {
             EntryPhase::InKey => {
-                let key = Key::from_bytes(mem::replace(&mut self.key, no_key(context)));
-                given.set(key, flag(Entries::new(context.alloc, &context.seed)))?;
+                let params = Entries::new(context.alloc, &context.seed);
+                put(given, &mut self.key, context, flag(params))?;
+                return Ok(true);
             }
             EntryPhase::Equals => return Ok(false),
             EntryPhase::InMemberValue => {
-                let Some(member) = self.member.finish(context)? else {
-                    return Ok(false);
+                let Some(bare) = self.member.finish_bare(context) else {
+                    return put_value(given, &mut self.key, context, &mut self.member);
                 };
-                let key = Key::from_bytes(mem::replace(&mut self.key, no_key(context)));
-                given.set(key, member)?;
+                let params = Entries::new(context.alloc, &context.seed);
+                let member = Member::Item(Item { bare, params });
+                put(given, &mut self.key, context, member)?;
+                return Ok(true);
             }
             EntryPhase::InFlag => {
                 // This phase requires that the member is a flag, which need not hold after a
                 // failure.
                 self.phase = EntryPhase::InMemberValue;
-                let Some(member) = self.member.finish(context)? else {
+                if !put_value(given, &mut self.key, context, &mut self.member)? {
                     self.phase = EntryPhase::InFlag;
                     return Ok(false);
-                };
-                let key = Key::from_bytes(mem::replace(&mut self.key, no_key(context)));
-                given.set(key, member)?;
+                }
+                return Ok(true);
             }
         }
-        Ok(true)
     }
 }
 
@@ -136,7 +141,7 @@ impl Level for EntryReader {
         match self.phase {
             EntryPhase::InKey => {
                 let (run, rest) = short_prefix::<InKey>(chunk);
-                self.key.extend(run)?;
+                extend(&mut self.key, run)?;
                 return Ok(rest);
             }
             EntryPhase::Equals => return Ok(chunk),
@@ -229,6 +234,48 @@ impl Level for EntryReader {
             EntryPhase::InMemberValue | EntryPhase::InFlag => self.member.may_end(),
         }
     }
+}
+
+/// Puts a member at the key that was read. A later member of a key overwrites an earlier one.
+#[inline(always)]
+fn put(
+    given: &mut Entries<Member>,
+    key: &mut ShortBytes,
+    context: &Context,
+    member: Member,
+) -> Result<(), OutOfMemory>
+    requires { IsKey key.old }
+    ensures put { OnOk result (given.new ≡ put_pair given.old key.old member) }
+    ensures key { IsKey key.new }
+{
+    let key = mem::replace(key, no_key(context));
+    given.set(Key::from_bytes(key), member)
+}
+
+/// Puts the member that was read at the key that was read, if it is complete; otherwise returns
+/// false and changes nothing. It is not inlined: most members are bare items, which are put without
+/// it, and would pay for clearing its stack.
+#[inline(never)]
+fn put_value(
+    given: &mut Entries<Member>,
+    key: &mut ShortBytes,
+    context: &Context,
+    member: &mut MemberReader,
+) -> Result<bool, OutOfMemory>
+    requires { IsKey key.old }
+    // The member was put at the key, or may not end and nothing was put.
+    ensures ended { IfOk result (λ ended. Ends ended
+        (with_entry (InMemberValue key.old member.old) given.old) given.old given.new) }
+    // If nothing was put, the readers are unchanged.
+    ensures kept { IfOk result (λ ended. ended ≡ false
+        → (member.new ≡ member.old) × (key.new ≡ key.old)) }
+    ensures key { IsKey key.new }
+{
+    let Some(member) = member.finish(context)? else {
+        return Ok(false);
+    };
+    put(given, key, context, member)?;
+    Ok(true)
 }
 
 /// The key of a reader in which no member was begun.

@@ -44,8 +44,8 @@ use crate::series::{
 use crate::sets::{SPACE, set_if};
 use crate::stop::{refuse_left, stop_in_item};
 use crate::whole_bare::{needs_reader, read_bare};
-use crate::whole_parts::{Owner, behind_spaces, read_params};
-use sf_value::classes::{behind, ends};
+use crate::whole_parts::{Owner, after_spaces, read_params};
+use sf_value::classes::{ends, strip_byte};
 use sf_value::{Bare, Dict, Entries, Item, List, Member, OutOfMemory, Sequence};
 
 /// The members of a List that are being read.
@@ -185,18 +185,18 @@ pub trait WholeText: WholeField {
 
 impl WholeText for ItemFieldReader {
     fn parse(context: &Context, text: &[u8]) -> Result<Item, Refusal> {
-        let inside = behind_spaces(text);
+        let inside = after_spaces(text);
         let Some((leaf, after)) = find_leaf(inside) else {
             return read_other_item(context, text, inside);
         };
         let mut params = Entries::new(context.alloc, &context.seed);
         let rest = read_params(context, after, Owner::Text, &mut params);
-        if ends(behind_spaces(rest)) {
+        if ends(after_spaces(rest)) {
             if let Some(bare) = make(context, leaf) {
                 return Ok(Item { bare, params });
             }
-        } else if let Some(more) = behind(rest, b' ') {
-            return refuse_behind_item(context, text, inside, leaf, more);
+        } else if let Some(more) = strip_byte(rest, b' ') {
+            return refuse_after_item(context, text, inside, leaf, more);
         }
         if !are_worth_keeping(&params, rest) {
             return refuse_or_read_item(context, text, inside);
@@ -212,7 +212,7 @@ impl WholeText for ListReader {
         let mut begun = None;
         let rest = add_members::<MemberReader, Sequence<Member>>(
             context,
-            behind_spaces(text),
+            after_spaces(text),
             &mut phase,
             &mut members,
             &mut begun,
@@ -249,7 +249,7 @@ impl WholeText for DictReader {
         let mut begun = None;
         let rest = add_members::<EntryReader, Entries<Member>>(
             context,
-            behind_spaces(text),
+            after_spaces(text),
             &mut phase,
             &mut members,
             &mut begun,
@@ -295,7 +295,7 @@ fn read_other_item(context: &Context, text: &[u8], inside: &[u8]) -> Result<Item
     };
     let mut params = Entries::new(context.alloc, &context.seed);
     let rest = read_params(context, after, Owner::Text, &mut params);
-    if ends(behind_spaces(rest)) {
+    if ends(after_spaces(rest)) {
         return Ok(Item { bare, params });
     }
     refuse_or_read_item(context, text, inside)
@@ -305,7 +305,7 @@ fn read_other_item(context: &Context, text: &[u8], inside: &[u8]) -> Result<Item
 /// spaces may follow. The bare item is built first, as the levels do at the space; if there is no
 /// memory for it, the text is read by its reader.
 #[inline(never)]
-fn refuse_behind_item(
+fn refuse_after_item(
     context: &Context,
     text: &[u8],
     inside: &[u8],
@@ -321,7 +321,7 @@ fn refuse_behind_item(
     ensures allocation_free { TakesNoMemory kind_is.Item text.now → IfErr result IsOther }
 {
     if make(context, leaf).is_some() {
-        let end = behind_spaces(more);
+        let end = after_spaces(more);
         if let Some(refusal) = refuse_left(end, SPACE, true, text.len() - end.len()) {
             return Err(refusal);
         }
@@ -417,7 +417,7 @@ fn refuse_item<'a>(
     ensures { IfSome result (RefusesAfter (step_of context.now.dialect) may_end_at
         (begin_at kind_is.Item) inside.now whole) }
 {
-    let Some(stop) = stop_in_item(context, inside, Owner::Text, begun) else {
+    let Some(stop) = stop_in_item(context, inside, begun) else {
         let expected = SPACE | BareReader::first_bytes(context.dialect);
         return refuse_left(inside, expected, false, whole - inside.len());
     };

@@ -1,8 +1,9 @@
 //! What the parts of a value are added to, once they are complete.
-ghost use Rattle.std.specs.Prelude.{◌≡◌, [], ◌∷◌, ◌++◌, Some, OnOk, IsOk, ⊤};
+ghost use Rattle.std.specs.Prelude.{◌≡◌, [], ◌∷◌, ◌++◌, Some, OnOk, IsOk, MatchResult, ⊤};
+ghost use Rattle.sf_value.specs.InPlace.{FitsInPlace};
 ghost use Rattle.sf_value.specs.declared.value.Member.TheVariants as member_is;
 
-use sf_value::{Item, Member, OutOfMemory, Sequence};
+use sf_value::{Item, Member, OutOfMemory, Sequence, ShortBytes};
 
 /// Takes the parts of a value, one after the other. A part is built where it is added, and not
 /// returned from level to level.
@@ -69,4 +70,18 @@ impl Gather<Item> for Option<Member> {
         *self = Some(Member::Item(part));
         Ok(())
     }
+}
+
+/// Adds a run of bytes at the end. A run after a first byte is often empty, and then costs no call.
+#[inline(always)]
+pub fn extend(bytes: &mut ShortBytes, run: &[u8]) -> Result<(), OutOfMemory>
+    ensures bytes { MatchResult result (λ _. bytes.new ≡ bytes.old ++ run.now)
+        (λ _. bytes.new ≡ bytes.old) }
+    // With at most 16 bytes it is never out of memory.
+    ensures in_place { FitsInPlace (bytes.old ++ run.now) → IsOk result }
+{
+    if run.is_empty() {
+        return Ok(());
+    }
+    bytes.extend(run)
 }

@@ -1,9 +1,10 @@
 //! An Item that is being read (RFC 9651 section 4.2.3).
 ghost use Rattle.std.specs.Option.{option_map};
-ghost use Rattle.std.specs.Prelude.{◌≡◌, ℕ, List as Seq, [], true, false, IfOk, IfNone, IsOk};
-ghost use Rattle.std.specs.Prelude.{is_some};
+ghost use Rattle.std.specs.Prelude.{◌≡◌, ℕ, List as Seq, [], Some, true, false, is_some};
+ghost use Rattle.std.specs.Prelude.{IfOk, IfSome, IfNone, IsOk};
 ghost use Rattle.sf_value.specs.declared.value.Bare.{Bare};
 ghost use Rattle.sf_value.specs.declared.value.Bare.TheVariants as bare_is;
+ghost use Rattle.sf_value.specs.Grammar.Items.{item};
 ghost use Rattle.sf_parse.specs.AllocationFree.{ItemFree};
 ghost use Rattle.sf_parse.specs.StaysFree.{item_keeps};
 ghost use Rattle.sf_parse.specs.Prefixes.{Starts};
@@ -118,6 +119,21 @@ impl ItemReader {
         ensures kept { IfOk result (λ params. IfNone params (self.new ≡ self.old)) }
     {
         self.params.finish(context)
+    }
+
+    /// The bare item of an item without parameters, if it is complete. It is taken out of the
+    /// reader. None says nothing about the item.
+    #[inline(always)]
+    pub fn finish_bare(&mut self, context: &Context) -> Option<Bare>
+        // The item may end, and has this bare item.
+        ensures value { IfSome result (λ bare. item_finish self.old ≡ Some (item bare [])) }
+        // Otherwise the reader is unchanged.
+        ensures kept { IfNone result (self.new ≡ self.old) }
+    {
+        if self.in_params {
+            return None;
+        }
+        self.bare.finish(context)
     }
 
     /// Adds the item, if it is complete; otherwise returns false and changes nothing. Its value is

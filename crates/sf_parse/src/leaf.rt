@@ -14,7 +14,7 @@ use crate::context::Context;
 use crate::number::{Number, NumberReader};
 use crate::text::unescape;
 use memchr::memchr;
-use sf_value::classes::{Base64, InToken, Unescaped, behind, long_prefix, split};
+use sf_value::classes::{Base64, InToken, Unescaped, long_prefix, split, strip_byte};
 use sf_value::{Bare, Blob, ShortBytes, Text, Token, can_start_token};
 
 /// A bare item of a text. Dates and Display Strings are none of these, nor are long Byte Sequences
@@ -79,7 +79,7 @@ const NEAR_ESCAPES: usize = 32;
 #[inline]
 pub fn is_escaped_far(text: &[u8]) -> bool {
     let (run, stop) = long_prefix::<Unescaped>(text);
-    behind(stop, b'\\').is_some() && (run.len() > NEAR_ESCAPES || stop.len() > NEAR_ESCAPES)
+    strip_byte(stop, b'\\').is_some() && (run.len() > NEAR_ESCAPES || stop.len() > NEAR_ESCAPES)
 }
 
 /// The String that a text begins with after its quote, and the rest. None says nothing about the
@@ -93,10 +93,10 @@ fn find_string(text: &[u8]) -> Option<(Leaf<'_>, &[u8])>
         → ReadsAs (SpellsBare d) (quote ∷ text.now) (leaf_bare r.0) r.1.now) }
 {
     let (run, stop) = long_prefix::<Unescaped>(text);
-    if let Some(rest) = behind(stop, b'"') {
+    if let Some(rest) = strip_byte(stop, b'"') {
         return Some((Leaf::Text(run), rest));
     }
-    if run.len() > NEAR_ESCAPES || behind(stop, b'\\').is_none() {
+    if run.len() > NEAR_ESCAPES || strip_byte(stop, b'\\').is_none() {
         return None;
     }
     let (found, rest) = find_escaped(text, stop)?;
@@ -113,21 +113,21 @@ fn find_escaped<'a>(text: &'a [u8], stop: &'a [u8]) -> Option<(&'a [u8], &'a [u8
     ensures ended { IfSome result (λ r. EndsText r.0.now) }
 {
     let mut rest = stop;
-    while let Some(escape) = behind(rest, b'\\') {
+    while let Some(escape) = strip_byte(rest, b'\\') {
         if stop.len().saturating_sub(rest.len()) > NEAR_ESCAPES {
             return None;
         }
-        let more = behind_escaped(escape)?;
+        let more = after_escaped(escape)?;
         let (_, left) = long_prefix::<Unescaped>(more);
         rest = left;
     }
-    let end = behind(rest, b'"')?;
+    let end = strip_byte(rest, b'"')?;
     Some(text.split_at(text.len() - end.len()))
 }
 
 /// The rest after a byte that may be escaped. None says nothing about the text.
 #[inline(always)]
-fn behind_escaped(text: &[u8]) -> Option<&[u8]>
+fn after_escaped(text: &[u8]) -> Option<&[u8]>
     ensures { IfSome result (λ rest. BeginsEscaped text.now rest.now) }
 {
     let (byte, rest) = split(text)?;
@@ -151,7 +151,7 @@ fn find_blob(text: &[u8]) -> Option<(&[u8], &[u8])>
         return None;
     }
     let (run, stop) = long_prefix::<Base64>(text);
-    let rest = behind_pads(run.len() % 4, stop)?;
+    let rest = after_pads(run.len() % 4, stop)?;
     Some(text.split_at(text.len() - rest.len()))
 }
 
@@ -172,7 +172,7 @@ pub fn is_long_blob(text: &[u8]) -> bool {
 /// The rest after the padding and the colon of a Byte Sequence whose last group has `over`
 /// characters. None says nothing about the text.
 #[inline(always)]
-fn behind_pads(over: usize, text: &[u8]) -> Option<&[u8]>
+fn after_pads(over: usize, text: &[u8]) -> Option<&[u8]>
     requires { over < 4 }
     ensures { IfSome result (λ rest. ClosesBlob over text.now rest.now) }
 {
@@ -193,7 +193,7 @@ fn behind_pads(over: usize, text: &[u8]) -> Option<&[u8]>
     if second != b'=' || over != 2 {
         return None;
     }
-    behind(last, b':')
+    strip_byte(last, b':')
 }
 
 /// The bare item that was found, or None if an allocation fails.

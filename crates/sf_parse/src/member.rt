@@ -1,8 +1,11 @@
 //! A member of a List that is being read: an Item or an Inner List (RFC 9651 sections 4.2.1.1 and
 //! 4.2.1.2).
-ghost use Rattle.std.specs.Prelude.{◌≡◌, ℕ, List, is_some, [], true, false, IfOk, IfNone};
+ghost use Rattle.std.specs.Prelude.{◌≡◌, ℕ, List, Some, is_some, [], true, false, IfOk};
+ghost use Rattle.std.specs.Prelude.{IfSome, IfNone};
 ghost use Rattle.sf_value.specs.declared.dialect.Dialect.{Dialect};
 ghost use Rattle.sf_value.specs.declared.value.Bare.TheVariants as bare_is;
+ghost use Rattle.sf_value.specs.declared.value.Member.TheVariants as member_is;
+ghost use Rattle.sf_value.specs.Grammar.Items.{item};
 ghost use Rattle.sf_parse.specs.BegunParts.{LeadsBy};
 ghost use Rattle.sf_parse.specs.Expected.{MarksStep};
 ghost use Rattle.sf_parse.specs.Prefixes.{Goes, Starts};
@@ -23,7 +26,7 @@ use crate::level::Level;
 use crate::sets::{CLOSE, OPEN, SPACE, set_if};
 use crate::whole_parts::add_items;
 use sf_value::classes::{Space, short_prefix};
-use sf_value::{Dialect, Inner, Item, Member, OutOfMemory, Sequence};
+use sf_value::{Bare, Dialect, Inner, Item, Member, OutOfMemory, Sequence};
 use std::marker::Model;
 use std::mem;
 
@@ -122,7 +125,7 @@ impl MemberReader {
         ensures same { result ≡ false → self.new ≡ self.old }
     {
         match parts {
-            Parts::Params(_) => return false,
+            Parts::Params(_) | Parts::Unkept => return false,
             Parts::Items(items) => {
                 self.phase = MemberPhase::BetweenItems;
                 self.items = items;
@@ -164,6 +167,22 @@ impl MemberReader {
                 let items = mem::replace(&mut self.items, Sequence::new(context.alloc));
                 return Ok(Some(Inner { items, params }));
             }
+        }
+    }
+
+    /// The bare item of a member that is an Item without parameters, if it is complete. It is taken
+    /// out of the reader. None says nothing about the member.
+    #[inline(always)]
+    pub fn finish_bare(&mut self, context: &Context) -> Option<Bare>
+        // The member may end, and is the Item of this bare item.
+        ensures value { IfSome result (λ bare. member_finish self.old
+            ≡ Some (member_is.Item (item bare []))) }
+        // Otherwise the reader is unchanged.
+        ensures kept { IfNone result (self.new ≡ self.old) }
+    {
+        match self.phase {
+            MemberPhase::One => return self.item.finish_bare(context),
+            MemberPhase::BetweenItems | MemberPhase::InItem | MemberPhase::Closing => return None,
         }
     }
 

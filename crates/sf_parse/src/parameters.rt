@@ -8,6 +8,7 @@ ghost use Rattle.sf_parse.specs.ParamsView.{params_stuck};
 use crate::bare::BareReader;
 use crate::begun::{Begun, Parts};
 use crate::context::Context;
+use crate::gathering::extend;
 use crate::level::Level;
 use crate::sets::{BEHIND_KEY, KEY_START, SEMICOLON, SPACE, set_if};
 use crate::whole_parts::add_params;
@@ -146,7 +147,7 @@ impl Level for ParamsReader {
             }
             ParamsPhase::InKey => {
                 let (run, rest) = short_prefix::<InKey>(chunk);
-                self.key.extend(run)?;
+                extend(&mut self.key, run)?;
                 return Ok(rest);
             }
             ParamsPhase::InValue => return self.value.take(context, chunk),

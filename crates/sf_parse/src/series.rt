@@ -30,7 +30,7 @@ use crate::refusal::Refusal;
 use crate::sets::{COMMA, OWS, SPACE, set_if};
 use crate::stop::{Stop, refuse_left};
 use crate::whole_parts::{Found, Owner, begins_param, may_begin_params, read_params};
-use sf_value::classes::{Ows, Space, behind, ends, short_prefix, split};
+use sf_value::classes::{Ows, Space, ends, short_prefix, split, strip_byte};
 use sf_value::{Bare, Dialect, Entries, OutOfMemory, is_ows};
 use std::marker::Model;
 use std::mem;
@@ -589,7 +589,7 @@ fn may_add<P: SeriesMember<G>, G>(chunk: &[u8]) -> bool {
 /// Whether the first member of a chunk may be whole in it. The chunk is searched for a comma only
 /// if what comes after the bare item that is found, and after a parameter that is found next, is
 /// allowed there, so that a chunk that is refused there isn't searched. No proof relies on it.
-#[inline(never)]
+#[inline(always)]
 fn has_end<P: SeriesMember<G>, G>(chunk: &[u8]) -> bool {
     match P::find(chunk) {
         Some((_, after)) => match split(after) {
@@ -652,7 +652,7 @@ fn add_each_member<'a, P: SeriesMember<G>, G>(
             rest = left;
             continue;
         };
-        let Some((next, more)) = behind_member(after, is_whole) else {
+        let Some((next, more)) = after_member(after, is_whole) else {
             let is_first = rest.len() == text.len();
             if !may_begin_params(after) || !may_be_whole(is_whole || is_first, after) {
                 return Ok(rest);
@@ -728,7 +728,7 @@ fn add_with_params<'a, P: SeriesMember<G>, G>(
 {
     let mut params = Entries::new(context.alloc, &context.seed);
     let rest = read_params(context, after, Owner::member(is_whole), &mut params);
-    let Some((next, more)) = behind_member(rest, is_whole) else {
+    let Some((next, more)) = after_member(rest, is_whole) else {
         keep_params(begun, after, params, rest);
         return Ok(text);
     };
@@ -772,7 +772,7 @@ fn add_read_member<'a, P: SeriesMember<G>, G>(
     let Some((member, after)) = P::read(context, text, Owner::member(is_whole), begun) else {
         return Ok(text);
     };
-    let Some((next, more)) = behind_member(after, is_whole) else {
+    let Some((next, more)) = after_member(after, is_whole) else {
         return Ok(text);
     };
     P::add(given, member)?;
@@ -783,11 +783,11 @@ fn add_read_member<'a, P: SeriesMember<G>, G>(
 /// The phase after a member, and the rest: after white space, a comma and white space; or after
 /// white space alone, of which there may be none only at the end of a whole text.
 #[inline(always)]
-fn behind_member(text: &[u8], is_whole: bool) -> Option<(SeriesPhase, &[u8])>
+fn after_member(text: &[u8], is_whole: bool) -> Option<(SeriesPhase, &[u8])>
     ensures { IfSome result (λ r. IsBehindMember is_whole text.now r.0 r.1.now) }
 {
     let (white, end) = short_prefix::<Ows>(text);
-    let Some(more) = behind(end, b',') else {
+    let Some(more) = strip_byte(end, b',') else {
         if !ends(white) {
             return Some((SeriesPhase::Gap, end));
         }

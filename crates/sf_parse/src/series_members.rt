@@ -22,7 +22,7 @@ use crate::whole_bare::may_begin_bare;
 use crate::whole_parts::{
     Found, Owner, find_named, may_begin_part, may_begin_value, read_entry, read_member,
 };
-use sf_value::classes::{behind, split};
+use sf_value::classes::{split, strip_byte};
 use sf_value::{Bare, Dialect, Entries, Item, Key, Member, OutOfMemory, Sequence, can_start_key};
 
 /// A whole member of a Dictionary.
@@ -39,7 +39,7 @@ fn may_read_member(text: &[u8], is_whole: bool) -> bool {
     if is_whole {
         return may_begin_part(text);
     }
-    behind(text, b'(').is_some()
+    strip_byte(text, b'(').is_some()
 }
 
 /// Whether the first member of a text may be one that begins with no leaf. No proof relies on it.

@@ -1,13 +1,13 @@
 //! Where a text stops: the place at which it is refused, and what may come there. It is looked for
 //! if direct reading did not take all of a text, so that the levels need not read the text again.
-//! The search goes on after the whole parts that were kept of a member or of an Item, after whole
-//! parameters of an Item of an Inner List, which are not put again, or after the Items of an Inner
-//! List that was not read before. A number, a short Token and a String are searched directly,
-//! another bare item by its reader. After other whole parts, the search is left to the levels. What
-//! the levels would allocate before the place was allocated, or is asked for here, so that a text
-//! is refused as out of memory if they would refuse it so; this is tested, not proved.
-ghost use Rattle.std.specs.Prelude.{◌≡◌, ◌<◌, ◌∷◌, ◌++◌, List, [], length, is_some, IfSome, true};
-ghost use Rattle.sf_value.specs.Ascii.{quote, semicolon};
+//! The search goes on after the whole parts that were kept of a member or of an Item, or whose end
+//! was kept, or after the Items of an Inner List that was not read before. A number, a short Token
+//! and a String are searched directly, another bare item by its reader. After other whole parts,
+//! the search is left to the levels. What the levels would allocate before the place was allocated,
+//! or is asked for here, so that a text is refused as out of memory if they would refuse it so;
+//! this is tested, not proved.
+ghost use Rattle.std.specs.Prelude.{◌≡◌, ◌∷◌, ◌++◌, List, [], is_some, IfSome};
+ghost use Rattle.sf_value.specs.Ascii.{quote};
 ghost use Rattle.sf_value.specs.declared.dialect.Dialect.{Dialect};
 ghost use Rattle.sf_value.specs.declared.value.Bare.{Bare};
 ghost use Rattle.sf_value.specs.declared.value.Item.{Item};
@@ -16,13 +16,13 @@ ghost use Rattle.sf_value.specs.Grammar.Tokens.{IsKey};
 ghost use Rattle.sf_parse.specs.BegunParts.{IsBegunBeside};
 ghost use Rattle.sf_parse.specs.Machine.Bares.{bare_start, bare_step, bare_finish};
 ghost use Rattle.sf_parse.specs.Machine.Params.{Between, Opened, params_step, params_finish};
-ghost use Rattle.sf_parse.specs.Machine.Items.{item_start, item_step, item_finish};
-ghost use Rattle.sf_parse.specs.Machine.Inners.{BetweenItems, Closing};
+ghost use Rattle.sf_parse.specs.Machine.Items.{InParams, item_start, item_step, item_finish};
+ghost use Rattle.sf_parse.specs.Machine.Inners.{BetweenItems, InItem, Closing};
 ghost use Rattle.sf_parse.specs.Machine.Members.{InMany, member_start, member_step, member_finish};
 ghost use Rattle.sf_parse.specs.Machine.Entries.{entry_start, entry_step, entry_finish};
 ghost use Rattle.sf_parse.specs.Stops.{StopsAt, StopsIn, RefusesLeft};
 
-use crate::ahead::{has, may_close};
+use crate::ahead::may_close;
 use crate::bare::BareReader;
 use crate::begun::{Begun, Parts};
 use crate::context::Context;
@@ -31,9 +31,9 @@ use crate::member::MemberReader;
 use crate::number::NumberReader;
 use crate::refusal::Refusal;
 use crate::sets::{BEHIND_KEY, CLOSE, KEY_START, SEMICOLON, SPACE, TOKEN, VISIBLE, set_if};
-use crate::whole_parts::{BehindItems, Owner, behind_spaces, find_key, read_items};
-use sf_value::classes::{InToken, Unescaped, behind, long_prefix, split};
-use sf_value::{Bare, Key, Sequence, ShortBytes, can_start_token};
+use crate::whole_parts::{BehindItems, after_spaces, find_key, read_items};
+use sf_value::classes::{InToken, Unescaped, long_prefix, split, strip_byte};
+use sf_value::{Sequence, ShortBytes, can_start_token};
 
 /// The most bytes of a bare item or a key that need no allocation.
 const IN_PLACE: usize = 16;
@@ -153,10 +153,10 @@ fn stop_in_string<'a>(context: &Context, more: &'a [u8]) -> Option<Stop<'a>>
         (λ s. is_some (bare_finish s)) (quote ∷ more.now) stop) }
 {
     let (run, left) = long_prefix::<Unescaped>(more);
-    if behind(left, b'\\').is_some() || !has_memory(context, run) {
+    if strip_byte(left, b'\\').is_some() || !has_memory(context, run) {
         return None;
     }
-    let Some(end) = behind(left, b'"') else {
+    let Some(end) = strip_byte(left, b'"') else {
         return Some(Stop {
             left,
             expected: VISIBLE,
@@ -171,7 +171,7 @@ fn stop_in_string<'a>(context: &Context, more: &'a [u8]) -> Option<Stop<'a>>
 }
 
 /// Where a bare item stops, found by its reader.
-#[inline(never)]
+#[inline(always)]
 fn stop_by_reader<'a>(context: &Context, first: u8, more: &'a [u8]) -> Option<Stop<'a>>
     ensures { IfSome result (StopsIn (bare_start context.now.dialect) bare_step
         (λ s. is_some (bare_finish s)) (first ∷ more.now)) }
@@ -190,79 +190,21 @@ fn stop_by_reader<'a>(context: &Context, first: u8, more: &'a [u8]) -> Option<St
     })
 }
 
-/// Where parameters stop, after their first semicolon. None says nothing about the text.
+/// Where parameters stop, after their first semicolon.
 #[inline(always)]
-fn stop_in_params<'a>(
-    context: &Context,
-    text: &'a [u8],
-    owner: Owner,
-    begun: &Option<Begun<'a>>,
-) -> Option<Stop<'a>>
+fn stop_in_params<'a>(context: &Context, text: &'a [u8], begun: &Option<Begun<'a>>) -> Stop<'a>
     requires { IfSome begun.now (IsBegunBeside context.now.dialect text.now) }
-    ensures { IfSome result (StopsAt (params_step context.now.dialect)
-        (λ s. is_some (params_finish s)) (Opened []) text.now) }
+    ensures { StopsAt (params_step context.now.dialect) (λ s. is_some (params_finish s)) (Opened [])
+        text.now result }
 {
     if let Some(begun) = begun {
         if begun.from.len() == text.len() {
             if let Parts::Params(_) = &begun.parts {
-                return Some(stop_in_param(context, begun.left));
+                return stop_in_param(context, begun.left);
             }
         }
     }
-    if matches!(owner, Owner::InnerItem) && has(text, b';') {
-        return stop_in_new_params(context, text);
-    }
-    Some(stop_in_param(context, text))
-}
-
-/// As [`stop_in_params`], for an Item of an Inner List, of which no parameters are kept. None also
-/// if there is no memory for the slots of the whole ones: the levels, which put them, ask for the
-/// same.
-#[inline(never)]
-fn stop_in_new_params<'a>(context: &Context, text: &'a [u8]) -> Option<Stop<'a>>
-    ensures { IfSome result (StopsAt (params_step context.now.dialect)
-        (λ s. is_some (params_finish s)) (Opened []) text.now) }
-{
-    let (count, stop) = stop_behind_params(context, text);
-    if Vec::<(Key, Bare)>::with_capacity(context.alloc, count).is_err() {
-        return None;
-    }
-    Some(stop)
-}
-
-/// How many parameters are whole, each with the semicolon after it, and where the next one stops.
-#[inline(always)]
-fn stop_behind_params<'a>(context: &Context, text: &'a [u8]) -> (usize, Stop<'a>)
-    ensures { StopsAt (params_step context.now.dialect) (λ s. is_some (params_finish s)) (Opened [])
-        text.now result.1 }
-{
-    let mut count = 0usize;
-    let mut rest = text;
-    loop {
-        let stop = stop_in_param(context, rest);
-        let Some(more) = behind_stop(stop.left, stop.may_end, rest) else {
-            return (count, stop);
-        };
-        count = count.wrapping_add(1);
-        rest = more;
-    }
-}
-
-/// The rest after a semicolon where parameters of a text stop, if they may end there.
-#[inline(always)]
-fn behind_stop<'a>(left: &'a [u8], may_end: bool, text: &[u8]) -> Option<&'a [u8]>
-    ensures ends { IfSome result (λ more. (may_end ≡ true) × (left.now ≡ semicolon ∷ more.now)) }
-    ensures shorter { IfSome result (λ more. length more.now < length text.now) }
-{
-    if !may_end {
-        return None;
-    }
-    let more = behind(left, b';')?;
-    // This is always so, and not proved.
-    if more.len() >= text.len() {
-        return None;
-    }
-    Some(more)
+    stop_in_param(context, text)
 }
 
 /// The bytes of a key, and the rest; None if there is no key, or no memory for it.
@@ -290,7 +232,7 @@ fn stop_in_param<'a>(context: &Context, text: &'a [u8]) -> Stop<'a>
     ensures { (ps : Pairs Bare) → StopsAt (params_step context.now.dialect)
         (λ s. is_some (params_finish s)) (Opened ps) text.now result }
 {
-    let named = behind_spaces(text);
+    let named = after_spaces(text);
     let Some((_, after)) = find_held_key(context, named) else {
         return Stop {
             left: named,
@@ -298,7 +240,7 @@ fn stop_in_param<'a>(context: &Context, text: &'a [u8]) -> Stop<'a>
             may_end: false,
         };
     };
-    let Some(value) = behind(after, b'=') else {
+    let Some(value) = strip_byte(after, b'=') else {
         return Stop {
             left: after,
             expected: BEHIND_KEY,
@@ -324,7 +266,6 @@ fn stop_in_param<'a>(context: &Context, text: &'a [u8]) -> Stop<'a>
 pub fn stop_in_item<'a>(
     context: &Context,
     text: &'a [u8],
-    owner: Owner,
     begun: &Option<Begun<'a>>,
 ) -> Option<Stop<'a>>
     requires { IfSome begun.now (IsBegunBeside context.now.dialect text.now) }
@@ -333,9 +274,8 @@ pub fn stop_in_item<'a>(
 {
     let stop = stop_in_bare(context, text)?;
     if stop.may_end {
-        if let Some(more) = behind(stop.left, b';') {
-            let behind_bare = stop_in_params(context, more, owner, begun)?;
-            return Some(behind_bare);
+        if let Some(more) = strip_byte(stop.left, b';') {
+            return Some(stop_in_params(context, more, begun));
         }
     }
     Some(Stop {
@@ -357,9 +297,10 @@ fn stop_in_inner<'a>(context: &Context, inside: &'a [u8], begun: &Option<Begun<'
             match &begun.parts {
                 Parts::Params(_) => {}
                 Parts::Items(_) => return stop_between_items(context, begun.left),
+                Parts::Unkept => return stop_in_open_item(context, begun.left),
                 Parts::Inner(_, params) => match params {
                     Some(_) => return stop_in_param(context, begun.left),
-                    None => return stop_behind_items(context, begun.left),
+                    None => return stop_after_items(context, begun.left),
                 },
             }
         }
@@ -367,7 +308,7 @@ fn stop_in_inner<'a>(context: &Context, inside: &'a [u8], begun: &Option<Begun<'
     if !may_close(inside) {
         return stop_in_new_items(context, inside);
     }
-    stop_between_items(context, behind_spaces(inside))
+    stop_between_items(context, after_spaces(inside))
 }
 
 /// As [`stop_in_inner`], if no Items were looked for before.
@@ -377,14 +318,36 @@ fn stop_in_new_items<'a>(context: &Context, inside: &'a [u8]) -> Stop<'a>
         (InMany (BetweenItems [])) inside.now result }
 {
     let mut items = Sequence::new(context.alloc);
-    let BehindItems::Open(left) = read_items(context, inside, &mut items) else {
-        return Stop {
-            left: inside,
-            expected: SPACE | (CLOSE | BareReader::first_bytes(context.dialect)),
-            may_end: false,
-        };
-    };
-    stop_between_items(context, left)
+    match read_items(context, inside, true, &mut items) {
+        BehindItems::Open(left) => return stop_between_items(context, left),
+        BehindItems::InParams(left) => return stop_in_open_item(context, left),
+        BehindItems::Closed(_) => {
+            return Stop {
+                left: inside,
+                expected: SPACE | (CLOSE | BareReader::first_bytes(context.dialect)),
+                may_end: false,
+            };
+        }
+    }
+}
+
+/// Where an Inner List stops, in an Item of it after a semicolon.
+#[inline(always)]
+fn stop_in_open_item<'a>(context: &Context, rest: &'a [u8]) -> Stop<'a>
+    ensures { (is : List Item) (x : Bare) (ps : Pairs Bare) → StopsAt (member_step
+        context.now.dialect) (λ s. is_some (member_finish s))
+        (InMany (InItem is (InParams x (Opened ps)))) rest.now result }
+{
+    let Stop {
+        left,
+        expected,
+        may_end,
+    } = stop_in_param(context, rest);
+    Stop {
+        left,
+        expected: expected | set_if(may_end, SPACE | CLOSE),
+        may_end: false,
+    }
 }
 
 /// Where an Inner List stops, from a place on where an Item of it may begin.
@@ -393,10 +356,10 @@ fn stop_between_items<'a>(context: &Context, rest: &'a [u8]) -> Stop<'a>
     ensures { (is : List Item) → StopsAt (member_step context.now.dialect)
         (λ s. is_some (member_finish s)) (InMany (BetweenItems is)) rest.now result }
 {
-    if let Some(after) = behind(rest, b')') {
-        return stop_behind_items(context, after);
+    if let Some(after) = strip_byte(rest, b')') {
+        return stop_after_items(context, after);
     }
-    let Some(stop) = stop_in_item(context, rest, Owner::InnerItem, &None) else {
+    let Some(stop) = stop_in_item(context, rest, &None) else {
         return Stop {
             left: rest,
             expected: SPACE | (CLOSE | BareReader::first_bytes(context.dialect)),
@@ -412,11 +375,11 @@ fn stop_between_items<'a>(context: &Context, rest: &'a [u8]) -> Stop<'a>
 
 /// Where an Inner List stops, after its closing bracket.
 #[inline(always)]
-fn stop_behind_items<'a>(context: &Context, after: &'a [u8]) -> Stop<'a>
+fn stop_after_items<'a>(context: &Context, after: &'a [u8]) -> Stop<'a>
     ensures { (is : List Item) → StopsAt (member_step context.now.dialect)
         (λ s. is_some (member_finish s)) (InMany (Closing is (Between []))) after.now result }
 {
-    let Some(more) = behind(after, b';') else {
+    let Some(more) = strip_byte(after, b';') else {
         return Stop {
             left: after,
             expected: SEMICOLON,
@@ -437,10 +400,10 @@ pub fn stop_in_member<'a>(
     ensures { IfSome result (StopsIn (member_start context.now.dialect)
         (member_step context.now.dialect) (λ s. is_some (member_finish s)) text.now) }
 {
-    if let Some(inside) = behind(text, b'(') {
+    if let Some(inside) = strip_byte(text, b'(') {
         return Some(stop_in_inner(context, inside, begun));
     }
-    stop_in_item(context, text, Owner::Member, begun)
+    stop_in_item(context, text, begun)
 }
 
 /// Where a member of a Dictionary stops. None says nothing about the text.
@@ -455,11 +418,10 @@ pub fn stop_in_entry<'a>(
         (λ s. is_some (entry_finish s)) text.now) }
 {
     let (_, after) = find_held_key(context, text)?;
-    if let Some(more) = behind(after, b';') {
-        let behind_key = stop_in_params(context, more, Owner::Member, begun)?;
-        return Some(behind_key);
+    if let Some(more) = strip_byte(after, b';') {
+        return Some(stop_in_params(context, more, begun));
     }
-    let Some(value) = behind(after, b'=') else {
+    let Some(value) = strip_byte(after, b'=') else {
         return Some(Stop {
             left: after,
             expected: BEHIND_KEY,

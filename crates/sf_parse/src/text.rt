@@ -30,6 +30,7 @@ impl TextPhase {
     /// Takes one more byte, or reports that the string can't continue with it and is unchanged. The
     /// bytes of the string so far are `text`.
     #[tactic(auto, using(sf_value::proofs::Words::every_push))]
+    #[inline(always)]
     pub fn step(&mut self, text: &mut ShortBytes, byte: u8) -> Result<bool, OutOfMemory>
         // The byte leads to the next state, or it can't and the state is unchanged.
         ensures step { IfOk result (λ took. Steps took (text_step (text_of self.old text.old) byte)

@@ -3,7 +3,7 @@
 //! refused, or read by the levels.
 ghost use Rattle.std.specs.Prelude.{◌≡◌, ◌++◌, ◌∷◌, ℕ, List, [], true, false, None};
 ghost use Rattle.std.specs.Prelude.{IfSome, IfNone, IfOk, OnErr};
-ghost use Rattle.sf_value.specs.Ascii.{open_bracket};
+ghost use Rattle.sf_value.specs.Ascii.{open_bracket, semicolon};
 ghost use Rattle.sf_value.specs.declared.dialect.Dialect.{Dialect};
 ghost use Rattle.sf_value.specs.Grammar.BareItems.{SpellsBare};
 ghost use Rattle.sf_value.specs.Grammar.Classes.{is_sp};
@@ -19,23 +19,25 @@ ghost use Rattle.sf_parse.specs.Machine.Members.{InMany, member_step};
 ghost use Rattle.sf_parse.specs.Machine.Params.{Opened, params_step};
 ghost use Rattle.sf_parse.specs.Prefixes.{Goes};
 ghost use Rattle.sf_parse.specs.WholeParts.{ReadsAs, ReadsParam, PutsParam, Behind};
-ghost use Rattle.sf_parse.specs.WholeParts.{ReachesItems, IsBehindItem, AddsItem, AddsFound};
+ghost use Rattle.sf_parse.specs.WholeParts.{ReachesItems, IsBehindItem, TakesItem};
 ghost use Rattle.sf_parse.specs.WholeParts.{found_member};
 ghost use Rattle.sf_parse.specs.BegunParts.{IsBegunAt, IsBegunIn};
 
 use crate::ahead::{from_near, has_space, may_close};
-use crate::begun::{Begun, WHOLE_PARTS, keep_closed, keep_inner, keep_items, keep_params};
+use crate::begun::{
+    Begun, WHOLE_PARTS, keep_closed, keep_end, keep_inner, keep_items, keep_params,
+};
 use crate::context::Context;
 use crate::leaf::{Leaf, find_leaf, make};
 use crate::whole_bare::{needs_reader, read_bare};
-use sf_value::classes::{InKey, Space, behind, short_prefix, split};
+use sf_value::classes::{InKey, Space, short_prefix, split, strip_byte};
 use sf_value::{
     Bare, Entries, Inner, Item, Key, Member, OutOfMemory, Sequence, ShortBytes, can_start_key,
 };
 
 /// The rest after spaces.
 #[inline(always)]
-pub fn behind_spaces(text: &[u8]) -> &[u8]
+pub fn after_spaces(text: &[u8]) -> &[u8]
     ensures { Behind is_sp text.now result.now }
 {
     let (_, rest) = short_prefix::<Space>(text);
@@ -79,7 +81,7 @@ pub fn find_named(text: &[u8]) -> Option<(Found<'_>, &[u8])>
         → ReadsAs (SpellsEntry d) text.now (r.0.key.now, found_member (r.0, params)) rest) }
 {
     let (key, after) = find_key(text)?;
-    let Some(value) = behind(after, b'=') else {
+    let Some(value) = strip_byte(after, b'=') else {
         let leaf = Leaf::Boolean(true);
         return Some((Found { key, leaf }, after));
     };
@@ -94,7 +96,8 @@ pub fn may_begin_part(text: &[u8]) -> bool {
     match split(text) {
         Some((b'(', inside)) => may_close(inside),
         Some((b'@', _)) => true,
-        _ => needs_reader(text),
+        Some((b'%' | b'"' | b':', _)) => needs_reader(text),
+        _ => false,
     }
 }
 
@@ -105,7 +108,7 @@ pub fn may_begin_value(text: &[u8]) -> bool {
     let Some((_, after)) = find_key(text) else {
         return false;
     };
-    match behind(after, b'=') {
+    match strip_byte(after, b'=') {
         Some(value) => may_begin_part(value),
         None => false,
     }
@@ -114,10 +117,10 @@ pub fn may_begin_value(text: &[u8]) -> bool {
 /// Whether the text may begin with parameters. It is a hint that saves time; no proof relies on it.
 #[inline(always)]
 pub fn may_begin_params(text: &[u8]) -> bool {
-    let Some(more) = behind(text, b';') else {
+    let Some(more) = strip_byte(text, b';') else {
         return false;
     };
-    match split(behind_spaces(more)) {
+    match split(after_spaces(more)) {
         Some((first, _)) => can_start_key(first),
         None => false,
     }
@@ -131,7 +134,7 @@ fn may_read_param(text: &[u8]) -> bool {
     let Some(from) = from_near(text, b'=') else {
         return false;
     };
-    match behind(from, b'=') {
+    match strip_byte(from, b'=') {
         Some(value) => needs_reader(value),
         None => false,
     }
@@ -141,12 +144,12 @@ fn may_read_param(text: &[u8]) -> bool {
 /// what follows it must be allowed there. It is a hint that saves time; no proof relies on it.
 #[inline(never)]
 pub fn begins_param(text: &[u8]) -> bool {
-    let Some(more) = behind(text, b';') else {
+    let Some(more) = strip_byte(text, b';') else {
         return false;
     };
-    match find_named(behind_spaces(more)) {
+    match find_named(after_spaces(more)) {
         Some((_, rest)) => may_follow(Owner::ChunkMember, rest),
-        None => may_begin_value(behind_spaces(more)),
+        None => may_begin_value(after_spaces(more)),
     }
 }
 
@@ -208,8 +211,8 @@ fn read_param<'a>(context: &Context, text: &'a [u8]) -> Option<(&'a [u8], Bare, 
     ensures reads { IfSome result (λ r. ReadsParam context.now.dialect text.now r.0.now r.1
         r.2.now) }
 {
-    let (key, after) = find_key(behind_spaces(text))?;
-    let inside = behind(after, b'=')?;
+    let (key, after) = find_key(after_spaces(text))?;
+    let inside = strip_byte(after, b'=')?;
     let (value, rest) = read_bare(context, inside)?;
     Some((key, value, rest))
 }
@@ -246,10 +249,10 @@ fn put_each_param<'a>(
 {
     let mut rest = text;
     while rest.len() >= WHOLE_PARTS {
-        let Some((found, after)) = find_named(behind_spaces(rest)) else {
+        let Some((found, after)) = find_named(after_spaces(rest)) else {
             return Ok(rest);
         };
-        let Some(more) = behind(after, b';') else {
+        let Some(more) = strip_byte(after, b';') else {
             return Ok(rest);
         };
         if !put_leaf(context, found, params)? {
@@ -296,7 +299,7 @@ pub fn read_params<'a>(
     requires { params.old ≡ [] }
     ensures { ReadsAs (SpellsParams context.now.dialect) text.now params.new result.now }
 {
-    if behind(text, b';').is_none() {
+    if strip_byte(text, b';').is_none() {
         return text;
     }
     read_each_param(context, text, owner, params)
@@ -314,7 +317,7 @@ fn read_each_param<'a>(
     ensures { ReadsAs (SpellsParams context.now.dialect) text.now params.new result.now }
 {
     let mut rest = text;
-    while let Some(more) = behind(rest, b';') {
+    while let Some(more) = strip_byte(rest, b';') {
         let Some(left) = put_param(context, more, owner, params) else {
             return rest;
         };
@@ -336,7 +339,7 @@ fn put_param<'a>(
         params.new rest.now) }
     ensures same { IfNone result (params.new ≡ params.old) }
 {
-    let Some((found, rest)) = find_named(behind_spaces(text)) else {
+    let Some((found, rest)) = find_named(after_spaces(text)) else {
         if !may_read_param(text) {
             return None;
         }
@@ -449,12 +452,12 @@ fn push_each_item<'a>(
         let Some((leaf, after)) = find_leaf(rest) else {
             return Ok(rest);
         };
-        if let Some(more) = behind(after, b' ') {
+        if let Some(more) = strip_byte(after, b' ') {
             let params = Entries::new(context.alloc, &context.seed);
             if !push_leaf(context, leaf, params, items)? {
                 return Ok(rest);
             }
-            rest = behind_spaces(more);
+            rest = after_spaces(more);
             continue;
         }
         if !may_begin_params(after) {
@@ -488,11 +491,11 @@ fn push_any_item<'a>(
     let Some((item, after)) = read_item(context, text) else {
         return Ok(text);
     };
-    let Some(left) = behind(after, b' ') else {
+    let Some(left) = strip_byte(after, b' ') else {
         return Ok(text);
     };
     items.push_or_drop(item)?;
-    Ok(behind_spaces(left))
+    Ok(after_spaces(left))
 }
 
 /// Adds an Item that was found. If its bytes can't be allocated, it returns false and changes
@@ -524,39 +527,44 @@ pub enum BehindItems<'a> {
     Open(&'a [u8]),
     /// The rest after the closing bracket.
     Closed(&'a [u8]),
+    /// The rest after an Item that is not added, and the semicolon after it.
+    InParams(&'a [u8]),
 }
 
-/// Adds the whole Items of an Inner List, up to its closing bracket or one that is not whole.
+/// Adds the whole Items of an Inner List, up to its closing bracket or one that is not whole. In a
+/// whole text the parameters of that one are read, too.
 #[inline(always)]
 pub fn read_items<'a>(
     context: &Context,
     text: &'a [u8],
+    is_whole: bool,
     items: &mut Sequence<Item>,
 ) -> BehindItems<'a>
     ensures { ReachesItems context.now.dialect text.now items.old items.new result }
 {
-    let mut rest = behind_spaces(text);
+    let mut rest = after_spaces(text);
     loop {
-        if let Some(left) = behind(rest, b')') {
+        if let Some(left) = strip_byte(rest, b')') {
             return BehindItems::Closed(left);
         }
-        let Some(end) = push_item(context, rest, items) else {
+        let Some(end) = push_item(context, rest, is_whole, items) else {
             return BehindItems::Open(rest);
         };
         match end {
             BehindItems::Open(left) => rest = left,
             BehindItems::Closed(left) => return BehindItems::Closed(left),
+            BehindItems::InParams(left) => return BehindItems::InParams(left),
         }
     }
 }
 
 /// What comes after an Item of an Inner List: at least one space, or the closing bracket.
 #[inline(always)]
-fn behind_item(text: &[u8]) -> Option<BehindItems<'_>>
+fn after_item(text: &[u8]) -> Option<BehindItems<'_>>
     ensures { IfSome result (IsBehindItem text.now) }
 {
     match split(text) {
-        Some((b' ', more)) => Some(BehindItems::Open(behind_spaces(more))),
+        Some((b' ', more)) => Some(BehindItems::Open(after_spaces(more))),
         Some((b')', rest)) => Some(BehindItems::Closed(rest)),
         _ => None,
     }
@@ -568,18 +576,19 @@ fn behind_item(text: &[u8]) -> Option<BehindItems<'_>>
 fn push_item<'a>(
     context: &Context,
     text: &'a [u8],
+    is_whole: bool,
     items: &mut Sequence<Item>,
 ) -> Option<BehindItems<'a>>
-    ensures adds { IfSome result (AddsItem context.now.dialect text.now items.old items.new) }
+    ensures takes { IfSome result (TakesItem context.now.dialect text.now items.old items.new) }
     ensures same { IfNone result (items.new ≡ items.old) }
 {
     let Some((leaf, after)) = find_leaf(text) else {
-        return push_read_item(context, text, items);
+        return push_read_item(context, text, is_whole, items);
     };
-    if behind(after, b';').is_some() {
-        return push_with_params(context, leaf, after, items);
+    if strip_byte(after, b';').is_some() {
+        return push_with_params(context, leaf, after, is_whole, items);
     }
-    let end = behind_item(after)?;
+    let end = after_item(after)?;
     let params = Entries::new(context.alloc, &context.seed);
     let Ok(true) = push_leaf(context, leaf, params, items) else {
         return None;
@@ -593,20 +602,38 @@ fn push_with_params<'a>(
     context: &Context,
     leaf: Leaf<'_>,
     after: &'a [u8],
+    is_whole: bool,
     items: &mut Sequence<Item>,
 ) -> Option<BehindItems<'a>>
     requires { IsLeaf leaf }
-    ensures adds { IfSome result (AddsFound context.now.dialect leaf.entry after.now items.old
-        items.new) }
+    ensures takes { IfSome result (λ end. (text : List ℕ)
+        → ReadsAs (SpellsBare context.now.dialect) text (leaf_bare leaf.entry) after.now
+        → TakesItem context.now.dialect text items.old items.new end) }
     ensures same { IfNone result (items.new ≡ items.old) }
 {
     let mut params = Entries::new(context.alloc, &context.seed);
     let rest = read_params(context, after, Owner::InnerItem, &mut params);
-    let end = behind_item(rest)?;
+    let Some(end) = after_item(rest) else {
+        let more = after_whole(is_whole, rest)?;
+        // The levels build the bare item at the first semicolon: without memory they refuse there.
+        make(context, leaf)?;
+        return Some(BehindItems::InParams(more));
+    };
     let Ok(true) = push_leaf(context, leaf, params, items) else {
         return None;
     };
     Some(end)
+}
+
+/// The rest after the semicolon that a whole text goes on with, after parameters that were read.
+#[inline(always)]
+fn after_whole(is_whole: bool, text: &[u8]) -> Option<&[u8]>
+    ensures { IfSome result (λ rest. text.now ≡ semicolon ∷ rest.now) }
+{
+    if !is_whole {
+        return None;
+    }
+    strip_byte(text, b';')
 }
 
 /// As [`push_item`], for a text that begins with no leaf.
@@ -614,16 +641,20 @@ fn push_with_params<'a>(
 fn push_read_item<'a>(
     context: &Context,
     text: &'a [u8],
+    is_whole: bool,
     items: &mut Sequence<Item>,
 ) -> Option<BehindItems<'a>>
-    ensures adds { IfSome result (AddsItem context.now.dialect text.now items.old items.new) }
+    ensures takes { IfSome result (TakesItem context.now.dialect text.now items.old items.new) }
     ensures same { IfNone result (items.new ≡ items.old) }
 {
     if !needs_reader(text) {
         return None;
     }
     let (item, rest) = read_other_item(context, text)?;
-    let end = behind_item(rest)?;
+    let Some(end) = after_item(rest) else {
+        let more = after_whole(is_whole, rest)?;
+        return Some(BehindItems::InParams(more));
+    };
     let Ok(()) = items.push_or_drop(item) else {
         return None;
     };
@@ -646,10 +677,15 @@ fn read_inner<'a>(
     ensures begun { IfNone result (IfSome begun.new (IsBegunAt context.now.dialect inside.now)) }
 {
     let mut items = Sequence::new(context.alloc);
-    let after = match read_items(context, inside, &mut items) {
+    let is_whole = matches!(owner, Owner::Member);
+    let after = match read_items(context, inside, is_whole, &mut items) {
         BehindItems::Closed(after) => after,
         BehindItems::Open(left) => {
             keep_items(begun, inside, items, left);
+            return None;
+        }
+        BehindItems::InParams(left) => {
+            keep_end(begun, inside, left);
             return None;
         }
     };
@@ -659,7 +695,7 @@ fn read_inner<'a>(
     }
     let mut params = Entries::new(context.alloc, &context.seed);
     let rest = read_params(context, after, owner, &mut params);
-    let Some(left) = behind(rest, b';') else {
+    let Some(left) = strip_byte(rest, b';') else {
         return Some((Inner { items, params }, rest));
     };
     keep_inner(begun, inside, items, params, left);
@@ -680,14 +716,14 @@ pub fn read_member<'a>(
     ensures none { IfSome result (λ _. begun.new ≡ None) }
     ensures begun { IfNone result (IfSome begun.new (IsBegunIn context.now.dialect text.now)) }
 {
-    if let Some(inside) = behind(text, b'(') {
+    if let Some(inside) = strip_byte(text, b'(') {
         let (inner, rest) = read_inner(context, inside, owner, begun)?;
         return Some((Member::Inner(inner), rest));
     }
     let (bare, after) = read_bare(context, text)?;
     let mut params = Entries::new(context.alloc, &context.seed);
     let rest = read_params(context, after, owner, &mut params);
-    if behind(rest, b';').is_some() {
+    if strip_byte(rest, b';').is_some() {
         keep_params(begun, after, params, rest);
         return None;
     }
@@ -710,7 +746,7 @@ pub fn read_entry<'a>(
     ensures begun { IfNone result (IfSome begun.new (IsBegunIn context.now.dialect text.now)) }
 {
     let (key, after) = read_key(context, text)?;
-    let value = behind(after, b'=')?;
+    let value = strip_byte(after, b'=')?;
     let (member, rest) = read_member(context, value, owner, begun)?;
     Some((key, member, rest))
 }

@@ -54,10 +54,10 @@ module _ {P Q : Rule} where
   begin_then f t (prefix, suffix, e, p, q) =
       let (c, u, g, l) = f prefix p in (c, u ++ suffix, e ∙ ap (λ y. y ++ suffix) g, l)
 
-  begin_behind : AllBegin P → AllBegin Q → AllBegin (then (optional P) Q)
-  begin_behind f g t (prefix, suffix, e, inl z, q) =
+  begin_after : AllBegin P → AllBegin Q → AllBegin (then (optional P) Q)
+  begin_after f g t (prefix, suffix, e, inl z, q) =
       let (c, u, h, l) = g suffix q in (c, u, e ∙ ap (λ y. y ++ suffix) z ∙ h, l)
-  begin_behind f g t (prefix, suffix, e, inr p, q) =
+  begin_after f g t (prefix, suffix, e, inr p, q) =
       let (c, u, h, l) = f prefix p in (c, u ++ suffix, e ∙ ap (λ y. y ++ suffix) h, l)
 
   begin_either : AllBegin P → AllBegin Q → AllBegin (either P Q)
@@ -134,14 +134,14 @@ star = a_text 42 (omega arith)
 -- bare items
 integer_begins : AllBegin sf_integer
 integer_begins =
-    begin_behind (begins (a_text 45 (omega arith))) (begin_repeated DIGIT 15 (begins digit))
+    begin_after (begins (a_text 45 (omega arith))) (begin_repeated DIGIT 15 (begins digit))
 
 integer_ends : AllEnd sf_integer
 integer_ends = end_then (end_repeated DIGIT 15 (ends digit))
 
 decimal_begins : AllBegin sf_decimal
 decimal_begins =
-    begin_behind (begins (a_text 45 (omega arith)))
+    begin_after (begins (a_text 45 (omega arith)))
     (begin_then (begin_repeated DIGIT 12 (begins digit)))
 
 decimal_ends : AllEnd sf_decimal

@@ -292,10 +292,10 @@ module _ (d : Dialect) where
   flag_canon (Date n) ps h g = inr (value_canon (Date n) ps h g)
   flag_canon (Shown s) ps h g = inr (value_canon (Shown s) ps h g)
 
-  behind_canon : (m : Member) → ValidMember d m
+  after_canon : (m : Member) → ValidMember d m
       → either (parameters d) (then (text (codes "=")) (list_member d)) (canon_behind m)
-  behind_canon (member.Item i) h = flag_canon i.bare i.params h.0 h.1
-  behind_canon (member.Inner l) h = inr (
+  after_canon (member.Item i) h = flag_canon i.bare i.params h.0 h.1
+  after_canon (member.Inner l) h = inr (
     61 ∷ [],
     canon_inner l,
     refl,
@@ -313,5 +313,5 @@ module _ (d : Dialect) where
   canon_keeps kind.Dict (field.Dict m) h =
       series_canon (dict_member d) canon_entry m.members
       (each_map (λ p. IsKey p.0 × ValidMember d p.1) (λ p. dict_member d (canon_entry p))
-      (λ p k. (p.0, canon_behind p.1, refl, key_keeps p.0 k.0, behind_canon p.1 k.1)) m.members h.0)
+      (λ p k. (p.0, canon_behind p.1, refl, key_keeps p.0 k.0, after_canon p.1 k.1)) m.members h.0)
   canon_keeps kind v h = elim h [ ]

@@ -59,8 +59,8 @@ all_sp : (t : List ℕ) → Every is_sp t → discard is_SP t ≡ []
 all_sp [] h = refl
 all_sp (c ∷ t) h = rw (h.0, discard) (all_sp t h.1)
 
-ows_behind : (s t : List ℕ) → Every is_ows s → Every is_sp t → Every is_ows (s ++ t)
-ows_behind s t h k = every_append is_ows s t h (every_map is_sp is_ows sp_ows t k)
+ows_after : (s t : List ℕ) → Every is_ows s → Every is_sp t → Every is_ows (s ++ t)
+ows_after s t h k = every_append is_ows s t h (every_map is_sp is_ows sp_ows t k)
 
 -- steps 6 to 8
 end_cases : (f v : Field) (r : List ℕ) → parse_end (f, r) ≡ Some v → (f ≡ v) × Every is_sp r
@@ -99,7 +99,7 @@ whole_of P t gap prefix r (x ∷ xs) e g (body, tail, i, s, w) h = (
   e ∙ ap (λ y. gap ++ y) (ap (λ y. y ++ r) i ∙ append_assoc body tail r),
   g,
   s,
-  ows_behind tail r w h,
+  ows_after tail r w h,
 )
 
 -- the SP before it is discarded

@@ -76,10 +76,10 @@ module _ (d : Dialect) where
       let (prefix, i, s) = (parameters_agree d).sound t q.1 q.0 a in
       (prefix, i ∙ ap (λ y. prefix ++ y) k.1, inr (q.0, sym k.0, s))
 
-  behind_sound : (t r : List ℕ) (m : Member) → entry_member d t ≡ Some (m, r)
+  after_sound : (t r : List ℕ) (m : Member) → entry_member d t ≡ Some (m, r)
       → (prefix : List ℕ) × (t ≡ prefix ++ r) × SpellsBehind prefix m
-  behind_sound [] r m e = flag_sound [] r m e
-  behind_sound (c ∷ t) r m e = elim (if_either (c == 61) _ _ (m, r) e) [
+  after_sound [] r m e = flag_sound [] r m e
+  after_sound (c ∷ t) r m e = elim (if_either (c == 61) _ _ (m, r) e) [
     | inl k ↦
         let (prefix, i, s) = (members_agree d).sound t r m k.1 in
         (61 ∷ prefix, ap₂ (λ y z. y ∷ z) (eqb-true c 61 k.0) i, inl (prefix, refl, s))
@@ -98,7 +98,7 @@ module _ (d : Dialect) where
       let (p, f, g) = and_then_cases (entry_member d q.1) _ (x, r) b in
       let k = some_pair (q.0, p.0) x p.1 r g in
       let (key, i, s) = keys_agree.sound t q.1 q.0 a in
-      let (behind, j, u) = behind_sound q.1 p.1 p.0 f in (
+      let (behind, j, u) = after_sound q.1 p.1 p.0 f in (
         q.0 ++ behind,
         i ∙ ap₂ (λ y z. y ++ z) s.0 (j ∙ ap (λ y. behind ++ y) k.1) ∙ sym (append_assoc q.0 behind r),
         subst (λ y. SpellsEntry d (q.0 ++ behind) y) k.0 (entry_of q.0 behind p.0 s.1 u),

@@ -149,8 +149,8 @@ from_point : (w f : List ℕ) → Every is_digit w → from 46 (w ++ 46 ∷ f) �
 from_point [] f h = refl
 from_point (c ∷ w) f h = rw (not_point c h.0, from) (from_point w f h.1)
 
-behind_point : (w f : List ℕ) → Every is_digit w → after_point (w ++ 46 ∷ f) ≡ f
-behind_point w f h = ap (λ x. drop 1 x) (from_point w f h)
+after_point_is : (w f : List ℕ) → Every is_digit w → after_point (w ++ 46 ∷ f) ≡ f
+after_point_is w f h = ap (λ x. drop 1 x) (from_point w f h)
 
 in_thousands : (n : ℕ) (f : List ℕ) → 1 ≤ length f → length f ≤ 3
     → base10 n (f ++ replicate (3 - length f) 48)
@@ -161,7 +161,7 @@ in_thousands n f l h = omega arith
 same_thousandths : (w f : List ℕ) → Every is_digit w → 1 ≤ length f → length f ≤ 3
     → in_thousandths (w ++ 46 ∷ f) ≡ value_from 0 w * 1000 + value_from 0 f * 10 ^ (3 - length f)
 same_thousandths w f d l h =
-    rw (before_point w f d, behind_point w f d)
+    rw (before_point w f d, after_point_is w f d)
     (value_append 0 w (f ++ replicate (3 - length f) 48)
     ∙ in_thousands (base10 0 w) f l h
     ∙ ap (λ x. x * 1000 + value_from 0 f * 10 ^ (3 - length f)) (same_value 0 w))
@@ -229,7 +229,7 @@ decimal_sound neg c w f u r v d h g e =
     let j = if_not
     (length (after_point number) == 0 || nat_lt 3 (length (after_point number)))
     (Some (Decimal (factor neg *ℤ pos (in_thousandths number)))) x a in
-    let i : after_point number ≡ f = behind_point (c ∷ w) f d in
+    let i : after_point number ≡ f = after_point_is (c ∷ w) f d in
     let m = in_bounds (length f) (subst (λ y. (length y == 0 || nat_lt 3 (length y)) ≡ false) i j.0) in (
       k.1,
       inr (
@@ -370,7 +370,7 @@ decimal_value : (neg : Bool) (w f : List ℕ) → Every is_digit w → 1 ≤ len
     → number_of (factor neg) ADecimal (w ++ 46 ∷ f)
     ≡ Some (Decimal (thousandths neg (value_from 0 w) (length f) (value_from 0 f)))
 decimal_value neg w f d l h =
-    let i : after_point (w ++ 46 ∷ f) ≡ f = behind_point w f d in
+    let i : after_point (w ++ 46 ∷ f) ≡ f = after_point_is w f d in
     rw (i, out_of_bounds (length f) l h, number_of)
     (ap (λ x. Some (Decimal x)) (times_sign neg (in_thousandths (w ++ 46 ∷ f))
     ∙ ap (λ y. signed neg y) (same_thousandths w f d l h)))

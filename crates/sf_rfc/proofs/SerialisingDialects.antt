@@ -158,9 +158,9 @@ flag_differs (Boolean true) ps = params_differ ps
 flag_differs (Boolean false) ps = after_equals (Boolean false) ps
 flag_differs x ps = after_equals x ps
 
-behind_differs : (m : Member) → Differs (Seq ℕ) (added_in_member m) (λ d. serialise_behind d m)
-behind_differs (member.Item i) = flag_differs i.bare i.params
-behind_differs (member.Inner l) =
+after_differs : (m : Member) → Differs (Seq ℕ) (added_in_member m) (λ d. serialise_behind d m)
+after_differs (member.Item i) = flag_differs i.bare i.params
+after_differs (member.Inner l) =
     last_step (added_in_member (member.Inner l)) (λ d. serialise_inner d l) (λ s. Some (61 ∷ s))
     (inner_differs l)
 
@@ -177,7 +177,7 @@ dictionary_loop (p ∷ ps) output =
     (λ k. steps (added_in_member p.1) (list_any (λ q. added_in_member q.1) ps)
     (λ d. serialise_behind d p.1)
     (λ d s. serialise_dictionary_loop d (output ++ (k ++ (s ++ if_more ps (44 ∷ 32 ∷ [])))) ps)
-    (behind_differs p.1)
+    (after_differs p.1)
     (λ s. dictionary_loop ps (output ++ (k ++ (s ++ if_more ps (44 ∷ 32 ∷ []))))))
 
 -- the outcome of a list of members

@@ -120,22 +120,22 @@ module _ (d : Dialect) where
   flag_serialised (Boolean false) ps h k = rw (params_serialised ps k) refl
   flag_serialised x ps h k = rw (bare_serialised x h, params_serialised ps k) refl
 
-  behind_serialised : (m : Member) → ValidMember d m → serialise_behind d m ≡ Some (canon_behind m)
-  behind_serialised (member.Item i) h = flag_serialised i.bare i.params h.0 h.1
-  behind_serialised (member.Inner l) h = rw (inner_serialised l h) refl
+  after_serialised : (m : Member) → ValidMember d m → serialise_behind d m ≡ Some (canon_behind m)
+  after_serialised (member.Item i) h = flag_serialised i.bare i.params h.0 h.1
+  after_serialised (member.Inner l) h = rw (inner_serialised l h) refl
 
   dictionary_loop : (output : Seq ℕ) (ps : Pairs Member)
       → Each (λ p. IsKey p.0 × ValidMember d p.1) ps
       → serialise_dictionary_loop d output ps ≡ Some (output ++ canon_series canon_entry ps)
   dictionary_loop output [] h = ap Some (sym (append-nil output))
   dictionary_loop output (p ∷ []) h =
-      rw (key_serialised p.0 h.0.0, behind_serialised p.1 h.0.1)
+      rw (key_serialised p.0 h.0.0, after_serialised p.1 h.0.1)
       (ap (λ t. Some (output ++ t)) (sym (append_assoc p.0 (canon_behind p.1) [])))
   dictionary_loop output (p ∷ q ∷ ps) h =
       let k = p.0 in
       let s = canon_behind p.1 in
       let suffix = canon_series canon_entry (q ∷ ps) in
-      rw (key_serialised p.0 h.0.0, behind_serialised p.1 h.0.1)
+      rw (key_serialised p.0 h.0.0, after_serialised p.1 h.0.1)
       (dictionary_loop (output ++ (k ++ (s ++ 44 ∷ 32 ∷ []))) (q ∷ ps) h.1
       ∙ ap Some (append_assoc output (k ++ (s ++ 44 ∷ 32 ∷ [])) suffix
       ∙ ap (λ t. output ++ t) (append_assoc k (s ++ 44 ∷ 32 ∷ []) suffix

@@ -106,7 +106,7 @@ fn asked_ahead(
 
 /// A line is asked for once the one before it was parsed, and none after a refusal. If asking is
 /// free, `parse_from` asks for two before it parses the first, and `ask_from` for at most 17, but
-/// after the first for none behind an empty one.
+/// after the first for none after an empty one.
 #[test]
 fn asks_in_turn(rt: HostRuntime) {
     let seed = seed(&rt);
@@ -118,7 +118,7 @@ fn asks_in_turn(rt: HostRuntime) {
         ([b"a,,".as_slice()].as_slice(), 4_000, (1, 1), (2, 17)),
         // The second one is.
         ([b"a".as_slice(), b"b("].as_slice(), 4_000, (2, 2), (2, 17)),
-        // The third one is: behind an empty one it begins with a comma.
+        // The third one is: after an empty one it begins with a comma.
         ([b"a".as_slice(), b""].as_slice(), 4_000, (3, 3), (3, 3)),
         (
             [b"a".as_slice(), b"b", b""].as_slice(),

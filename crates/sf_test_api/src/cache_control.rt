@@ -171,6 +171,13 @@ fn refused(rt: HostRuntime) {
     }
 }
 
+/// The rules of two lines that come one by one.
+fn one_by_one(first: &[u8], second: &[u8]) -> Option<CacheRules> {
+    CacheRules::default()
+        .with_cache_control(first)?
+        .with_cache_control(second)
+}
+
 /// The lines of a response, with what decides if no targeted field does.
 #[test]
 fn fallback(rt: HostRuntime) {
@@ -193,6 +200,7 @@ fn fallback(rt: HostRuntime) {
         let [first, second] = lines;
         let headers = headers_of(&rt, &[(name, first), (b"x", b"y"), (name, second)]);
         assert_eq!(rt; fallback_rules(&headers), want);
+        assert_eq!(rt; one_by_one(first, second).unwrap_or(NO_STORE), want);
     }
     let lines: [&[u8]; 2] = [b"max-age=5", b"max-age=5, s-maxage=10"];
     assert_eq!(rt;

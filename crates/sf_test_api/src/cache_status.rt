@@ -405,7 +405,7 @@ fn edge(rt: &(impl Abort + AllocGlobal)) -> Hop {
     stale_hop(token_name(rt, b"edge"), token_name(rt, b"x"), status)
 }
 
-/// The List of the path of two caches that RFC 9211 shows, with a third one behind them.
+/// The List of the path of two caches that RFC 9211 shows, with a third one after them.
 fn with_edge(rt: &(impl Abort + AllocGlobal), seed: &RandomState) -> List {
     let text = b"OriginCache; hit; ttl=1100, \"CDN Company Here\"; hit; ttl=545";
     let mut list = parse_list(rt.alloc(), seed, text).expect(rt, "a List");

@@ -4,11 +4,11 @@ mod rows;
 use crate::building::seed;
 use crate::caching::rows::{From, ROWS, Row, TARGETS};
 use crate::targeted::{headers_of, names_of};
-use http_header::{DATE, EXPIRES, HeaderMap};
+use http_header::HeaderMap;
 use sf_field::ask;
 use sf_use::{
-    CacheRules, Decision, Policy, RulesChoice, TargetedRules, expires_lifetime, fallback_rules,
-    select_rules,
+    CacheRules, Decision, Policy, RulesChoice, TargetedRules, expires_lifetime, expires_of,
+    fallback_rules, http_time, select_rules,
 };
 use sf_value::Blob;
 use std::hash::RandomState;
@@ -59,15 +59,7 @@ fn fallback_decision(headers: &HeaderMap, row: &Row) -> Decision {
     } else {
         rules
     };
-    let Some(expires) = headers.get(&EXPIRES) else {
-        return rules.decide(row.cache, row.age);
-    };
-    let date = headers.get(&DATE);
-    let lifetime = match date {
-        Some(date) => expires_lifetime(expires.as_bytes(), Some(date.as_bytes()), 0),
-        None => expires_lifetime(expires.as_bytes(), None, 0),
-    };
-    rules.decide_with(row.cache, Some(lifetime), row.age)
+    rules.decide_with(row.cache, expires_of(headers, 0), row.age)
 }
 
 /// What a targeted field of one line says, read from its text and from its Dictionary.
@@ -164,9 +156,6 @@ fn permissions(rt: HostRuntime) {
         (b"s-maxage=x", true, false, true),
         (b"private", false, true, false),
         (b"public", true, true, true),
-        (b"public=?0", false, false, false),
-        (b"public=1", false, false, false),
-        (b"public=(a)", false, false, false),
         (b"must-revalidate", false, false, true),
     ] {
         let rules = rules_of(&rt, &seed, line);
@@ -176,6 +165,27 @@ fn permissions(rt: HostRuntime) {
             rules.allows_authorized(),
         );
         assert_eq!(rt; found, (shared, private, authorized));
+    }
+}
+
+/// Dates in the three formats of RFC 9110 section 5.6.7, whose example is one time.
+#[test]
+fn http_dates(rt: HostRuntime) {
+    for &(text, want) in &[
+        (
+            b"Sun, 06 Nov 1994 08:49:37 GMT".as_slice(),
+            Some(784_111_777),
+        ),
+        (b"Sunday, 06-Nov-94 08:49:37 GMT", Some(784_111_777)),
+        (b"Sun Nov  6 08:49:37 1994", Some(784_111_777)),
+        (b"Thu, 01 Jan 1970 00:00:00 GMT", Some(0)),
+        (b"Sun, 06 Nov 1994 08:49:37 +0000", None),
+        (b" Sun, 06 Nov 1994 08:49:37 GMT", None),
+        (b"784111777", None),
+        (b"0", None),
+        (b"", None),
+    ] {
+        assert_eq!(rt; http_time(text), want);
     }
 }
 
@@ -204,5 +214,39 @@ fn lifetimes_by_expires(rt: HostRuntime) {
         ),
     ] {
         assert_eq!(rt; expires_lifetime(expires, date, received), want);
+    }
+}
+
+/// Lifetimes by the fields of a response: none without `Expires`, and 0 with several of them (RFC 9111
+/// section 4.2.1), even if they spell a date when they are joined.
+#[test]
+fn lifetimes_of_responses(rt: HostRuntime) {
+    const AT: &[u8] = b"Sun, 06 Nov 1994 08:49:37 GMT";
+    const LATER: &[u8] = b"Sun, 06 Nov 1994 08:50:37 GMT";
+    let rows: [(&[(&[u8], &[u8])], Option<u64>); 8] = [
+        (&[], None),
+        (&[(b"date", AT)], None),
+        (&[(b"expires", LATER), (b"date", AT)], Some(60)),
+        (&[(b"expires", LATER)], Some(10)),
+        (
+            &[(b"expires", LATER), (b"date", AT), (b"date", AT)],
+            Some(10),
+        ),
+        (&[(b"expires", b"0"), (b"date", AT)], Some(0)),
+        (
+            &[(b"expires", LATER), (b"expires", LATER), (b"date", AT)],
+            Some(0),
+        ),
+        (
+            &[
+                (b"expires", b"Sun"),
+                (b"expires", b"06 Nov 1994 08:50:37 GMT"),
+                (b"date", AT),
+            ],
+            Some(0),
+        ),
+    ];
+    for (fields, want) in rows {
+        assert_eq!(&rt; expires_of(&headers_of(&rt, fields), 784_111_827), want);
     }
 }

@@ -78,7 +78,7 @@ fn check(
     assert!(rt; is_answer(answer, want), "{want:?}");
 }
 
-/// The values of the name behind a header of another name.
+/// The values of the name after a header of another name.
 fn headers_of(rt: &(impl Abort + AllocGlobal), name: &[u8], values: &[&[u8]]) -> HeaderMap {
     let mut headers = HeaderMap::new(rt.alloc());
     let server = HeaderName::from_static("server");
@@ -201,7 +201,7 @@ fn text_under(
     }
 }
 
-/// The field `priority` of a map that has it with these values, behind another name.
+/// The field `priority` of a map that has it with these values, after another name.
 fn priority_of(
     rt: &(impl Abort + AllocGlobal),
     seed: &RandomState,

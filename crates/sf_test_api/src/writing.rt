@@ -225,7 +225,7 @@ fn dictionaries(rt: HostRuntime) {
     check(&rt, Dict::new(rt.alloc(), &seed).into(), "");
 }
 
-/// So many of a byte, with these bytes before and behind them.
+/// So many of a byte, with these bytes before and after them.
 fn run_between(
     alloc: Global,
     before: &[u8],

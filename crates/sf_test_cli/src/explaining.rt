@@ -293,3 +293,35 @@ fn long_inputs(rt: HostRuntime) -> Result<(), Fail> {
     );
     Ok(())
 }
+
+/// With a fallback, the lines of `Cache-Control` are read, too.
+#[test]
+fn decided_lines(rt: HostRuntime) -> Result<(), Fail> {
+    let seed = RandomState::new(&rt)?;
+    let rows: [Row; 3] = [
+        (
+            b"x: \x01\n",
+            b"by RFC 8941 and RFC 9651:\nfallback cache-control\n\
+              lifetime shared none\nlifetime private none\n\
+              shared unspecified nothing\nprivate unspecified nothing\n",
+            ACCEPTED,
+            b"",
+        ),
+        (
+            b"x: 1\r\nCache-Control: a\x01b\r\n",
+            b"refused line 1\n",
+            REFUSED,
+            b"not a field line\nline 2, place 16:\nCache-Control: a?b\n                ^\n",
+        ),
+        (
+            b"nonsense\n",
+            b"refused line 0\n",
+            REFUSED,
+            b"not a field line\nline 1, place 8:\nnonsense\n        ^\n",
+        ),
+    ];
+    let mut names = Vec::new(rt.alloc());
+    names.push(HeaderName::from_static("cdn-cache-control"))?;
+    expect_rows(&rt, &seed, &Request::Decide(names, 0), &rows);
+    Ok(())
+}

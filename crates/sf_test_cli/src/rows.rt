@@ -30,7 +30,7 @@ pub(crate) fn run_unseen<R: Source, W: Sink>(
     answer
 }
 
-/// The input read at this pace, with a pause behind so many bytes.
+/// The input read at this pace, with a pause after so many bytes.
 fn expect_paced(
     rt: &(impl Abort + AllocGlobal),
     seed: &RandomState,

@@ -19,7 +19,7 @@ fn expect(rt: &(impl Abort + AllocGlobal), words: &[&str], wanted: &str) -> Resu
 
 #[test]
 fn requests(rt: HostRuntime) -> Result<(), Fail> {
-    let rows: [(&[&str], &str); 18] = [
+    let rows: [(&[&str], &str); 24] = [
         (
             &["sf", "check", "--kind", "dict"],
             "Ok(Check(Rfc9651, Dict))",
@@ -71,6 +71,58 @@ fn requests(rt: HostRuntime) -> Result<(), Fail> {
         ),
         (&["sf", "targeted", "--", "a"], "Ok(Targeted([\"a\"]))"),
         (&["sf", "targeted", "help"], "Ok(Targeted([\"help\"]))"),
+        (
+            &["sf", "targeted", "--fallback", "cache-control", "A", "b"],
+            "Ok(Decide([\"a\", \"b\"], 0))",
+        ),
+        (
+            &["sf", "targeted", "a", "--fallback=cache-control"],
+            "Ok(Decide([\"a\"], 0))",
+        ),
+        (
+            &[
+                "sf",
+                "targeted",
+                "a",
+                "--fallback=cache-control",
+                "--age=+05",
+            ],
+            "Ok(Decide([\"a\"], 5))",
+        ),
+        (
+            &[
+                "sf",
+                "targeted",
+                "--age",
+                "60",
+                "--fallback",
+                "cache-control",
+                "a",
+            ],
+            "Ok(Decide([\"a\"], 60))",
+        ),
+        (
+            &[
+                "sf",
+                "targeted",
+                "--fallback",
+                "cache-control",
+                "--age=18446744073709551615",
+                "a",
+            ],
+            "Ok(Decide([\"a\"], 18446744073709551615))",
+        ),
+        (
+            &[
+                "sf",
+                "targeted",
+                "--fallback",
+                "cache-control",
+                "--",
+                "--age",
+            ],
+            "Ok(Decide([\"--age\"], 0))",
+        ),
     ];
     for (words, wanted) in rows {
         expect(&rt, words, wanted)?;
@@ -80,7 +132,7 @@ fn requests(rt: HostRuntime) -> Result<(), Fail> {
 
 #[test]
 fn other_words(rt: HostRuntime) -> Result<(), Fail> {
-    let rows: [&[&str]; 44] = [
+    let rows: [&[&str]; 55] = [
         &[],
         &["sf"],
         &["sf", ""],
@@ -132,6 +184,61 @@ fn other_words(rt: HostRuntime) -> Result<(), Fail> {
         &["sf", "-h"],
         &["sf", "check", "--kind", "item", "--help"],
         &["sf", "targeted", "a", "-h"],
+        &["sf", "targeted", "a", "--age", "1"],
+        &["sf", "targeted", "a", "--fallback", "expires"],
+        &["sf", "targeted", "a", "--fallback", "Cache-Control"],
+        &["sf", "targeted", "--fallback", "cache-control"],
+        &[
+            "sf",
+            "targeted",
+            "a",
+            "--fallback",
+            "cache-control",
+            "--age",
+            "-1",
+        ],
+        &[
+            "sf",
+            "targeted",
+            "a",
+            "--fallback",
+            "cache-control",
+            "--age",
+            "1.5",
+        ],
+        &[
+            "sf",
+            "targeted",
+            "a",
+            "--fallback",
+            "cache-control",
+            "--age",
+            "18446744073709551616",
+        ],
+        &[
+            "sf",
+            "targeted",
+            "a",
+            "--fallback",
+            "cache-control",
+            "--age=",
+        ],
+        &[
+            "sf",
+            "targeted",
+            "a",
+            "--fallback=cache-control",
+            "--fallback=cache-control",
+        ],
+        &[
+            "sf",
+            "targeted",
+            "a",
+            "--fallback=cache-control",
+            "--age=1",
+            "--age=1",
+        ],
+        &["sf", "priority", "--fallback", "cache-control"],
         &["sf", "--version"],
         &["sf", "-V"],
     ];
@@ -163,7 +270,8 @@ fn at_most_64_names(rt: HostRuntime) -> Result<(), Fail> {
 }
 
 const USAGE: &str = "sf: usage: sf show, check or normalise --kind item, list or dict \
-    [--dialect rfc8941 or rfc9651]; sf cache-status; sf targeted NAME..; sf priority";
+    [--dialect rfc8941 or rfc9651]; sf cache-status; \
+    sf targeted [--fallback cache-control [--age SECONDS]] NAME..; sf priority";
 
 const STOPPED: &str = "sf: out of memory or a device failed";
 

@@ -1,42 +1,74 @@
 //! The words of the command line with the settings that they make, and how the command ends.
-use sf_lint::{OptionsFault, read_settings, status_line};
+use sf_lint::{OptionsFault, read_options, status_line};
 use sf_tool::Status;
 use std::alloc::AllocError;
 use std::process::Abort;
 use std::test::Fail;
 
-/// Settings by their `Debug` text, since they are not compared.
+/// Options by their `Debug` text, since they are not compared.
 fn expect(rt: &(impl Abort + AllocGlobal), words: &[&str], wanted: &str) -> Result<(), AllocError> {
     let mut owned = Vec::new(rt.alloc());
     for word in words {
         owned.push(String::from_str(rt.alloc(), word)?)?;
     }
-    let got = read_settings(rt.alloc(), owned.as_slice());
+    let got = read_options(rt.alloc(), owned.as_slice());
     let shown = format!(in rt.alloc(); "{got:?}")?;
     assert_eq!(rt; shown.as_str(), wanted);
     Ok(())
 }
 
 #[test]
-fn settings(rt: HostRuntime) -> Result<(), Fail> {
-    let rows: [(&[&str], &str); 14] = [
+fn options(rt: HostRuntime) -> Result<(), Fail> {
+    let rows: [(&[&str], &str); 23] = [
         (
             &["sflint"],
-            "Ok(Settings { fields: [], quiet: false, colour: false })",
+            "Ok(Options { settings: Settings { fields: [], quiet: false, colour: false }, caches: None })",
         ),
         (
             &["sflint", "--quiet"],
-            "Ok(Settings { fields: [], quiet: true, colour: false })",
+            "Ok(Options { settings: Settings { fields: [], quiet: true, colour: false }, caches: None })",
         ),
         (
             &["sflint", "--field", "X-List:list", "--field=y:item"],
-            "Ok(Settings { fields: [CustomField { name: \"x-list\", kind: List }, \
-             CustomField { name: \"y\", kind: Item }], quiet: false, colour: false })",
+            "Ok(Options { settings: Settings { fields: [CustomField { name: \"x-list\", kind: List }, \
+             CustomField { name: \"y\", kind: Item }], quiet: false, colour: false }, caches: None })",
         ),
         (
             &["sflint", "--field", "priority:dict", "--quiet"],
-            "Ok(Settings { fields: [CustomField { name: \"priority\", kind: Dict }], quiet: true, colour: false })",
+            "Ok(Options { settings: Settings { fields: [CustomField { name: \"priority\", kind: Dict }], quiet: true, colour: false }, caches: None })",
         ),
+        (
+            &["sflint", "--decide"],
+            "Ok(Options { settings: Settings { fields: [], quiet: false, colour: false }, \
+             caches: Some(CacheSettings { targets: [\"cdn-cache-control\"], age: None }) })",
+        ),
+        (
+            &[
+                "sflint",
+                "--target",
+                "A-Cache-Control",
+                "--age",
+                "15",
+                "--target=b",
+                "--quiet",
+                "--decide",
+            ],
+            "Ok(Options { settings: Settings { fields: [], quiet: true, colour: false }, \
+             caches: Some(CacheSettings { targets: [\"a-cache-control\", \"b\"], age: Some(15) }) })",
+        ),
+        (&["sflint", "--age", "15"], "Err(Usage)"),
+        (&["sflint", "--target", "b"], "Err(Usage)"),
+        (&["sflint", "--decide", "--age", "-1"], "Err(Usage)"),
+        (
+            &["sflint", "--decide", "--age", "18446744073709551616"],
+            "Err(Usage)",
+        ),
+        (
+            &["sflint", "--decide", "--age", "1", "--age", "1"],
+            "Err(Usage)",
+        ),
+        (&["sflint", "--decide", "--target", "a b"], "Err(Usage)"),
+        (&["sflint", "--decide", "b"], "Err(Usage)"),
         (&["sflint", "--help"], "Err(Help)"),
         (&["sflint", "--version"], "Err(Version)"),
         (&["sflint", "head"], "Err(Usage)"),

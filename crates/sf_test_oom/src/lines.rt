@@ -67,7 +67,7 @@ fn numbers_take_none(rt: HostRuntime) -> Result<(), Fail> {
     Ok(())
 }
 
-/// The lines as the values of `accept-x`, behind another name.
+/// The lines as the values of `accept-x`, after another name.
 fn headers_of(alloc: Global) -> Result<HeaderMap, Fail> {
     let mut headers = HeaderMap::new(alloc);
     headers.append(

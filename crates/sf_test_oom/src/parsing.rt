@@ -79,7 +79,7 @@ fn refused_texts(rt: HostRuntime) -> Result<(), Fail> {
     Ok(())
 }
 
-/// Dictionaries that are refused for their last byte, which is at this place, behind parts of the
+/// Dictionaries that are refused for their last byte, which is at this place, after parts of the
 /// same member, some of which allocate.
 const REFUSED_BEHIND_PARTS: [(&[u8], u64); 3] = [
     (
@@ -102,7 +102,7 @@ fn refused_behind_parts(rt: HostRuntime) -> Result<(), Fail> {
     Ok(())
 }
 
-/// Items that are refused for their last byte, which is at this place, behind a parameter and a
+/// Items that are refused for their last byte, which is at this place, after a parameter and a
 /// space: at the space the parameter is put, which allocates.
 const REFUSED_ITEMS: [(&[u8], u64, u8); 5] = [
     (b"a;x=1 b", 6, b'b'),
@@ -124,7 +124,7 @@ fn refused_items(rt: HostRuntime) -> Result<(), Fail> {
     Ok(())
 }
 
-/// Texts that are refused for this byte at this place, behind a key or a bare item of more than 16
+/// Texts that are refused for this byte at this place, after a key or a bare item of more than 16
 /// bytes, for which alone memory is asked.
 const REFUSED_BEHIND_LONG: [(Kind, &[u8], u64, u8); 17] = [
     (Kind::Dict, b"a_key_of_more_than_16_bytes=#", 28, b'#'),
@@ -198,8 +198,8 @@ fn refused_behind_long(rt: HostRuntime) -> Result<(), Fail> {
     Ok(())
 }
 
-/// Texts that are refused for their last byte, at this place, behind a key of more than 16 bytes: in an
-/// Inner List, behind other parameters, before an Inner List, or behind parts that allocate too.
+/// Texts that are refused for their last byte, at this place, after a key of more than 16 bytes: in an
+/// Inner List, after other parameters, before an Inner List, or after parts that allocate too.
 const REFUSED_BEHIND_KEYS: [(Kind, &[u8], u64); 14] = [
     (Kind::List, b"(a;a_key_of_more_than_16_bytes=#", 31),
     (Kind::List, b"(a;b;a_key_of_more_than_16_bytes=#", 33),
@@ -251,7 +251,7 @@ fn parse_chunk(
     parser.finish()
 }
 
-/// The levels return the first of a failed allocation and of a mistake behind it.
+/// The levels return the first of a failed allocation and of a mistake after it.
 #[test]
 fn refused_behind_keys(rt: HostRuntime) -> Result<(), Fail> {
     let alloc = rt.alloc();

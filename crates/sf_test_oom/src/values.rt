@@ -190,7 +190,7 @@ fn put_new(puts: &mut Vec<Put>, count: usize) -> Seen {
     }
 }
 
-/// How often a put behind so many entries was refused.
+/// How often a put after so many entries was refused.
 fn put_refusals(alloc: Global, seed: &RandomState, count: usize) -> Result<usize, Fail> {
     let mut puts = puts_of(alloc, seed, count, b'z')?;
     match refusals(alloc, || put_new(&mut puts, count)) {

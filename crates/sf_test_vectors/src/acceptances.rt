@@ -179,7 +179,7 @@ pub(crate) static ITEMS: [Row; 42] = [
     (Kind::Item, b"abc", b"abc"),
 ];
 
-/// Items, with or without parameters, behind which spaces and the end come.
+/// Items, with or without parameters, after which spaces and the end come.
 static BEFORE_SPACES: [Row; 6] = [
     (Kind::Item, b"a ", b"a"),
     (Kind::Item, b"-7;b=\"s\"   ", b"-7;b=\"s\""),

@@ -237,7 +237,7 @@ pub(crate) static ITEMS: [Row; 34] = [
     (Kind::Item, b"a;b=$;b=1", 4, Some(0x24), BARE),
 ];
 
-/// Items, with or without parameters, behind which a space and a mistake come.
+/// Items, with or without parameters, after which a space and a mistake come.
 static BEHIND_ITEMS: [Row; 19] = [
     (Kind::Item, b"a b", 2, Some(0x62), "20 end"),
     (Kind::Item, b"\"x\"  ;a", 5, Some(0x3b), "20 end"),

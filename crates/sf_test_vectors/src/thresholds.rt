@@ -8,7 +8,7 @@ use std::hash::RandomState;
 use std::process::Abort;
 use std::test::Fail;
 
-// What is before a bare item and behind it in a canonical text.
+// What is before a bare item and after it in a canonical text.
 static FRAMES: [(Kind, &[u8], &[u8]); 7] = [
     (Kind::Item, b"", b""),
     (Kind::Item, b"a;p=", b";q"),
@@ -72,7 +72,7 @@ fn strings_with_escapes(rt: HostRuntime) -> Result<(), Fail> {
     Ok(())
 }
 
-// What is behind a part is looked for in its first 1,024 bytes.
+// What is after a part is looked for in its first 1,024 bytes.
 static FAR: [usize; 8] = [1_020, 1_021, 1_022, 1_023, 1_024, 1_025, 1_026, 1_027];
 
 #[test]

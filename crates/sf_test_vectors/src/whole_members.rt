@@ -525,7 +525,7 @@ fn dictionaries_as_by_levels(rt: HostRuntime) -> Result<(), Fail> {
     check_parts(&rt, &seed, Kind::Dict)
 }
 
-// What is before a String or a Byte Sequence, and what is behind it.
+// What is before a String or a Byte Sequence, and what is after it.
 static FRAMES: [(Kind, &[u8], &[u8]); 8] = [
     (Kind::Item, b"", b""),
     (Kind::Item, b"a;p=", b";q"),
@@ -538,7 +538,7 @@ static FRAMES: [(Kind, &[u8], &[u8]); 8] = [
 ];
 
 // On both sides of the numbers of bytes that are tested at a time, of half a KiB, and of the number of
-// bytes in which what is behind a part is looked for.
+// bytes in which what is after a part is looked for.
 static LENGTHS: [usize; 30] = [
     15, 16, 17, 31, 32, 33, 63, 64, 65, 79, 80, 81, 95, 96, 97, 111, 112, 113, 509, 510, 511, 512,
     513, 514, 1021, 1022, 1023, 1024, 1025, 1026,
@@ -737,7 +737,7 @@ fn chunks_of_each_size(rt: HostRuntime) -> Result<(), Fail> {
     Ok(())
 }
 
-// Strings with an escape in each place, alone, behind bytes that are not escaped and before them, on
+// Strings with an escape in each place, alone, after bytes that are not escaped and before them, on
 // both sides of the numbers that are tested at a time.
 static ESCAPED: [acceptances::Row; 8] = [
     (
@@ -816,13 +816,13 @@ static BADLY_ESCAPED: [refusals::Row; 25] = [
     (Kind::Dict, b"k=\"\\\\\\", 6, None, "22 5c"),
     (Kind::Item, b"a;p=\"\\", 6, None, "22 5c"),
     (Kind::List, b"(\"\\\"\\", 5, None, "22 5c"),
-    // Strings that are broken off behind an escape.
+    // Strings that are broken off after an escape.
     (Kind::Item, b"\"\\\"", 3, None, "20-7e"),
     (Kind::Dict, b"k=\"\\\\", 5, None, "20-7e"),
     (Kind::Item, b"a;p=\"b\\\"", 8, None, "20-7e"),
     (Kind::List, b"(a \"\\\\\\\"", 8, None, "20-7e"),
     (Kind::List, b"a, \"\\\"b, c", 10, None, "20-7e"),
-    // Bytes behind an escape that no String has.
+    // Bytes after an escape that no String has.
     (Kind::Item, b"\"\\\"\x01\"", 3, Some(0x01), "20-7e"),
     (Kind::List, b"\"a\\\\\x7f\", b", 4, Some(0x7f), "20-7e"),
     (Kind::Dict, b"k;p=\"\\\"\xc3\xbc\"", 7, Some(0xc3), "20-7e"),
@@ -833,7 +833,7 @@ static BADLY_ESCAPED: [refusals::Row; 25] = [
         Some(0x09),
         "20-7e",
     ),
-    // Bytes behind a String.
+    // Bytes after a String.
     (Kind::Item, b"\"\\\"\"x", 4, Some(0x78), "20 3b end"),
     (Kind::List, b"\"\\\\\"$", 4, Some(0x24), "09 20 2c 3b end"),
     (Kind::List, b"(\"\\\"\"$)", 5, Some(0x24), "20 29 3b"),
@@ -900,7 +900,7 @@ static BEFORE: [usize; 19] = [
     0, 1, 14, 15, 16, 17, 30, 31, 32, 33, 63, 64, 65, 96, 510, 511, 512, 513, 2000,
 ];
 
-// What is behind so many bytes of a String: escapes, bytes behind an escape, and each mistake.
+// What is after so many bytes of a String: escapes, bytes after an escape, and each mistake.
 static BEHIND: [&[u8]; 16] = [
     b"\"",
     b"\\\"\"",

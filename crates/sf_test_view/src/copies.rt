@@ -59,7 +59,7 @@ fn push_run(text: &mut Vec<u8>, count: usize) -> Result<(), Fail> {
     Ok(())
 }
 
-/// The bytes that a text begins with, two runs of this length with the escape behind each, a last run,
+/// The bytes that a text begins with, two runs of this length with the escape after each, a last run,
 /// and a quote.
 fn text_around(
     alloc: Global,
@@ -79,7 +79,7 @@ fn text_around(
     Ok(text)
 }
 
-/// Runs of each length before, between and behind escapes, and an escape just before the quote.
+/// Runs of each length before, between and after escapes, and an escape just before the quote.
 #[test]
 fn runs_around_escapes_are_copied(rt: HostRuntime) -> Result<(), Fail> {
     let alloc = rt.alloc();

@@ -34,16 +34,17 @@ use Rattle.sf_value.specs.declared.dialect.Dialect.TheVariants.{Rfc8941, Rfc9651
 use Rattle.sf_value.specs.declared.value.Kind.{Kind}
 use Rattle.sf_value.specs.declared.value.Kind.TheVariants as kind
 use Rattle.sf_tool.specs.declared.request.Request.{Request}
-use Rattle.sf_tool.specs.declared.request.Request.TheVariants.{Targeted}
+use Rattle.sf_tool.specs.declared.request.Request.TheVariants.{Targeted, Decide}
 use Rattle.sf_tool.specs.declared.request.RequestFault.{RequestFault}
 use Rattle.sf_tool.specs.declared.request.RequestFault.TheVariants.{Usage, OutOfMemory}
 use Rattle.sf_tool.specs.Fields.{is_header_name}
-use Rattle.sf_tool.specs.Request.{HasFewNames}
+use Rattle.sf_tool.specs.Request.{AreFewNames, HasFewNames}
 use Rattle.sf_tool.specs.CommandLine.{command_line, kind_word, dialect_word, NamesKind}
-use Rattle.sf_tool.specs.CommandLine.{NamesDialect}
+use Rattle.sf_tool.specs.CommandLine.{NamesDialect, NamesAll, NamesFallback}
+use Rattle.sf_tool.specs.CommandLine.{IsGivenAge, IsSeconds}
 use Rattle.sf_tool.specs.CommandLine.{AreNames, AsksFor, IsRequestOf, IsUsageOf}
 use Rattle.sf_tool.specs.Commands.{AsksAsFound, AsksForNone, IsCommandFault, IsFoundFault}
-use Rattle.sf_tool.specs.Commands.{IsTargetedOf, IsNamesFault}
+use Rattle.sf_tool.specs.Commands.{IsNamesFault}
 
 -- the command line is one whose parse clap tells
 
@@ -122,31 +123,95 @@ apart : (a b : Text) → bytes_eq a b ≡ false → a ≡ b → ⊥
 apart a b differ same = false≢true (sym differ ∙ (bytes_eq-Decides a b).1 same)
 
 -- a request of the command `targeted` has names
-only-targeted : (rows : List Row) (word : Text) → word ≡ codes "targeted"
-    → ((names : List Text) (words : List Text) → all_of (codes "name") rows ≡ Some words
-    → ¬ (AreNames words names)) → AsksForNone word rows
-only-targeted rows word e none (Targeted names) asks =
-    none names.items asks.1.0 asks.1.1 asks.1.2
-only-targeted rows word e none command asks = apart _ _ refl (sym e ∙ asks.0)
+only-targeted : (rows : List Row) → ((names : List Text) → ¬ (NamesAll rows names))
+    → AsksForNone (codes "targeted") rows
+only-targeted rows none (Targeted names) asks = none names.items asks.1.1
+only-targeted rows none (Decide names age) asks = none names.items asks.1.1
+only-targeted rows none command asks = apart _ _ refl asks.0
 
-pub targeted-nothing : (rows : List Row) (word : Text) → word ≡ codes "targeted"
-    → all_of (codes "name") rows ≡ None → AsksForNone word rows
-targeted-nothing rows word e nothing =
-    only-targeted rows word e
-    (λ names words some are. let both : None ≡ Some words = sym nothing ∙ some in cc)
+-- and it has a fallback with an age, or neither
+pub no-fallback : (rows : List Row) → ((age : Option ℕ) → ¬ (NamesFallback rows age))
+    → AsksForNone (codes "targeted") rows
+no-fallback rows none (Targeted names) asks = none None asks.1.0
+no-fallback rows none (Decide names age) asks = none (Some age) asks.1.0
+no-fallback rows none command asks = apart _ _ refl asks.0
 
-pub targeted-asks : (rows : List Row) (word : Text) (texts : List Text) → word ≡ codes "targeted"
-    → all_of (codes "name") rows ≡ Some texts → (r : Result Request RequestFault)
-    → MatchResult r (IsTargetedOf texts) (IsNamesFault texts)
-    → MatchResult r (AsksFor word rows) (IsCommandFault word rows)
-targeted-asks rows word texts e given (Ok (Targeted names)) h = (e, (texts, given, h))
-targeted-asks rows word texts e given (Ok command) h = absurd h
-targeted-asks rows word texts e given (Err Usage) h =
-    only-targeted rows word e
-    (λ names words some are.
+pub no-names : (rows : List Row) → all_of (codes "name") rows ≡ None
+    → AsksForNone (codes "targeted") rows
+no-names rows nothing =
+    only-targeted rows
+    (λ names all. let both : None ≡ Some all.0 = sym nothing ∙ all.1 in cc)
+
+pub names-fault : (rows : List Row) (texts : List Text) → all_of (codes "name") rows ≡ Some texts
+    → (fault : RequestFault) → IsNamesFault texts fault
+    → IsCommandFault (codes "targeted") rows fault
+names-fault rows texts given Usage h =
+    only-targeted rows
+    (λ names all.
     let P : List Text → Type 0 = λ ws. AreNames ws names in
-    h names (subst P (some-same _ _ (sym some ∙ given)) are))
-targeted-asks rows word texts e given (Err OutOfMemory) h = (e, (texts, given, h))
+    h names (subst P (some-same _ _ (sym all.1 ∙ given)) all.2))
+names-fault rows texts given OutOfMemory h = (refl, (texts, given, h))
+
+-- an age
+
+not-given : (word : Text) → ((seconds : ℕ) → ¬ (IsSeconds word seconds)) → (age : Option ℕ)
+    → ¬ (IsGivenAge (Some word) age)
+not-given word none None given = given
+not-given word none (Some seconds) given = none seconds given
+
+-- a word that is no number of seconds
+pub no-age : (f : Found) (r : Option (Bor Text)) (s : Bor Text)
+    → option_map (λ s. s.now) r ≡ first_value f (codes "age") → r ≡ Some s
+    → ((seconds : ℕ) → ¬ (IsSeconds s.now seconds))
+    → (age : Option ℕ) → ¬ (IsGivenAge (first_of (codes "age") (rows_of f)) age)
+no-age f r s e is none age given =
+    let P : Option Text → Type 0 = λ o. IsGivenAge o age in
+    not-given s.now none age (subst P (value-some f (codes "age") r s e is) given)
+
+-- a fallback
+
+no-word : (o : Option Text) → IsGivenAge o None → o ≡ None
+no-word None given = refl
+no-word (Some word) given = absurd given
+
+-- neither is given
+pub neither : (rows : List Row) → first_of (codes "fallback") rows ≡ None
+    → IsGivenAge (first_of (codes "age") rows) None → NamesFallback rows None
+neither rows absent given = (absent, no-word (first_of (codes "age") rows) given)
+
+-- an age that is none
+pub age-fails : (rows : List Row)
+    → ((age : Option ℕ) → ¬ (IsGivenAge (first_of (codes "age") rows) age))
+    → (age : Option ℕ) → ¬ (NamesFallback rows age)
+age-fails rows none None names =
+    let P : Option Text → Type 0 = λ o. IsGivenAge o None in
+    none None (subst P (sym names.1) tt)
+age-fails rows none (Some seconds) names = none names.1.0 names.1.1
+
+-- an age without a fallback
+pub age-alone : (rows : List Row) (seconds : ℕ) → first_of (codes "fallback") rows ≡ None
+    → IsGivenAge (first_of (codes "age") rows) (Some seconds)
+    → (age : Option ℕ) → ¬ (NamesFallback rows age)
+age-alone rows seconds absent given None names =
+    let P : Option Text → Type 0 = λ o. IsGivenAge o (Some seconds) in
+    subst P names.1 given
+age-alone rows seconds absent given (Some other) names =
+    let both : None ≡ Some (codes "cache-control") = sym absent ∙ names.0 in cc
+
+-- a word that is no fallback
+pub other-fallback : (f : Found) (r : Option (Bor Text)) (s : Bor Text)
+    → option_map (λ s. s.now) r ≡ first_value f (codes "fallback") → r ≡ Some s
+    → ¬ (s.now ≡ codes "cache-control") → (age : Option ℕ) → ¬ (NamesFallback (rows_of f) age)
+other-fallback f r s e is other None names =
+    let both : Some s.now ≡ None = sym (value-some f (codes "fallback") r s e is) ∙ names.0 in cc
+other-fallback f r s e is other (Some seconds) names =
+    other (some-same _ _ (sym (value-some f (codes "fallback") r s e is) ∙ names.0))
+
+pub fallback-fault : (rows : List Row) (fault : RequestFault)
+    → (fault ≡ Usage) × ((age : Option ℕ) → ¬ (NamesFallback rows age))
+    → IsCommandFault (codes "targeted") rows fault
+fallback-fault rows Usage (is, none) = no-fallback rows none
+fallback-fault rows OutOfMemory (is, none) = absurd cc
 
 -- one name more
 
@@ -231,13 +296,15 @@ request-read words (Err e) (Err Usage) matches kinds found fault =
     λ request asks. some-kind (fault_of command_line words) e kinds (fault.0 refl) asks.0
 
 -- a request has few names
+few-names : (rows : List Row) (names : List Text) → NamesAll rows names → AreFewNames names
+few-names rows names (words, given, are) =
+    let size : length names ≡ length words = ap length are.3 ∙ length-map words lowercase in
+    (omega (arith, size, are.0), omega (arith, size, are.1))
+
 asks-few : (rows : List Row) (word : Text) (request : Request) → AsksFor word rows request
     → HasFewNames request
-asks-few rows word (Targeted names) asks =
-    let are = asks.1.2 in
-    let size : length names.items ≡ length asks.1.0 =
-    ap length are.3 ∙ length-map asks.1.0 lowercase in
-    (omega (arith, size, are.0), omega (arith, size, are.1))
+asks-few rows word (Targeted names) asks = few-names rows names.items asks.1.1
+asks-few rows word (Decide names age) asks = few-names rows names.items asks.1.1
 asks-few rows word command asks = tt
 
 pub request-few : (words : List Text) (r : Result Request RequestFault)

@@ -56,13 +56,13 @@ uncut_short text some none =
     (omega (arith, some, length-trim text, length-append (trim text) []))
 
 -- of any text
-length-behind : (n : ℕ) (text : List ℕ) → length text ≤ n
+length-strip_byte : (n : ℕ) (text : List ℕ) → length text ≤ n
     → length (behind true (lines_of text)) ≤ 3 * length text
-length-behind n [] h = omega arith
-length-behind zero (x ∷ xs) h = absurd (omega arith)
-length-behind (suc n) (x ∷ xs) h =
+length-strip_byte n [] h = omega arith
+length-strip_byte zero (x ∷ xs) h = absurd (omega arith)
+length-strip_byte (suc n) (x ∷ xs) h =
     at (cases_lt (position_or_len is_line_feed (x ∷ xs)) (length (x ∷ xs)))
-    (λ t s. length-behind n t s)
+    (λ t s. length-strip_byte n t s)
   where
     at : (position_or_len is_line_feed (x ∷ xs) < length (x ∷ xs))
         ⊎ (length (x ∷ xs) ≤ position_or_len is_line_feed (x ∷ xs))
@@ -84,7 +84,7 @@ unbegun (l ∷ ls) = omega arith
 -- the joined lines take at most three bytes for each byte of the input
 pub length-joined : (input : List ℕ) → length (join (lines_of input)) ≤ 3 * length input
 length-joined input =
-    let short = length-behind (length input) input (omega arith) in
+    let short = length-strip_byte (length input) input (omega arith) in
     subst (λ t. length t ≤ 3 * length input) (sym (joined (lines_of input)))
     (omega (arith, short, unbegun (lines_of input)))
 

@@ -18,7 +18,7 @@ use Rattle.sf_tool.specs.Lines.{lines_of}
 use Rattle.sf_tool.specs.Fields.{Targets, is_refused, is_of_listed, field_of, name_of}
 use Rattle.sf_tool.specs.Fields.{listed_fields}
 use Rattle.sf_tool.specs.Fields.{headers_of, IsOver, IsRefusedAt, NoneIsRefused, AreFields}
-use Rattle.sf_tool.specs.Fields.{IsFirstRefused, IsTaken, MayAllocateAt}
+use Rattle.sf_tool.specs.Fields.{IsFirstRefusedOf, IsTaken, MayAllocateAt, MayAllocateAtLine}
 use Rattle.sf_tool.specs.OneLine.{AddsField, ExceedsCapacity}
 
 -- the fields of one line more
@@ -91,13 +91,12 @@ reads_on-adds targets all more line n old new r t =
     }
 
 -- a line is refused
-pub reads_on-refused : (targets : Targets) (input : List ℕ) (more : List (List ℕ)) (line : List ℕ)
-    (n : ℕ) (headers : Headers) → ReadsOn targets (lines_of input) (line ∷ more) n headers
+pub reads_on-refused : (targets : Targets) (all more : List (List ℕ)) (line : List ℕ)
+    (n : ℕ) (headers : Headers) → ReadsOn targets all (line ∷ more) n headers
     → (ExceedsCapacity targets line headers → 24576 ≤ length targets)
     → (is_refused targets line ≡ true) ⊎ ExceedsCapacity targets line headers
-    → IsFirstRefused targets input n
-reads_on-refused targets input more line n headers r many why =
-    let all = lines_of input in
+    → IsFirstRefusedOf targets all n
+reads_on-refused targets all more line n headers r many why =
     let here = at all more line n r.rest r.within in
     let Stops : List ℕ → Type 0 =
     λ l. (is_refused targets l ≡ true) ⊎ IsOver targets (take n all) l in
@@ -113,11 +112,11 @@ reads_on-refused targets input more line n headers r many why =
     (here.0, subst Stops (sym here.1) stops, r.taken)
 
 -- an allocation fails for a line
-pub reads_on-memory : (targets : Targets) (input : List ℕ) (more : List (List ℕ)) (line : List ℕ)
-    (n : ℕ) (headers : Headers) → ReadsOn targets (lines_of input) (line ∷ more) n headers
-    → IsTaken targets line → MayAllocateAt targets input n
-reads_on-memory targets input more line n headers r taken =
-    let here = at (lines_of input) more line n r.rest r.within in
+pub reads_on-memory : (targets : Targets) (all more : List (List ℕ)) (line : List ℕ) (n : ℕ)
+    (headers : Headers) → ReadsOn targets all (line ∷ more) n headers → IsTaken targets line
+    → MayAllocateAtLine targets all n
+reads_on-memory targets all more line n headers r taken =
+    let here = at all more line n r.rest r.within in
     (here.0, subst (IsTaken targets) (sym here.1) taken, r.taken)
 
 -- a listed field may need an allocation

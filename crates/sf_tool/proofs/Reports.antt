@@ -27,12 +27,13 @@ use Rattle.sf_tool.specs.declared.answering.View.TheVariants.{Tree}
 use Rattle.sf_tool.specs.declared.fields.InputFault.{InputFault}
 use Rattle.sf_tool.specs.declared.fields.InputFault.TheVariants as input_fault
 use Rattle.sf_tool.specs.declared.request.Request.{Request}
-use Rattle.sf_tool.specs.declared.request.Request.TheVariants.{Targeted}
+use Rattle.sf_tool.specs.declared.request.Request.TheVariants.{Targeted, Decide}
 use Rattle.sf_tool.specs.declared.status.Status.{Status}
 use Rattle.sf_tool.specs.declared.status.Status.TheVariants.{Accepted, Refused, Usage, Stopped}
 use Rattle.sf_tool.specs.Lines.{lines_of}
 use Rattle.sf_tool.specs.Texts.{refusal_line}
 use Rattle.sf_tool.specs.ChoiceLines.{refused_line}
+use Rattle.sf_tool.specs.Deciding.{with_cache_control}
 use Rattle.sf_tool.specs.Fields.{IsFaultOf}
 use Rattle.sf_tool.specs.PathLines.{not_a_cache_line}
 use Rattle.sf_tool.specs.Run.{joined, input_limit, view_request, view_text}
@@ -180,6 +181,17 @@ reports_input_fault names input (input_fault.Line number) old new result refused
     (number, refused, refl) t
 reports_input_fault names input input_fault.OutOfMemory old new result takes t =
     stopped (Targeted names) input old new result takes t.0 t.1
+
+-- the same of a request that reads Cache-Control, too
+pub reports_decided_fault : (names : Vec (List ℕ) Global) (age : ℕ) (input : List ℕ)
+    (fault : InputFault) (old new : SinkState) (result : Status)
+    → IsFaultOf (with_cache_control names.items) input fault
+    → ReportsInputFault fault old new result → Reports (Decide names age) input old new result
+reports_decided_fault names age input (input_fault.Line number) old new result refused t =
+    reports_text (Decide names age) input (refused_line number) Refused old new result
+    (number, refused, refl) t
+reports_decided_fault names age input input_fault.OutOfMemory old new result takes t =
+    stopped (Decide names age) input old new result tt t.0 t.1
 
 -- a consumer has no answer
 pub reports_ask_fault : {A : Type 0} (request : Request) (kind : Kind)

@@ -1,7 +1,8 @@
 -- The arguments of the command line, as clap parses them.
-use Rattle.std.specs.Prelude.{◌≡◌, ◌≤◌, ◌⊎◌, true, false, List, [], ◌∷◌, map, length, codes}
-use Rattle.std.specs.Prelude.{slice_get, Some, ⊤}
+use Rattle.std.specs.Prelude.{◌≡◌, ◌<◌, ◌≤◌, ◌⊎◌, ◌^◌, ℕ, true, false, List, [], ◌∷◌, map, length}
+use Rattle.std.specs.Prelude.{codes, slice_get, Option, Some, None, unwrap_or, ⊤}
 use Rattle.std.specs.List.{list_all}
+use Rattle.std.specs.Str.Parse.{IsNumeral, digits_value, without_leading_plus}
 use Rattle.clap.specs.Lexer.{usize_max}
 use Rattle.clap.specs.Faults.{fault_of}
 use Rattle.clap.specs.Simple.{App, Shape, new_rule, new_shape, subcommand_of}
@@ -15,7 +16,7 @@ use Rattle.sf_value.specs.declared.value.Kind.{Kind}
 use Rattle.sf_value.specs.declared.value.Kind.TheVariants as kind
 use Rattle.sf_tool.specs.declared.request.Request.{Request}
 use Rattle.sf_tool.specs.declared.request.Request.TheVariants.{Show, Check, Normalise, CacheStatus}
-use Rattle.sf_tool.specs.declared.request.Request.TheVariants.{Targeted, Priority}
+use Rattle.sf_tool.specs.declared.request.Request.TheVariants.{Targeted, Decide, Priority}
 use Rattle.sf_tool.specs.declared.request.RequestFault.{RequestFault}
 use Rattle.sf_tool.specs.declared.request.RequestFault.TheVariants.{Usage, OutOfMemory}
 use Rattle.sf_tool.specs.Fields.{is_header_name}
@@ -45,9 +46,17 @@ name_list = record (new_rule (codes "name")) {
 abbrev pub kind_command : Text → Shape
 kind_command word = record (new_shape word) { rules = kind_option ∷ dialect_option ∷ [] }
 
--- a command that takes names
+-- an option of this name with a value, which may be absent
+abbrev pub option_of : Text → Rule
+option_of word = record (new_rule word) { long = Some word }
+
+-- a command that takes names, the field that decides if none of them does, and the age of a
+-- response
 abbrev pub names_command : Text → Shape
-names_command word = record (new_shape word) { rules = name_list ∷ [] }
+names_command word =
+    record (new_shape word) {
+      rules = name_list ∷ option_of (codes "fallback") ∷ option_of (codes "age") ∷ [];
+    }
 
 -- the program: one of six commands must be named
 abbrev pub command_line : App
@@ -73,6 +82,7 @@ command_word (Check dialect kind) = codes "check"
 command_word (Normalise dialect kind) = codes "normalise"
 command_word CacheStatus = codes "cache-status"
 command_word (Targeted names) = codes "targeted"
+command_word (Decide names age) = codes "targeted"
 command_word Priority = codes "priority"
 
 abbrev pub NamesKind : List Row → Kind → Type 0
@@ -81,11 +91,39 @@ NamesKind rows kind = first_of (codes "kind") rows ≡ Some (kind_word kind)
 abbrev pub NamesDialect : List Row → Dialect → Type 0
 NamesDialect rows dialect = first_of (codes "dialect") rows ≡ Some (dialect_word dialect)
 
+-- a number of seconds in decimal digits, which may follow a plus, in 64 bits
+abbrev pub IsSeconds : Text → ℕ → Type 0
+IsSeconds word seconds =
+    IsNumeral 10 (without_leading_plus word)
+    × (digits_value 10 (without_leading_plus word) < 2 ^ 64)
+    × (seconds ≡ digits_value 10 (without_leading_plus word))
+
+-- the age that a word names, if there is one
+abbrev pub IsGivenAge : Option Text → Option ℕ → Type 0
+IsGivenAge None None = ⊤
+IsGivenAge None (Some seconds) = ⊥
+IsGivenAge (Some word) None = ⊥
+IsGivenAge (Some word) (Some seconds) = IsSeconds word seconds
+
+-- neither a fallback nor an age is given; or the fallback is Cache-Control, and this is the age,
+-- which is 0 if it is not given
+abbrev pub NamesFallback : List Row → Option ℕ → Type 0
+NamesFallback rows None =
+    (first_of (codes "fallback") rows ≡ None) × (first_of (codes "age") rows ≡ None)
+NamesFallback rows (Some age) =
+    (first_of (codes "fallback") rows ≡ Some (codes "cache-control"))
+    × ((given : Option ℕ) × IsGivenAge (first_of (codes "age") rows) given
+    × (age ≡ unwrap_or given 0))
+
 -- header names, as many as a request may have, whose letters may be of either case
 abbrev pub AreNames : List Text → List Text → Type 0
 AreNames words names =
     (1 ≤ length words) × (length words ≤ most_names) × (list_all is_header_name words ≡ true)
     × (names ≡ map lowercase words)
+
+abbrev pub NamesAll : List Row → List Text → Type 0
+NamesAll rows names =
+    (words : List Text) × (all_of (codes "name") rows ≡ Some words) × AreNames words names
 
 -- the request has the arguments that were given with the command's name
 abbrev pub HasArguments : List Row → Request → Type 0
@@ -93,8 +131,8 @@ HasArguments rows (Show dialect kind) = NamesDialect rows dialect × NamesKind r
 HasArguments rows (Check dialect kind) = NamesDialect rows dialect × NamesKind rows kind
 HasArguments rows (Normalise dialect kind) = NamesDialect rows dialect × NamesKind rows kind
 HasArguments rows CacheStatus = ⊤
-HasArguments rows (Targeted names) =
-    (words : List Text) × (all_of (codes "name") rows ≡ Some words) × AreNames words names.items
+HasArguments rows (Targeted names) = NamesFallback rows None × NamesAll rows names.items
+HasArguments rows (Decide names age) = NamesFallback rows (Some age) × NamesAll rows names.items
 HasArguments rows Priority = ⊤
 
 -- the command's name and what was given with it make the request

@@ -4,8 +4,6 @@ use Rattle.std.specs.Prelude.{IsSomeAnd, codes}
 use Rattle.std.specs.List.{list_all}
 use Rattle.clap.specs.Walk.{Row, Text, all_of}
 use Rattle.sf_tool.specs.declared.request.Request.{Request}
-use Rattle.sf_tool.specs.declared.request.Request.TheVariants.{Show, Check, Normalise, CacheStatus}
-use Rattle.sf_tool.specs.declared.request.Request.TheVariants.{Targeted, Priority}
 use Rattle.sf_tool.specs.declared.request.RequestFault.{RequestFault}
 use Rattle.sf_tool.specs.declared.request.RequestFault.TheVariants.{Usage, OutOfMemory}
 use Rattle.sf_tool.specs.CommandLine.{AreNames, AsksFor}
@@ -45,12 +43,3 @@ IsFoundFault (Some found) fault = IsCommandFault found.0 found.1 fault
 abbrev pub IsNamesFault : List Text → RequestFault → Type 0
 IsNamesFault words Usage = (names : List Text) → ¬ (AreNames words names)
 IsNamesFault words OutOfMemory = MayAllocate words
-
--- the request has names, and they are those of the words
-abbrev pub IsTargetedOf : List Text → Request → Type 0
-IsTargetedOf words (Targeted names) = AreNames words names.items
-IsTargetedOf words (Show dialect kind) = ⊥
-IsTargetedOf words (Check dialect kind) = ⊥
-IsTargetedOf words (Normalise dialect kind) = ⊥
-IsTargetedOf words CacheStatus = ⊥
-IsTargetedOf words Priority = ⊥

@@ -17,10 +17,12 @@ use Rattle.sf_field.specs.Lines.{ParsesLines}
 use Rattle.sf_use.specs.CacheStatus.Hops.{hops}
 use Rattle.sf_tool.specs.declared.request.Request.{Request}
 use Rattle.sf_tool.specs.declared.request.Request.TheVariants.{Show, Check, Normalise}
-use Rattle.sf_tool.specs.declared.request.Request.TheVariants.{CacheStatus, Targeted, Priority}
+use Rattle.sf_tool.specs.declared.request.Request.TheVariants.{CacheStatus, Targeted, Decide}
+use Rattle.sf_tool.specs.declared.request.Request.TheVariants.{Priority}
 use Rattle.sf_tool.specs.declared.status.Status.{Status}
 use Rattle.sf_tool.specs.declared.status.Status.TheVariants.{Refused}
 use Rattle.sf_tool.specs.Lines.{lines_of}
+use Rattle.sf_tool.specs.Deciding.{with_cache_control}
 use Rattle.sf_tool.specs.Fields.{Targets, IsFirstRefused, is_refused}
 use Rattle.sf_tool.specs.Marks.{bad_place}
 
@@ -72,6 +74,7 @@ Explains (Check d kind) input text = ExplainsField d kind input text
 Explains (Normalise d kind) input text = ExplainsField d kind input text
 Explains CacheStatus input text = ExplainsPath input text
 Explains (Targeted names) input text = ExplainsLine names.items input text
+Explains (Decide names age) input text = ExplainsLine (with_cache_control names.items) input text
 Explains Priority input text = ExplainsField Rfc9651 kind.Dict input text
 
 -- a text was written, or a prefix of it, and then a write failed

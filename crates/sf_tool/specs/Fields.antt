@@ -125,3 +125,25 @@ MayAllocateAt targets input n =
 abbrev pub IsFaultOf : Targets → List ℕ → InputFault → Type 0
 IsFaultOf targets input (Line n) = IsFirstRefused targets input n
 IsFaultOf targets input OutOfMemory = (n : ℕ) × MayAllocateAt targets input n
+
+-- the same of lines instead of an input: the listed fields if no line is refused
+abbrev pub AreFieldsOf : Targets → List (List ℕ) → Headers → Type 0
+AreFieldsOf targets lines headers =
+    NoneIsRefused targets lines (length lines) × (headers ≡ headers_of targets lines)
+
+-- the number of the first of these lines that is refused
+abbrev pub IsFirstRefusedOf : Targets → List (List ℕ) → ℕ → Type 0
+IsFirstRefusedOf targets lines n =
+    (n < length lines) × IsRefusedAt targets lines n × NoneIsRefused targets lines n
+
+-- a listed field before the first line that is refused, for which an allocation may fail
+abbrev pub MayAllocateAtLine : Targets → List (List ℕ) → ℕ → Type 0
+MayAllocateAtLine targets lines n =
+    (n < length lines)
+    × IsTaken targets (get_or lines n [])
+    × NoneIsRefused targets lines n
+
+-- the first line that is refused; or an allocation failed for a line before any such
+abbrev pub IsFaultOfLines : Targets → List (List ℕ) → InputFault → Type 0
+IsFaultOfLines targets lines (Line n) = IsFirstRefusedOf targets lines n
+IsFaultOfLines targets lines OutOfMemory = (n : ℕ) × MayAllocateAtLine targets lines n

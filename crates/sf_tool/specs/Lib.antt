@@ -14,6 +14,7 @@ pub mod Tree
 pub mod PathLines
 pub mod ChoiceLines
 pub mod PriorityLine
+pub mod Deciding
 pub mod Explaining
 pub mod Run
 pub mod Scanning

@@ -31,7 +31,8 @@ use Rattle.sf_tool.specs.declared.fields.InputFault.{InputFault}
 use Rattle.sf_tool.specs.declared.fields.InputFault.TheVariants as input_fault
 use Rattle.sf_tool.specs.declared.request.Request.{Request}
 use Rattle.sf_tool.specs.declared.request.Request.TheVariants.{Show, Check, Normalise}
-use Rattle.sf_tool.specs.declared.request.Request.TheVariants.{CacheStatus, Targeted, Priority}
+use Rattle.sf_tool.specs.declared.request.Request.TheVariants.{CacheStatus, Targeted, Decide}
+use Rattle.sf_tool.specs.declared.request.Request.TheVariants.{Priority}
 use Rattle.sf_tool.specs.declared.status.Status.{Status}
 use Rattle.sf_tool.specs.declared.status.Status.TheVariants.{Accepted, Refused, Usage, Stopped}
 use Rattle.sf_tool.specs.Lines.{lines_of}
@@ -41,6 +42,7 @@ use Rattle.sf_tool.specs.PathLines.{path_lines, not_a_cache_line}
 use Rattle.sf_tool.specs.Fields.{AreFields, IsFirstRefused, MayAllocateAt}
 use Rattle.sf_tool.specs.ChoiceLines.{choice_lines, refused_line}
 use Rattle.sf_tool.specs.PriorityLine.{priority_line}
+use Rattle.sf_tool.specs.Deciding.{IsDecisionText, with_cache_control}
 use Rattle.sf_tool.specs.Explaining.{ExplainsWith, ExplainsBy, Explains, too_long_words}
 
 -- the length in bytes of the longest input that is read
@@ -117,6 +119,18 @@ ReportsChoice names input text Refused =
 ReportsChoice names input text Usage = ⊥
 ReportsChoice names input text Stopped = ⊥
 
+-- what a cache decides by the fields of these names and Cache-Control that are in the input; or the
+-- line of a refusal for the first line that is refused
+abbrev pub ReportsDecision : List (List ℕ) → ℕ → List ℕ → List ℕ → Status → Type 0
+ReportsDecision names age input text Accepted =
+    (headers : Headers) × AreFields (with_cache_control names) input headers
+    × IsDecisionText names age headers text
+ReportsDecision names age input text Refused =
+    (number : ℕ) × IsFirstRefused (with_cache_control names) input number
+    × (text ≡ refused_line number)
+ReportsDecision names age input text Usage = ⊥
+ReportsDecision names age input text Stopped = ⊥
+
 -- the text and the status for an input within the limit
 abbrev pub Answers : Request → List ℕ → List ℕ → Status → Type 0
 Answers (Show d kind) input text status = Responds d kind tree (joined input) text status
@@ -125,6 +139,7 @@ Answers (Normalise d kind) input text status =
     Responds d kind canonical_line (joined input) text status
 Answers CacheStatus input text status = ReportsPath (joined input) text status
 Answers (Targeted names) input text status = ReportsChoice names.items input text status
+Answers (Decide names age) input text status = ReportsDecision names.items age input text status
 Answers Priority input text status = Responds Rfc9651 kind.Dict priority_of (joined input) text
     status
 
@@ -152,6 +167,7 @@ MayAllocate (Check d kind) input = ¬ (TakesNoMemory kind (joined input))
 MayAllocate (Normalise d kind) input = ¬ (TakesNoMemory kind (joined input))
 MayAllocate CacheStatus input = ⊤
 MayAllocate (Targeted names) input = (n : ℕ) × MayAllocateAt names.items input n
+MayAllocate (Decide names age) input = ⊤
 MayAllocate Priority input = ⊤
 
 -- this is the result for an input; or an allocation failed, for an answer that may allocate, and

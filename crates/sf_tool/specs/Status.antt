@@ -17,7 +17,7 @@ status_of fault.Usage = Usage
 status_of fault.OutOfMemory = Stopped
 
 abbrev pub usage_line : List ℕ
-usage_line = codes "sf: usage: sf show, check or normalise --kind item, list or dict [--dialect rfc8941 or rfc9651]; sf cache-status; sf targeted NAME..; sf priority"
+usage_line = codes "sf: usage: sf show, check or normalise --kind item, list or dict [--dialect rfc8941 or rfc9651]; sf cache-status; sf targeted [--fallback cache-control [--age SECONDS]] NAME..; sf priority"
 
 abbrev pub stopped_line : List ℕ
 stopped_line = codes "sf: out of memory or a device failed"

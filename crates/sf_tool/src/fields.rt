@@ -1,6 +1,7 @@
 //! The listed fields of an input of header lines.
-ghost use Rattle.std.specs.Prelude.{◌≡◌, true, MatchResult, IsTrue};
-ghost use Rattle.sf_tool.specs.Fields.{IsTaken, AreFields, IsFaultOf, is_refused};
+ghost use Rattle.std.specs.Prelude.{◌≡◌, ◌<◌, ◌^◌, true, length, map, MatchResult, IsTrue};
+ghost use Rattle.sf_tool.specs.Fields.{IsTaken, AreFields, AreFieldsOf, IsFaultOf, is_refused};
+ghost use Rattle.sf_tool.specs.Fields.{IsFaultOfLines};
 ghost use Rattle.sf_tool.specs.OneLine.{IsLine, IsLineFault, AddsField};
 
 use crate::cutting::{split_at_first, split_line, trimmed};
@@ -11,8 +12,8 @@ use std::alloc::Global;
 use std::hash::RandomState;
 
 /// Why an input has no header map.
-#[derive(Clone, Copy)]
-pub(crate) enum InputFault {
+#[derive(Clone, Copy, Debug, PartialEq, Eq)]
+pub enum InputFault {
     /// The line of this number is refused, and none before it. Lines are counted from 0, including
     /// empty ones.
     Line(u64),
@@ -129,6 +130,37 @@ pub(crate) fn read_fields(
         }
         number += 1;
         rest = more;
+    }
+    Ok(headers)
+}
+
+/// Returns the listed fields of these lines, as a header map. A line that is not empty is refused if
+/// it is not a header line (RFC 9112 section 5), also for a space before the name, or if it has a
+/// listed name and a value with a control byte other than a tab (RFC 9110 section 5.5).
+///
+/// ```
+/// let lines: [&[u8]; 2] = [b"CDN-Cache-Control: max-age=60", b"Server: x"];
+/// read_field_lines(alloc, &seed, &[CDN_CACHE_CONTROL], &lines) // a map of one field
+/// ```
+pub fn read_field_lines(
+    alloc: Global,
+    seed: &RandomState,
+    targets: &[HeaderName],
+    lines: &[&[u8]],
+) -> Result<HeaderMap, InputFault>
+    requires { length lines.now < 2 ^ 63 }
+    // The listed fields if no line is refused, otherwise the first line that is; OutOfMemory only
+    // for a listed field before it.
+    ensures { MatchResult result (AreFieldsOf targets.now (map (λ line. line.now) lines.now))
+        (IsFaultOfLines targets.now (map (λ line. line.now) lines.now)) }
+{
+    let mut headers = HeaderMap::with_hasher(alloc, *seed);
+    for (number, line) in lines.iter().enumerate() {
+        match take_line(alloc, targets, line, &mut headers) {
+            Ok(()) => {}
+            Err(LineFault::Refused) => return Err(InputFault::Line(number as u64)),
+            Err(LineFault::OutOfMemory) => return Err(InputFault::OutOfMemory),
+        }
     }
     Ok(headers)
 }

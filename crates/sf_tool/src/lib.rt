@@ -1,13 +1,14 @@
 //! The command `sf` as a library: [`read_request`] parses the command line, and [`run`] reads a
 //! source and writes the answer to the request to a sink. In `specs/`, `CommandLine` defines which
-//! arguments make which request; `Texts`, `Tree`, `PathLines`, `ChoiceLines` and `PriorityLine`
-//! define what is printed, and `Explaining` what a terminal shows of a refusal; and `Run` defines
+//! arguments make which request; `Texts`, `Tree`, `PathLines`, `ChoiceLines`, `Deciding` and
+//! `PriorityLine` define what is printed, and `Explaining` what a terminal shows of a refusal; and `Run` defines
 //! what a run reads, answers and writes.
 #![tactic(auto)]
 
 mod answering;
 mod choice;
 mod cutting;
+mod deciding;
 mod explaining;
 mod fields;
 mod header_names;
@@ -26,12 +27,14 @@ mod tree;
 pub use answering::{answer_made, answer_too_long};
 pub use choice::put_policy;
 pub use cutting::{split_at_first, split_line, trimmed, without_lead};
+pub use deciding::put_decision;
 pub use explaining::ErrorStream;
+pub use fields::{InputFault, read_field_lines};
 pub use header_names::header_name;
 pub use marking::{caret_text, line_text, name_end};
 pub use path::put_path;
 pub use priority::put_priority;
 pub use reading::{ReadAllFault, read_all};
-pub use request::{MAX_NAMES, Request, RequestFault, read_request};
+pub use request::{MAX_NAMES, Request, RequestFault, age_of, names_in, read_request};
 pub use running::{INPUT_LIMIT, run};
 pub use status::Status;

@@ -1,6 +1,7 @@
 //! The command line.
 ghost use Rattle.std.specs.Prelude.{◌≡◌, ◌≢◌, ◌↔◌, [], map, true, false, Some, IfOk, IfErr, IsErrAnd};
-ghost use Rattle.std.specs.Prelude.{MatchResult, string_bytes, IsTrue, Err};
+ghost use Rattle.std.specs.Prelude.{MatchResult, string_bytes, IsTrue, Err, ℕ, Option, codes};
+ghost use Rattle.clap.specs.Walk.{first_of};
 ghost use Rattle.clap.specs.Words.{app_of, found_of, kind_of as kind_of_error, rows_of};
 ghost use Rattle.clap.specs.Words.{subcommand_rows_of};
 ghost use Rattle.sf_value.specs.declared.dialect.Dialect.{Dialect};
@@ -9,10 +10,13 @@ ghost use Rattle.sf_tool.specs.declared.request.RequestFault.TheVariants.{Usage}
 ghost use Rattle.sf_tool.specs.Request.{HasFewNames};
 ghost use Rattle.sf_tool.specs.Status.{fault_line, status_of};
 ghost use Rattle.sf_tool.specs.CommandLine.{command_line, kind_command, names_command};
+ghost use Rattle.sf_tool.specs.CommandLine.{name_list, option_of};
+ghost use Rattle.clap.specs.Simple.{new_app, with_rule};
 ghost use Rattle.sf_tool.specs.CommandLine.{NamesKind, NamesDialect, AsksFor, IsRequestOf};
+ghost use Rattle.sf_tool.specs.CommandLine.{AreNames, IsGivenAge, NamesFallback};
 ghost use Rattle.sf_tool.specs.CommandLine.{IsUsageOf, IsStray, IsOption, IsCommand};
 ghost use Rattle.sf_tool.specs.Commands.{AsksAsFound, IsCommandFault, IsFoundFault};
-ghost use Rattle.sf_tool.specs.Commands.{IsTargetedOf, IsNamesFault};
+ghost use Rattle.sf_tool.specs.Commands.{IsNamesFault};
 
 use crate::header_names::header_name;
 use crate::status::Status;
@@ -41,6 +45,11 @@ pub enum Request {
     /// Print which field a cache with this target list obeys, and its policy (RFC 9213). A request
     /// that [`read_request`] returns has from 1 to [`MAX_NAMES`] names.
     Targeted(Vec<HeaderName>),
+    /// Print which field a cache with this target list obeys, or else that `Cache-Control` decides,
+    /// and what the cache decides by it about a response of this age, in seconds (RFC 9111): by RFC
+    /// 8941 and by RFC 9651. A request that [`read_request`] returns has from 1 to [`MAX_NAMES`]
+    /// names.
+    Decide(Vec<HeaderName>, u64),
     /// Print the parameters of a Priority field (RFC 9218).
     Priority,
 }
@@ -78,7 +87,8 @@ impl fmt::Display for RequestFault {
             RequestFault::Usage => write!(
                 f,
                 "sf: usage: sf show, check or normalise --kind item, list or dict \
-                 [--dialect rfc8941 or rfc9651]; sf cache-status; sf targeted NAME..; sf priority"
+                 [--dialect rfc8941 or rfc9651]; sf cache-status; \
+                 sf targeted [--fallback cache-control [--age SECONDS]] NAME..; sf priority"
             ),
             RequestFault::OutOfMemory => write!(f, "sf: out of memory or a device failed"),
         }
@@ -92,9 +102,10 @@ impl Error for RequestFault {}
 /// `show`, `check` and `normalise` take `--kind item`, `--kind list` or `--kind dict`, and may take
 /// `--dialect rfc8941` or `--dialect rfc9651`, which is the default. `cache-status` and `priority`
 /// take nothing. `targeted` takes from 1 to [`MAX_NAMES`] header names (RFC 9110 section 5.1); a
-/// name that begins with a hyphen has to follow `--`. Everything else is `Usage`, including a
-/// request for help. A first argument that is no option and no command is found without an
-/// allocation.
+/// name that begins with a hyphen has to follow `--`. It may take `--fallback cache-control`, and
+/// with that `--age` and a number of seconds below 2^64, which is 0 if it is not given. Everything
+/// else is `Usage`, including a request for help. A first argument that is no option and no command
+/// is found without an allocation.
 ///
 /// ```
 /// let request = read_request(alloc, words.as_slice())?; // sf targeted CDN-Cache-Control
@@ -214,11 +225,33 @@ fn with_kind<'a>(alloc: Global, name: &'a str) -> Result<Command<'a>, AllocError
     Command::new(alloc, name).arg(kind)?.arg(dialect)
 }
 
-/// Returns a command that takes one name or more.
+/// Returns a command that takes one name or more, and may take a fallback and an age.
 fn with_names<'a>(alloc: Global, name: &'a str) -> Result<Command<'a>, AllocError>
-    // It takes one name or more, and has no subcommands.
+    // It takes one name or more, `--fallback` and `--age`, and has no subcommands.
     ensures { IfOk result
         (λ c. app_of c ≡ record { top = names_command name.entry.now; subs = [] }) }
+{
+    let command = with_name_list(alloc, name)?;
+    let command = with_option(alloc, command, "fallback")?;
+    with_option(alloc, command, "age")
+}
+
+/// Returns a command that takes one option more, with a value.
+fn with_option<'a>(
+    alloc: Global,
+    command: Command<'a>,
+    name: &'a str,
+) -> Result<Command<'a>, AllocError>
+    ensures { IfOk result
+        (λ c. app_of c ≡ with_rule (app_of command.entry) (option_of name.entry.now)) }
+{
+    command.arg(Arg::new(alloc, name).long(name))
+}
+
+/// Returns a command that takes one name or more.
+fn with_name_list<'a>(alloc: Global, name: &'a str) -> Result<Command<'a>, AllocError>
+    // It takes one name or more, and has no subcommands.
+    ensures { IfOk result (λ c. app_of c ≡ with_rule (new_app name.entry.now) name_list) }
 {
     let names = Arg::new(alloc, "name")
         .required(true)
@@ -238,10 +271,7 @@ fn request_of(alloc: Global, name: &str, given: &ArgMatches<'_>) -> Result<Reque
         "check" => Ok(Request::Check(dialect_of(given)?, kind_of(given)?)),
         "normalise" => Ok(Request::Normalise(dialect_of(given)?, kind_of(given)?)),
         "cache-status" => Ok(Request::CacheStatus),
-        "targeted" => match given.get_strs("name") {
-            Some(names) => targeted(alloc, names),
-            None => Err(RequestFault::Usage),
-        },
+        "targeted" => targeted(alloc, given),
         "priority" => Ok(Request::Priority),
         _ => Err(RequestFault::Usage),
     }
@@ -282,10 +312,64 @@ fn kind_of(given: &ArgMatches<'_>) -> Result<Kind, RequestFault>
     }
 }
 
-/// Returns the request with these words as its names.
-fn targeted(alloc: Global, words: &[&str]) -> Result<Request, RequestFault>
-    // The request for these names, or why there is none.
-    ensures { MatchResult result (IsTargetedOf (map (λ w. w.now) words.now))
+/// Returns the request of `targeted` and its arguments.
+fn targeted(alloc: Global, given: &ArgMatches<'_>) -> Result<Request, RequestFault>
+    // The request that they make; Usage only if there is none; OutOfMemory only for names.
+    ensures { MatchResult result (AsksFor (codes "targeted") (rows_of (found_of given.now)))
+        (IsCommandFault (codes "targeted") (rows_of (found_of given.now))) }
+{
+    let fallback = fallback_of(given)?;
+    let Some(words) = given.get_strs("name") else {
+        return Err(RequestFault::Usage);
+    };
+    let names = names_in(alloc, words)?;
+    match fallback {
+        Some(age) => return Ok(Request::Decide(names, age)),
+        None => return Ok(Request::Targeted(names)),
+    }
+}
+
+/// Returns the age that was given as `--age`, in seconds, a number below 2^64; `None` if none was
+/// given. Does not allocate.
+pub fn age_of(given: &ArgMatches<'_>) -> Result<Option<u64>, RequestFault>
+    // The age that is named; Usage if what is named is no number of seconds.
+    ensures { MatchResult result (IsGivenAge (first_of (codes "age") (rows_of (found_of given.now))))
+        (λ fault. (fault ≡ Usage) × ((age : Option ℕ)
+        → ¬ (IsGivenAge (first_of (codes "age") (rows_of (found_of given.now))) age))) }
+{
+    let Some(word) = given.get_str("age") else {
+        return Ok(None);
+    };
+    match word.parse::<u64>() {
+        Ok(age) => return Ok(Some(age)),
+        Err(_) => return Err(RequestFault::Usage),
+    }
+}
+
+/// Returns the age that was given with a fallback, or 0; None if neither was given.
+fn fallback_of(given: &ArgMatches<'_>) -> Result<Option<u64>, RequestFault>
+    // What is given; Usage if that is no fallback and age.
+    ensures { MatchResult result (NamesFallback (rows_of (found_of given.now)))
+        (λ fault. (fault ≡ Usage)
+        × ((age : Option ℕ) → ¬ (NamesFallback (rows_of (found_of given.now)) age))) }
+{
+    let age = age_of(given)?;
+    let Some(word) = given.get_str("fallback") else {
+        return match age {
+            Some(_) => Err(RequestFault::Usage),
+            None => Ok(None),
+        };
+    };
+    match word {
+        "cache-control" => return Ok(Some(age.unwrap_or(0))),
+        _ => return Err(RequestFault::Usage),
+    }
+}
+
+/// Returns the header names that these words are, in lower case: from 1 to [`MAX_NAMES`].
+pub fn names_in(alloc: Global, words: &[&str]) -> Result<Vec<HeaderName>, RequestFault>
+    // These names, or why they are none.
+    ensures { MatchResult result (λ names. AreNames (map (λ w. w.now) words.now) names.items)
         (IsNamesFault (map (λ w. w.now) words.now)) }
 {
     if words.is_empty() || words.len() > MAX_NAMES {
@@ -303,5 +387,5 @@ fn targeted(alloc: Global, words: &[&str]) -> Result<Request, RequestFault>
             return Err(RequestFault::OutOfMemory);
         };
     }
-    Ok(Request::Targeted(names))
+    Ok(names)
 }

@@ -10,6 +10,7 @@ ghost use Rattle.sf_tool.specs.declared.request.Request.TheVariants as request_i
 ghost use Rattle.sf_tool.specs.declared.status.Status.TheVariants as status_is;
 ghost use Rattle.sf_tool.specs.Lines.{lines_of as lines_in};
 ghost use Rattle.sf_tool.specs.ChoiceLines.{choice_lines, IsPlaceOf};
+ghost use Rattle.sf_tool.specs.Deciding.{with_cache_control as names_with};
 ghost use Rattle.sf_tool.specs.Explaining.{ExplainsWith, Explains, ExplainsField, ExplainsLine};
 ghost use Rattle.sf_tool.specs.Explaining.{ExplainsPath};
 ghost use Rattle.sf_tool.specs.Run.{Runs, Reports, ReportsInputFault, ReportsText};
@@ -21,6 +22,7 @@ use crate::answering::{
     answer_view,
 };
 use crate::cutting::InputLines;
+use crate::deciding::{decision_text, with_cache_control};
 use crate::explaining::{
     ErrorStream, bad_line_in_words, explain_too_long, no_cache_in_words, refusal_in_words, show,
 };
@@ -55,10 +57,10 @@ pub const INPUT_LIMIT: u64 = 1_048_576;
 /// at a time, and the whole answer is sent to the sink at once if it can be allocated.
 ///
 /// The explanation is the error message of the refusal and its line with a caret, or the member
-/// that names no cache; a line of [`Request::Targeted`] that is refused because the header map is
-/// full has none. To explain an input, it is parsed a second time. If an allocation for that fails,
-/// nothing is explained; if a write of it fails, that is not reported. Neither changes the result
-/// or what was written to the sink.
+/// that names no cache; a line of [`Request::Targeted`] or [`Request::Decide`] that is refused because
+/// the header map is full has none. To explain an input, it is parsed a second time. If an allocation
+/// for that fails, nothing is explained; if a write of it fails, that is not reported. Neither changes
+/// the result or what was written to the sink.
 ///
 /// ```
 /// let request = Request::Normalise(Dialect::Rfc9651, Kind::Item);
@@ -386,6 +388,33 @@ fn targeted<W: Sink>(
     }
 }
 
+/// Writes what a cache decides by the fields with these names or by `Cache-Control`, or which input
+/// line is refused.
+fn decide<W: Sink>(
+    alloc: Global,
+    seed: &RandomState,
+    names: &Vec<HeaderName>,
+    age: u64,
+    input: &[u8],
+    sink: &mut W,
+) -> Status
+    // The whole answer was written; or a prefix of it, and a write failed; or nothing.
+    ensures { Reports (request_is.Decide names.now age) input.now
+        (W.state sink.old) (W.state sink.new) result }
+{
+    let Ok(read) = with_cache_control(alloc, names.as_slice()) else {
+        return Status::Stopped;
+    };
+    let headers = match read_fields(alloc, seed, read.as_slice(), input) {
+        Ok(headers) => headers,
+        Err(fault) => return answer_input_fault(fault, sink),
+    };
+    match decision_text(alloc, seed, names.as_slice(), age, &headers) {
+        Ok(text) => return answer_made(text.as_slice(), Status::Accepted, sink),
+        Err(_) => return Status::Stopped,
+    }
+}
+
 /// Answers a request for the input.
 fn answer<W: Sink>(
     alloc: Global,
@@ -410,17 +439,27 @@ fn answer<W: Sink>(
         }
         Request::CacheStatus => cache_status(alloc, seed, input, sink),
         Request::Targeted(names) => targeted(alloc, seed, names, input, sink),
+        Request::Decide(names, age) => decide(alloc, seed, names, *age, input, sink),
         Request::Priority => priority(alloc, seed, input, sink),
     }
 }
 
+/// The capacity for the line that answers a check.
+const LINE: usize = 1024;
+
 /// Returns an empty text with the capacity for most answers to an input of this length, or without
-/// capacity if the allocation fails.
-fn buffer_for(alloc: Global, length: usize) -> Vec<u8>
+/// capacity if the allocation fails. A canonical text is seldom longer than half as much again: a
+/// comma between members of one byte becomes a comma and a space.
+fn buffer_for(alloc: Global, request: &Request, length: usize) -> Vec<u8>
     requires { length ≤ input_limit }
     ensures { result.items ≡ [] }
 {
-    match Vec::with_capacity(alloc, 2 * length) {
+    let capacity = match request {
+        Request::Check(_, _) => LINE.min(2 * length),
+        Request::Normalise(_, _) => length + length / 2 + 1,
+        _ => 2 * length,
+    };
+    match Vec::with_capacity(alloc, capacity) {
         Ok(text) => text,
         Err(_) => Vec::new(alloc),
     }
@@ -439,7 +478,7 @@ fn answer_at_once<W: Sink>(
     // The whole answer was written; or a prefix of it, and a write failed; or nothing.
     ensures { Reports request.now input.now (W.state sink.old) (W.state sink.new) result }
 {
-    let mut made = Writing::new(buffer_for(alloc, input.len()));
+    let mut made = Writing::new(buffer_for(alloc, request, input.len()));
     match answer(alloc, seed, request, input, &mut made) {
         Status::Accepted => {
             let text = made.into_inner();
@@ -491,6 +530,23 @@ fn explain_line(
         Err(InputFault::Line(number)) => return bad_line_in_words(alloc, names, number, input),
         _ => return None,
     }
+}
+
+/// The same for a request that reads `Cache-Control`, too.
+fn explain_decided(
+    alloc: Global,
+    seed: &RandomState,
+    names: &Vec<HeaderName>,
+    input: &[u8],
+) -> Option<Vec<u8>>
+    requires { length input.now ≤ input_limit }
+    ensures { IfSome result
+        (λ text. ExplainsLine (names_with names.now.items) input.now text.items) }
+{
+    let Ok(read) = with_cache_control(alloc, names.as_slice()) else {
+        return None;
+    };
+    explain_line(alloc, seed, read.as_slice(), input)
 }
 
 /// Returns the message that explains why the input's field is refused; None if it is not, or if an
@@ -546,6 +602,7 @@ fn explanation(
         }
         Request::CacheStatus => return explain_path(alloc, seed, input),
         Request::Targeted(names) => return explain_line(alloc, seed, names.as_slice(), input),
+        Request::Decide(names, _) => return explain_decided(alloc, seed, names, input),
         Request::Priority => {
             return explain_field(alloc, seed, Dialect::Rfc9651, Kind::Dict, input);
         }

@@ -61,7 +61,8 @@ impl Status {
             Status::Refused => None,
             Status::Usage => Some(
                 "sf: usage: sf show, check or normalise --kind item, list or dict \
-                 [--dialect rfc8941 or rfc9651]; sf cache-status; sf targeted NAME..; sf priority",
+                 [--dialect rfc8941 or rfc9651]; sf cache-status; \
+                 sf targeted [--fallback cache-control [--age SECONDS]] NAME..; sf priority",
             ),
             Status::Stopped => Some("sf: out of memory or a device failed"),
         }

@@ -8,12 +8,12 @@ use Rattle.sf_value.specs.Grammar.Lines.{join}
 use Rattle.sf_use.specs.declared.caching.CacheRules.{CacheRules}
 use Rattle.sf_field.specs.Headers.{Headers, lines_under}
 use Rattle.sf_use.specs.CacheControl.{AreNoCacheControl, CacheDirective, HaveCacheRules}
-use Rattle.sf_use.specs.CacheControl.{IsFallback, refused_rules}
+use Rattle.sf_use.specs.CacheControl.{IsFallback, IsNoCacheControl, refused_rules}
 use Rattle.sf_use.specs.CacheControl.{SpellsCacheControl, SpellsCacheControlLines, SpellsElement}
 use Rattle.sf_use.specs.CacheControl.{SpellsElements, cache_rules, directives}
 use Rattle.sf_use.specs.CacheControlLaws.{LinesAreOneList, OneMeaning}
 use Rattle.sf_use.specs.CacheControlSteps.{ReadsFrom, with_directive, with_directives}
-use Rattle.sf_use.proofs.CacheControlRules.{rules_of_all}
+use Rattle.sf_use.proofs.CacheControlRules.{rules_after, rules_of_all}
 use Rattle.sf_use.proofs.CacheControlTexts.{one_reading}
 
 -- the rules after the directives of lines; None if one is no list of directives
@@ -49,6 +49,30 @@ more_lines r q line lines (Some p) (parts, spelled, same) (fs, more, is) = (
 pub read_lines : (r : CacheRules) (lines : List (List ℕ)) → ReadsLines (cache_rules []) lines (Some r)
     → HaveCacheRules lines r
 read_lines r lines (ds, spelled, same) = (ds, spelled, same ∙ rules_of_all ds)
+
+-- one more line after others
+line_more : (lines : List (List ℕ)) (line : List ℕ) (ds es : List CacheDirective)
+    → SpellsCacheControlLines lines ds → SpellsCacheControl line es
+    → SpellsCacheControlLines (lines ++ line ∷ []) (ds ++ es)
+line_more [] line ds es none spelled =
+    (es, [], spelled, refl, ap (λ s. s ++ es) none ∙ sym (append-nil es))
+line_more (first ∷ lines) line ds es (fs, gs, one, more, same) spelled = (
+  fs,
+  gs ++ es,
+  one,
+  line_more lines line gs es more spelled,
+  ap (λ s. s ++ es) same ∙ append_assoc fs gs es,
+)
+
+pub as_more : (lines : List (List ℕ)) (line : List ℕ) (r : CacheRules) (o : Option CacheRules)
+    → ReadsFrom r line o → HaveCacheRules lines r
+    → MatchOption o (IsNoCacheControl line) (HaveCacheRules (lines ++ line ∷ []))
+as_more lines line r None none have = λ ds (es, spelled, same). none es spelled
+as_more lines line r (Some q) (es, spelled, same) (ds, listed, is) = (
+  ds ++ directives es,
+  line_more lines line ds (directives es) listed (es, spelled, refl),
+  same ∙ ap (λ s. with_directives s (directives es)) is ∙ rules_after ds (directives es),
+)
 
 pub one_meaning : OneMeaning
 one_meaning t ds es (parts, spelled, e) (others, spelling, f) =

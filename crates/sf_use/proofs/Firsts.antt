@@ -34,11 +34,11 @@ module _ (dialect : Dialect) where
       → All (Silent h) ns
   silent_tail h n ns a = λ k d lt. a (suc k) d (omega arith)
 
-  first_behind : (i : ℕ) (n : List ℕ) (ns : List (List ℕ)) (h : Headers) (c : Choice)
+  first_after : (i : ℕ) (n : List ℕ) (ns : List (List ℕ)) (h : Headers) (c : Choice)
       → Silent h n → FirstFrom (i + 1) ns h c → FirstFrom i (n ∷ ns) h c
-  first_behind i n ns h (choice.Field index p) s (k, name, e, at, o, before) =
+  first_after i n ns h (choice.Field index p) s (k, name, e, at, o, before) =
       (suc k, name, omega (arith, e), at, o, All-cons (Silent h) n (take k ns) s before)
-  first_behind i n ns h choice.Fallback s a = All-cons (Silent h) n ns s a
+  first_after i n ns h choice.Fallback s a = All-cons (Silent h) n ns s a
 
   first_from : (i : ℕ) (names : List (List ℕ)) (h : Headers) (c : Choice)
       → IsChosenFromIn dialect i names h c → FirstFrom i names h c
@@ -46,7 +46,7 @@ module _ (dialect : Dialect) where
   first_from i (n ∷ ns) h c (inl (p, o, e)) =
       subst (FirstFrom i (n ∷ ns) h) (sym e) (0, n, omega arith, refl, o, All-nil (Silent h))
   first_from i (n ∷ ns) h c (inr (s, x)) =
-      first_behind i n ns h c s (first_from (i + 1) ns h c x)
+      first_after i n ns h c s (first_from (i + 1) ns h c x)
 
   chosen_from : (i : ℕ) (names : List (List ℕ)) (h : Headers) (c : Choice)
       → FirstFrom i names h c → IsChosenFromIn dialect i names h c

@@ -1,7 +1,7 @@
 //! `Cache-Control` (RFC 9111 section 5.2), which is no structured field, read by its own grammar: the
 //! field that decides if no targeted field does ([`crate::RulesChoice::Fallback`]).
-ghost use Rattle.std.specs.Prelude.{◌≡◌, ◌≤◌, ◌||◌, ℕ, List, [], ◌∷◌, length, false, Option, Some, None};
-ghost use Rattle.std.specs.Prelude.{MatchOption};
+ghost use Rattle.std.specs.Prelude.{◌≡◌, ◌≤◌, ◌||◌, ℕ, List, [], ◌∷◌, ◌++◌, length, false, Option};
+ghost use Rattle.std.specs.Prelude.{MatchOption, Some, None};
 ghost use Rattle.std.specs.List.{prefix_len};
 ghost use Rattle.sf_value.specs.Grammar.Classes.{is_ows as is_ows_byte, is_tchar as is_tchar_byte};
 ghost use Rattle.sf_use.specs.CacheControl.{HasCacheRules, IsFallback, IsNoCacheControl};
@@ -72,6 +72,24 @@ impl CacheRules {
             rules = rules_from(rules, line)?;
         }
         Some(rules)
+    }
+
+    /// Returns the rules of the lines of `Cache-Control` that these are of, and of one more line
+    /// after them: what [`CacheRules::of_cache_control_lines`] reads if lines come one by one. The
+    /// default has the rules of no line. `None` if the line is no list of directives; no line after
+    /// it counts then. Does not allocate.
+    ///
+    /// ```
+    /// let one = CacheRules::default().with_cache_control(b"max-age=60")?;
+    /// one.with_cache_control(b"private") // max_age of 60, and is_private
+    /// ```
+    pub fn with_cache_control(self, line: &[u8]) -> Option<CacheRules>
+        // The rules of all lines, or None if this one spells no list.
+        ensures { (lines : List (List ℕ)) → HaveCacheRules lines self
+            → MatchOption result (IsNoCacheControl line.now)
+            (HaveCacheRules (lines ++ line.now ∷ [])) }
+    {
+        rules_from(self, line)
     }
 }
 

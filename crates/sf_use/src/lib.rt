@@ -30,7 +30,7 @@ pub use cache_status::{
     HopView, Name, NameView, Outcome, Passed, append_hop, append_to_lines,
 };
 pub use caching::{CacheKind, CacheRules, Cause, Decision, GREATEST_SECONDS, Lifetime, Reuse};
-pub use expires::expires_lifetime;
+pub use expires::{expires_lifetime, expires_of, http_time};
 pub use priority::{Asked, Priority, PriorityField, Urgency, merge, priority_field};
 pub use priority_update::update_priority;
 pub use response_priority::{ResponsePriority, ResponsePriorityField, response_priority_field};

@@ -141,14 +141,14 @@ unfolding param_weight
 params_total [] = refl
 params_total (p ∷ ps) = omega (arith, params_total ps, lengths)
 
-behind_short : (m : Member) → length (canon_behind m) ≤ 1 + length (canon_member m)
-behind_short (member.Item i) = flag_short i.bare i.params
+after_short : (m : Member) → length (canon_behind m) ≤ 1 + length (canon_member m)
+after_short (member.Item i) = flag_short i.bare i.params
   where
     flag_short : (x : Bare) (ps : Pairs Bare)
         → length (canon_flag x ps) ≤ 1 + length (canon_bare x ++ canon_params ps)
     flag_short (Boolean true) ps = omega arith
     flag_short x ps = omega arith
-behind_short (member.Inner l) = omega arith
+after_short (member.Inner l) = omega arith
 
 pub key_some : (k : List ℕ) → IsKey k → 1 ≤ length k
 key_some [] w = absurd w
@@ -292,7 +292,7 @@ module _ (d : Dialect) where
   entry_text : (p : List ℕ × Member) (t : List ℕ) → SpellsEntry d t p
       → 5 * length (canon_entry p) + 2 ≤ 8 * length t
   entry_text p t (suffix, w, inl (e, s)) =
-      omega (arith, member_text p.1 suffix s, behind_short p.1, ap length e, lengths)
+      omega (arith, member_text p.1 suffix s, after_short p.1, ap length e, lengths)
   entry_text p t (suffix, w, inr (ps, i, e, s)) =
       omega (
         arith,

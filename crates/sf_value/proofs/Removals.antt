@@ -18,9 +18,9 @@ use Rattle.sf_value.proofs.SlotLists.{place, has_key, place_missing, Searched}
 
 module _ {V : Type 0} (k : List ℕ) where
   -- after the pair that has the key there is none
-  without-behind : (q : List ℕ) (ps : Pairs V) → IsAbsent q ps → bytes_eq k q ≡ true
+  without-strip_byte : (q : List ℕ) (ps : Pairs V) → IsAbsent q ps → bytes_eq k q ≡ true
       → ps ≡ without k ps
-  without-behind q ps h t =
+  without-strip_byte q ps h t =
       sym (without-absent k ps (subst (λ l. IsAbsent l ps) (sym (same_text k q (sym t))) h))
 
   slots-without : (ss : List (Slot V)) (i : ℕ) → HasDistinctKeys (slot_pairs ss)
@@ -36,7 +36,7 @@ module _ {V : Type 0} (k : List ℕ) where
           → slot_pairs (remove (s ∷ ss) i) ≡ without k (slot_pairs (s ∷ ss))
       by true t r f rest =
           let zero : i ≡ 0 = (let h : Some 0 ≡ Some i = rw t at e in cc) in
-          rw (zero, t) (without-behind s.key (slot_pairs ss) d.0 t)
+          rw (zero, t) (without-strip_byte s.key (slot_pairs ss) d.0 t)
       by false t None f rest = absurd (let h : None ≡ Some i = rw (t, f) at e in cc)
       by false t (Some j) f rest =
           let next : i ≡ suc j = (let h : Some (suc j) ≡ Some i = rw (t, f) at e in cc) in
@@ -61,7 +61,7 @@ module _ {V : Type 0} (k : List ℕ) where
     where
       by : (b : Bool) → bytes_eq k p.0 ≡ b → shift_remove_entry (bytes_eq k) ps ≡ without k ps
           → shift_remove_entry (bytes_eq k) (p ∷ ps) ≡ without k (p ∷ ps)
-      by true t rest = rw t (without-behind p.0 ps d.0 t)
+      by true t rest = rw t (without-strip_byte p.0 ps d.0 t)
       by false t rest = rw t (ap (λ qs. p ∷ qs) rest)
 
   pub entries-without : (ps qs : Pairs V) → AreEntries ps → qs ≡ without k ps → AreEntries qs

@@ -1,13 +1,13 @@
 -- Vectors of 16 bytes, each tested at once.
-use Rattle.std.proofs.Common.{◌≡◌, ℕ, zero, suc, ◌+◌, ◌-◌, ◌%◌, ◌^◌, ◌<◌, ◌≤◌, eqb, leb, ltb}
+use Rattle.std.proofs.Common.{◌≡◌, ℕ, zero, suc, ◌+◌, ◌-◌, ◌%◌, ◌^◌, ◌<◌, eqb, leb, ltb}
 use Rattle.std.proofs.Common.{Bool, true, false, not, cond, bit_and, bit_or, List, [], ◌∷◌}
 use Rattle.std.proofs.Common.{map, length, take, replicate, Fits, w8, refl, sym, ap, ap₂, ◌∙◌}
 use Rattle.std.proofs.Common.{subst, arith}
 use Rattle.std.proofs.lemmas.Bool.{agree_below, agree_below_at}
+use Rattle.std.proofs.Math.Seq.{take-length}
 use Rattle.std.proofs.lemmas.List.{length-map}
-use Rattle.std.proofs.lemmas.List.Sums.{prefix_len-le-length}
 use Rattle.std.proofs.lemmas.Simd.{zip2_splat, zip2_splat_left, zip2_of_maps, map-map}
-use Rattle.std.proofs.lemmas.Simd.{mask_l-mod, trailing_mask_l, length-chunk}
+use Rattle.std.proofs.lemmas.Simd.{mask_l-mod, trailing_mask_l, leading_from_mask_l}
 use Rattle.std.specs.List.{prefix_len}
 use lib.Count.{count_trailing_zeros}
 use lib.Lanes.{zip2, mask_l, top, chunk, Each1}
@@ -69,36 +69,46 @@ pub neither : (v : List ℕ) (f : ℕ → ℕ) {xs : List ℕ} → xs ≡ map f 
     → map (λ a. 2 ^ 8 - 1 - a) xs ≡ map (λ b. 2 ^ 8 - 1 - f b) v
 neither v f e = ap (map (λ a. 2 ^ 8 - 1 - a)) e ∙ map-map (λ a. 2 ^ 8 - 1 - a) f v
 
+-- how many pass the test before the first that fails it
+module _ (test : ℕ → Bool) (t : List ℕ) (mask : ℕ) (long : length t ≡ 16)
+    (is_mask : mask ≡ mask_l (map (λ b. not (test b)) (chunk 0 16 t))) where
+  whole : chunk 0 16 t ≡ t
+  whole = subst (λ n. take n t ≡ t) long (take-length t)
+
+  masks_all : mask ≡ mask_l (map (λ b. not (test b)) t)
+  masks_all = is_mask ∙ ap (λ s. mask_l (map (λ b. not (test b)) s)) whole
+
+  not_not : (x : Bool) → not (not x) ≡ x
+  not_not true = refl
+  not_not false = refl
+
+  twice : (s : List ℕ) → prefix_len (λ b. not (not (test b))) s ≡ prefix_len test s
+  twice [] = refl
+  twice (b ∷ s) = ap₂ (λ x n. cond x (1 + n) 0) (not_not (test b)) (twice s)
+
+  pub all_lanes : mask ≡ 0 → 16 ≡ prefix_len test t
+  all_lanes h =
+      sym long
+      ∙ sym (leading_from_mask_l (λ b. not (test b)) t (sym masks_all ∙ h))
+      ∙ twice t
+
+  pub lanes_before : 0 < mask → count_trailing_zeros 64 mask ≡ prefix_len test t
+  lanes_before h =
+      ap (count_trailing_zeros 64) masks_all
+      ∙ trailing_mask_l (λ b. not (test b)) 64 t (omega (arith, long)) (omega (arith, masks_all, h))
+      ∙ twice t
+
 -- the bytes before the first that fails the test pass it
-every_first : (test : ℕ → Bool) (n : ℕ) (t : List ℕ)
-    → Every test (take (prefix_len (λ b. not (not (test b))) (take n t)) t)
-every_first test zero t = tt
-every_first test (suc n) [] = tt
-every_first test (suc n) (b ∷ t) =
-    by (test b) refl (prefix_len (λ c. not (not (test c))) (take n t)) (every_first test n t)
+pub every_before : (test : ℕ → Bool) (n : ℕ) (t : List ℕ)
+    → Every test (take (prefix_len test (take n t)) t)
+every_before test zero t = tt
+every_before test (suc n) [] = tt
+every_before test (suc n) (b ∷ t) =
+    by (test b) refl (prefix_len test (take n t)) (every_before test n t)
   where
     by : (x : Bool) → test b ≡ x → (m : ℕ) → Every test (take m t)
-        → Every test (take (cond (not (not x)) (1 + m) 0) (b ∷ t))
+        → Every test (take (cond x (1 + m) 0) (b ∷ t))
     by true e m h =
         let one : suc m ≡ 1 + m = omega arith in
         subst (λ r. Every test (take r (b ∷ t))) one (e, h)
     by false e m h = tt
-
-module _ (test : ℕ → Bool) (t : List ℕ) (n mask : ℕ) (long : n ≤ length t) (few : n ≤ 64)
-    (is_mask : mask ≡ mask_l (map (λ b. not (test b)) (chunk 0 n t))) where
-  abbrev passes : ℕ → Bool
-  passes b = not (not (test b))
-
-  some : 0 < mask → count_trailing_zeros 64 mask ≡ prefix_len passes (chunk 0 n t)
-  some h =
-      ap (count_trailing_zeros 64) is_mask
-      ∙ trailing_mask_l (λ b. not (test b)) 64 (chunk 0 n t)
-      (omega (arith, length-chunk 0 n t (omega arith))) (omega (arith, is_mask))
-
-  pub first_within : 0 < mask → count_trailing_zeros 64 mask ≤ n
-  first_within h =
-      let long = length-chunk 0 n t (omega arith) in
-      omega (arith, some h, prefix_len-le-length passes (chunk 0 n t), long)
-
-  pub first_lanes : 0 < mask → Every test (take (count_trailing_zeros 64 mask) t)
-  first_lanes h = subst (λ r. Every test (take r t)) (sym (some h)) (every_first test n t)

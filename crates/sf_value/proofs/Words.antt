@@ -28,18 +28,18 @@ pub every_from_place : (p : ℕ → Bool) (bs : List ℕ) → bad_place p bs ≡
 every_from_place p bs h = every_from_length p bs (grind (arith, nat_tests))
 
 -- the search goes on after bytes that pass
-position_behind : (p : ℕ → Bool) (run rest : List ℕ) → Every p run
+position_after : (p : ℕ → Bool) (run rest : List ℕ) → Every p run
     → position_or_len (λ b. not (p b)) (run ++ rest)
     ≡ length run + position_or_len (λ b. not (p b)) rest
-position_behind p [] rest h = omega arith
-position_behind p (b ∷ run) rest h =
-    let more = position_behind p run rest h.1 in
+position_after p [] rest h = omega arith
+position_after p (b ∷ run) rest h =
+    let more = position_after p run rest h.1 in
     rw h.0 (omega (arith, more))
 
 pub bad_after_run : (p : ℕ → Bool) (run rest : List ℕ) → Every p run
     → bad_place p (run ++ rest) ≡ option_map (λ i. length run + i) (bad_place p rest)
 bad_after_run p run rest h =
-    let place = position_behind p run rest h in
+    let place = position_after p run rest h in
     let long = length-append run rest in
     grind (arith, nat_tests)
 

@@ -1,12 +1,13 @@
 //! Classes of bytes (RFC 9651 section 3), and what a text begins with: runs of them, and single
 //! bytes. A class is a type; each is tested here, once, for values, parsers and writers.
 ghost use Rattle.std.specs.Prelude.{◌≡◌, ◌≢◌, ◌≤◌, ◌*◌, ◌++◌, [], ◌∷◌, ℕ, Bool, true, false};
-ghost use Rattle.std.specs.Prelude.{length, take, IfSome};
+ghost use Rattle.std.specs.Prelude.{length, take, not, IfSome};
+ghost use Rattle.std.specs.List.{prefix_len};
 ghost use Rattle.sf_value.specs.Grammar.Words.{Every};
 ghost use Rattle.sf_value.specs.Grammar.Classes.{is_in_key, is_in_token, is_key_start, is_sp};
 ghost use Rattle.sf_value.specs.Grammar.Classes.{is_ows as is_ows_byte, is_token_start};
 ghost use Rattle.sf_value.specs.Grammar.Classes.{is_visible as is_visible_byte};
-ghost use Rattle.sf_value.specs.Grammar.Strings.{is_unescaped};
+ghost use Rattle.sf_value.specs.Grammar.Strings.{is_unescaped, is_escaped};
 ghost use Rattle.sf_value.specs.Grammar.ByteSequences.{is_base64};
 ghost use Rattle.sf_value.specs.Grammar.DisplayStrings.{is_unencoded};
 
@@ -86,6 +87,10 @@ pub struct Visible;
 /// A byte of a string that is written without a backslash (section 4.1.6).
 pub struct Unescaped;
 
+/// A byte before which no backslash is written, whether or not a string may have it (section
+/// 4.1.6).
+pub struct NoBackslash;
+
 /// A byte of a display string that is written without an escape (section 4.1.11).
 pub struct UnencodedByte;
 
@@ -152,6 +157,15 @@ impl ByteClass for Unescaped {
     }
 }
 
+impl ByteClass for NoBackslash {
+    ghost test = { λ b. not (is_escaped b) };
+
+    #[inline]
+    fn has(byte: u8) -> bool {
+        (byte != b'"') & (byte != b'\\')
+    }
+}
+
 impl ByteClass for UnencodedByte {
     ghost test = { is_unencoded };
 
@@ -188,6 +202,19 @@ impl ByteClass for Ows {
     }
 }
 
+/// The number of bytes of the class that these bytes begin with. It does not allocate.
+#[inline(always)]
+pub fn prefix_of_16<C: LaneClass>(bytes: &[u8; 16]) -> usize
+    ensures { result ≡ prefix_len C.test bytes.now }
+{
+    let outside = C::outside(u8x16::from_slice(bytes));
+    if outside == 0 {
+        LANES
+    } else {
+        outside.trailing_zeros() as usize
+    }
+}
+
 /// The number of bytes of the class that the first 16 bytes of the text begin with.
 #[inline(always)]
 fn first_lanes<C: LaneClass>(text: &[u8]) -> usize
@@ -196,12 +223,10 @@ fn first_lanes<C: LaneClass>(text: &[u8]) -> usize
     // All of these bytes are of the class.
     ensures every { Every C.test (take result text.now) }
 {
-    let outside = C::outside(u8x16::from_slice(text));
-    if outside == 0 {
-        LANES
-    } else {
-        outside.trailing_zeros() as usize
-    }
+    let Some((lanes, _)) = text.split_first_chunk::<LANES>() else {
+        unreachable!()
+    };
+    prefix_of_16::<C>(lanes)
 }
 
 /// Whether the first 16 bytes of the text are all of the class.
@@ -261,11 +286,11 @@ fn far_run<C: LaneClass>(text: &[u8]) -> usize
     run + lanes_run::<C>(&text[run..])
 }
 
-/// The number of bytes of the class that the text begins with. A run that is long already is likely
-/// to go on, and is then tested 32 bytes at a time. It is not inlined, so that a short run doesn't
-/// pay for loading its constants.
+/// The number of bytes of the class that the text begins with, 16 at a time. A run that is long
+/// already is likely to go on, and is then tested 32 bytes at a time. It does not allocate. It is
+/// not inlined, so that a short run doesn't pay for loading its constants.
 #[inline(never)]
-fn long_run<C: LaneClass>(text: &[u8]) -> usize
+pub fn long_run<C: LaneClass>(text: &[u8]) -> usize
     ensures within { result ≤ length text.now }
     // All of these bytes are of the class.
     ensures every { Every C.test (take result text.now) }
@@ -327,7 +352,7 @@ pub fn split(text: &[u8]) -> Option<(u8, &[u8])>
 
 /// The rest after this byte; `None` if the text does not begin with it. It does not allocate.
 #[inline(always)]
-pub fn behind(text: &[u8], byte: u8) -> Option<&[u8]>
+pub fn strip_byte(text: &[u8], byte: u8) -> Option<&[u8]>
     ensures { IfSome result (λ rest. text.now ≡ byte ∷ rest.now) }
 {
     match split(text) {

@@ -263,6 +263,7 @@ impl<V: Drop> Entries<V> {
     /// ```
     /// entries.set(Key::new(alloc, b"q")?, Bare::Integer(Int::new(1)?))?;
     /// ```
+    #[inline(always)]
     pub fn set(&mut self, key: Key, value: V) -> Result<(), OutOfMemory>
         // A key that is present keeps its place and is overwritten; a new one goes last.
         ensures new { OnOk result (self.new ≡ settle (self.old ++ (key, value) ∷ [])) }

@@ -2,7 +2,7 @@
 ghost use Rattle.std.specs.Prelude.{◌≡◌, map, not};
 ghost use Rattle.std.specs.Simd.Lanes.{mask_l};
 
-use crate::classes::{Base64, ByteClass, InToken, UnencodedByte, Unescaped, Visible};
+use crate::classes::{Base64, ByteClass, InToken, NoBackslash, UnencodedByte, Unescaped, Visible};
 use std::simd::prelude::*;
 
 /// The number of bytes that are tested at a time.
@@ -42,6 +42,13 @@ impl LaneClass for Unescaped {
         let invisible = bytes.simd_lt(u8x16::splat(b' ')) | bytes.simd_gt(u8x16::splat(b'~'));
         let escaped = bytes.simd_eq(u8x16::splat(b'"')) | bytes.simd_eq(u8x16::splat(b'\\'));
         (invisible | escaped).to_bitmask()
+    }
+}
+
+impl LaneClass for NoBackslash {
+    #[inline(always)]
+    fn outside(bytes: u8x16) -> u64 {
+        (bytes.simd_eq(u8x16::splat(b'"')) | bytes.simd_eq(u8x16::splat(b'\\'))).to_bitmask()
     }
 }
 

@@ -213,10 +213,9 @@ impl<V: Drop> Store<V> {
         }
     }
 
-    /// Puts a value at a key, as `Entries::set` does. Only a new key allocates. The rarer cases are
-    /// functions that are not inlined: a function clears all its stack on entry, so each case pays
-    /// only for its own.
-    #[inline(never)]
+    /// Puts a value at a key, as `Entries::set` does. Only a new key allocates. It is inlined, so that
+    /// a call for a map moves the key and the value once.
+    #[inline(always)]
     pub(crate) fn set(&mut self, key: Key, value: V) -> Result<(), OutOfMemory>
         // Each key is valid, and none occurs twice.
         requires entries { AreEntries (stored self.old) }
@@ -230,6 +229,25 @@ impl<V: Drop> Store<V> {
             ≡ settle (stored self.old ++ (key, value) ∷ [])) }
         ensures same { OnErr result (stored self.new ≡ stored self.old) }
         // It fails only if the key is new.
+        ensures absent { OnErr result (value_at key (stored self.old) ≡ None) }
+    {
+        if let Store::Many(map) = self {
+            return table::set(map, key, value);
+        }
+        self.set_in_few(key, value)
+    }
+
+    /// As `set`, if the entries are not in a map. The rarer cases are functions that are not inlined:
+    /// a function clears all its stack on entry, so each case pays only for its own.
+    #[inline(never)]
+    fn set_in_few(&mut self, key: Key, value: V) -> Result<(), OutOfMemory>
+        requires entries { AreEntries (stored self.old) }
+        requires seed { HasSlotSeed self.old }
+        ensures entries { AreEntries (stored self.new) }
+        ensures seed { HasSeed self.new }
+        ensures new { OnOk result (stored self.new
+            ≡ settle (stored self.old ++ (key, value) ∷ [])) }
+        ensures same { OnErr result (stored self.new ≡ stored self.old) }
         ensures absent { OnErr result (value_at key (stored self.old) ≡ None) }
     {
         match self {
@@ -254,7 +272,7 @@ impl<V: Drop> Store<V> {
                 }
                 return self.set_in_map(key, value);
             }
-            Store::Many(map) => return table::set(map, key, value),
+            Store::Many(_) => unreachable!(),
         }
     }
 

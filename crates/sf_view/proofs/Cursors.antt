@@ -33,7 +33,7 @@ separates text white more rest a e b = record {
   behind = b.prefix;
   split = a.split ∙ ap (λ y. a.prefix ++ y) (e ∙ ap (λ y. 44 ∷ y) b.split);
   ows_before = a.each;
-  ows_behind = b.each;
+  ows_after = b.each;
 }
 
 -- less is left after a part
@@ -86,7 +86,7 @@ module _ {X : Type 0} (P : List ℕ → X → Type 0) where
             q,
             ap (λ z. n.before ++ 44 ∷ (n.behind ++ z)) i,
             n.ows_before,
-            n.ows_behind,
+            n.ows_after,
             k,
             c,
           ),

@@ -207,15 +207,15 @@ second_high : ℕ → List ℕ → ℕ
 second_high low [] = low
 second_high low (b ∷ s) = b / 16
 
-behind_second : ℕ → List ℕ → List ℕ
-behind_second low [] = []
-behind_second low (b ∷ []) = letter (b % 16 * 4 + low) ∷ []
-behind_second low (b ∷ c ∷ s) =
+after_second : ℕ → List ℕ → List ℕ
+after_second low [] = []
+after_second low (b ∷ []) = letter (b % 16 * 4 + low) ∷ []
+after_second low (b ∷ c ∷ s) =
     letter (b % 16 * 4 + c / 64) ∷ letter (c % 64) ∷ unpadded low s
 
 by_first : (low a : ℕ) (s : List ℕ) → unpadded low (a ∷ s)
-    ≡ letter (a / 4) ∷ letter (a % 4 * 16 + second_high low s) ∷ behind_second low s
-unfolding second_high behind_second
+    ≡ letter (a / 4) ∷ letter (a % 4 * 16 + second_high low s) ∷ after_second low s
+unfolding second_high after_second
 by_first low a (b ∷ c ∷ s) = refl
 by_first low a s = refl
 
@@ -238,14 +238,14 @@ third_high : ℕ → List ℕ → ℕ
 third_high low [] = low
 third_high low (c ∷ s) = c / 64
 
-behind_third : ℕ → List ℕ → List ℕ
-behind_third low [] = []
-behind_third low (c ∷ s) = letter (c % 64) ∷ unpadded low s
+after_third : ℕ → List ℕ → List ℕ
+after_third low [] = []
+after_third low (c ∷ s) = letter (c % 64) ∷ unpadded low s
 
 by_second : (low a b : ℕ) (s : List ℕ) → unpadded low (a ∷ b ∷ s)
     ≡ letter (a / 4) ∷ letter (a % 4 * 16 + b / 16) ∷ letter (b % 16 * 4 + third_high low s)
-    ∷ behind_third low s
-unfolding third_high behind_third
+    ∷ after_third low s
+unfolding third_high after_third
 by_second low a b [] = refl
 by_second low a b (c ∷ s) = refl
 
@@ -273,7 +273,7 @@ first_takes text rest (a ∷ s) x y gx gy e (low, suffix, lt, h, f, p) =
     let high = second_high low s in
     let small = high_small low a s lt f.1 in
     let whole : letter x ∷ letter y ∷ rest
-    ≡ letter (a / 4) ∷ letter (a % 4 * 16 + high) ∷ (behind_second low s ++ suffix) =
+    ≡ letter (a / 4) ∷ letter (a % 4 * 16 + high) ∷ (after_second low s ++ suffix) =
     sym e ∙ h ∙ ap (λ z. z ++ suffix) (by_first low a s) in
     let one = heads_same _ _ _ _ whole in
     let two = heads_same _ _ _ _ one.1 in
@@ -313,7 +313,7 @@ second_takes text rest (b ∷ s) high z gz e (small, (low, suffix, lt, h, f, p))
     let more = third_high low s in
     let less = third_small low 0 b s lt f.1.1 in
     let whole : letter 0 ∷ letter high ∷ letter z ∷ rest
-    ≡ letter 0 ∷ letter (0 + b / 16) ∷ letter (b % 16 * 4 + more) ∷ (behind_third low s ++ suffix) =
+    ≡ letter 0 ∷ letter (0 + b / 16) ∷ letter (b % 16 * 4 + more) ∷ (after_third low s ++ suffix) =
     ap (λ t. letter 0 ∷ letter high ∷ t) (sym e) ∙ h ∙ ap (λ t. t ++ suffix) (by_second low 0 b s) in
     let one = heads_same _ _ _ _ whole in
     let two = heads_same _ _ _ _ one.1 in

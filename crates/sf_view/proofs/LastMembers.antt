@@ -110,14 +110,14 @@ module _ {X : Type 0} (d : Dialect) (kind : Kind) (P : List ℕ → X → Type 0
       let s = p.separates in
       let t = p.prefix ++ s.before in
       subst (λ y. AreInterchangeable d kind y one_member) (append_assoc white t (44 ∷ s.behind))
-      (as_one (white ++ t) s.behind p.value [] (spells_one white start rest p e) s.ows_behind)
+      (as_one (white ++ t) s.behind p.value [] (spells_one white start rest p e) s.ows_after)
 
   taken_viable : (start rest : List ℕ) (p : Passes P start rest)
       → Viable d kind (taken start rest p)
   taken_viable start rest p =
       let s = p.separates in
       let v = fields.field (p.prefix ++ s.before) p.value [] (spells_one [] start rest p tt) in
-      comma_viable d kind (p.prefix ++ s.before) s.behind v.0 v.1 v.2 s.ows_behind
+      comma_viable d kind (p.prefix ++ s.before) s.behind v.0 v.1 v.2 s.ows_after
 
   -- after the first member
   follows_first : (text start rest : List ℕ) → Behind is_sp text start → Passes P start rest
@@ -157,7 +157,7 @@ module _ {X : Type 0} (d : Dialect) (kind : Kind) (P : List ℕ → X → Type 0
         ),
         s.ows_before,
       )
-      s.ows_behind in
+      s.ows_after in
       record {
         before = old;
         member = w;

@@ -34,7 +34,7 @@ use Rattle.sf_view.specs.Marks.{mark_of, HaveMarks}
 use Rattle.sf_view.specs.Accepts.{Accepts, SoFar, DescribesMarked, AreEntries}
 use Rattle.sf_view.specs.Settling.{IsRaw, HasParts}
 use Rattle.sf_view.proofs.KeyMarks.{keys_push}
-use Rattle.sf_view.proofs.Putting.{puts_none, puts_then, puts_behind}
+use Rattle.sf_view.proofs.Putting.{puts_none, puts_then, puts_after}
 
 module _ {X : Type 0} (P : List ℕ → X → Type 0) where
   commas_push : (t before behind g : List ℕ) (xs : List X) (y : X) → SpellsCommas P t xs
@@ -518,7 +518,7 @@ member_put d text rest after place old front back new at count e l m = record {
   nodes = m.nodes;
   split = m.split;
   spelled = m.spelled;
-  puts = puts_behind old front back new at count m.nodes e l m.puts;
+  puts = puts_after old front back new at count m.nodes e l m.puts;
   describes = m.describes;
 }
 
@@ -533,7 +533,7 @@ entry_put d text rest after mark old front back new at count e l m = record {
   nodes = m.nodes;
   split = m.split;
   spelled = m.spelled;
-  puts = puts_behind old front back new at count m.nodes e l m.puts;
+  puts = puts_after old front back new at count m.nodes e l m.puts;
   describes = m.describes;
   mark = m.mark;
 }

@@ -29,8 +29,8 @@ Begins t = (c : ℕ) × (u : List ℕ) × (t ≡ c ∷ u) × (c ≢ 32)
 abbrev Ends : List ℕ → Type 0
 Ends t = (u : List ℕ) × (c : ℕ) × (t ≡ u ++ c ∷ []) × (c ≢ 32)
 
-ends_behind : (s t : List ℕ) → Ends t → Ends (s ++ t)
-ends_behind s t (u, c, e, h) = (s ++ u, c, ap (λ y. s ++ y) e ∙ sym (append_assoc s u (c ∷ [])), h)
+ends_after : (s t : List ℕ) → Ends t → Ends (s ++ t)
+ends_after s t (u, c, e, h) = (s ++ u, c, ap (λ y. s ++ y) e ∙ sym (append_assoc s u (c ∷ [])), h)
 
 begins_before : (s t : List ℕ) → Begins s → Begins (s ++ t)
 begins_before s t (c, u, e, h) = (c, u ++ t, ap (λ y. y ++ t) e, h)
@@ -38,7 +38,7 @@ begins_before s t (c, u, e, h) = (c, u ++ t, ap (λ y. y ++ t) e, h)
 every_ends : (p : ℕ → Bool) → ((c : ℕ) → p c ≡ true → c ≢ 32) → (b : ℕ) (w : List ℕ) → b ≢ 32
     → Every p w → Ends (b ∷ w)
 every_ends p f b [] n h = ([], b, refl, n)
-every_ends p f b (c ∷ w) n h = ends_behind (b ∷ []) (c ∷ w) (every_ends p f c w (f c h.0) h.1)
+every_ends p f b (c ∷ w) n h = ends_after (b ∷ []) (c ∷ w) (every_ends p f c w (f c h.0) h.1)
 
 digit_apart : (c : ℕ) → is_digit c ≡ true → c ≢ 32
 digit_apart c h e = let k : is_digit 32 ≡ true = subst (λ y. is_digit y ≡ true) e h in absurd cc
@@ -67,20 +67,20 @@ integer_tight : (t : List ℕ) (neg : Bool) (w : List ℕ) → t ≡ sign neg ++
     → Begins t × Ends t
 integer_tight t neg w e h = (
   subst Begins (sym e) (signed_begins neg w (digits_begin 15 w h)),
-  subst Ends (sym e) (ends_behind (sign neg) w (digits_end 15 w h)),
+  subst Ends (sym e) (ends_after (sign neg) w (digits_end 15 w h)),
 )
 
 encoded_ends : (t s : List ℕ) → EncodedBytes t s → Ends t
 encoded_ends t [] e = ([], 34, e, (λ e. absurd (let k : ⊥ = omega arith in k)))
 encoded_ends t (c ∷ s) (u, inl (h, e), r) =
-    subst Ends (sym e) (ends_behind (c ∷ []) u (encoded_ends u s r))
+    subst Ends (sym e) (ends_after (c ∷ []) u (encoded_ends u s r))
 encoded_ends t (c ∷ s) (u, inr (h, e), r) =
-    subst Ends (sym e) (ends_behind (_ ∷ _ ∷ _ ∷ []) u (encoded_ends u s r))
+    subst Ends (sym e) (ends_after (_ ∷ _ ∷ _ ∷ []) u (encoded_ends u s r))
 
 sextets_end : (t s : List ℕ) → Sextets t s → Ends t
 sextets_end t s (low, suffix, l, e, b, (m, k, f)) =
     subst Ends (sym (e ∙ ap (λ y. unpadded low s ++ y) f))
-    (ends_behind (unpadded low s) (replicate m equals ++ colon ∷ [])
+    (ends_after (unpadded low s) (replicate m equals ++ colon ∷ [])
     (replicate m equals, 58, refl, (λ e. absurd (let k : ⊥ = omega arith in k))))
 
 both : (d : Dialect) (t : List ℕ) (x : Bare) → SpellsBare d t x → Begins t × Ends t
@@ -89,13 +89,13 @@ both d t (Decimal m) (neg, w, f, e, h, g, v) = (
   subst Begins (sym e)
       (signed_begins neg (w ++ point ∷ f) (begins_before w (point ∷ f) (digits_begin 12 w h))),
   subst Ends (sym e)
-      (ends_behind (sign neg) (w ++ point ∷ f)
-      (ends_behind w (point ∷ f) (ends_behind (point ∷ []) f (digits_end 3 f g)))),
+      (ends_after (sign neg) (w ++ point ∷ f)
+      (ends_after w (point ∷ f) (ends_after (point ∷ []) f (digits_end 3 f g)))),
 )
 both d t (Text s) (e, h) = (
   (34, _, e, (λ e. absurd (let k : ⊥ = omega arith in k))),
   subst Ends (sym e)
-      (ends_behind (quote ∷ escaped s) (quote ∷ [])
+      (ends_after (quote ∷ escaped s) (quote ∷ [])
       ([], 34, refl, (λ e. absurd (let k : ⊥ = omega arith in k)))),
 )
 both d t (Token []) (e, h) = absurd h
@@ -105,7 +105,7 @@ both d t (Token (b ∷ s)) (e, h) = (
 )
 both d t (Blob s) (u, e, h) = (
   (58, u, e, (λ e. absurd (let k : ⊥ = omega arith in k))),
-  subst Ends (sym e) (ends_behind (colon ∷ []) u (sextets_end u s h)),
+  subst Ends (sym e) (ends_after (colon ∷ []) u (sextets_end u s h)),
 )
 both d t (Boolean false) e = (
   (63, _, e, (λ e. absurd (let k : ⊥ = omega arith in k))),
@@ -117,11 +117,11 @@ both d t (Boolean true) e = (
 )
 both d t (Date n) (r, (u, e, (neg, w, f, h, v))) = (
   (64, u, e, (λ e. absurd (let k : ⊥ = omega arith in k))),
-  subst Ends (sym e) (ends_behind (64 ∷ []) u (integer_tight u neg w f h).1),
+  subst Ends (sym e) (ends_after (64 ∷ []) u (integer_tight u neg w f h).1),
 )
 both d t (Shown s) (r, (u, e, h, f)) = (
   (37, _, e, (λ e. absurd (let k : ⊥ = omega arith in k))),
-  subst Ends (sym e) (ends_behind (37 ∷ 34 ∷ []) u (encoded_ends u s h)),
+  subst Ends (sym e) (ends_after (37 ∷ 34 ∷ []) u (encoded_ends u s h)),
 )
 
 last_place : (u : List ℕ) (c : ℕ) → slice_index (u ++ c ∷ []) (length u) ≡ c

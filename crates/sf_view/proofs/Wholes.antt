@@ -19,9 +19,9 @@ pub record Agreed (done rest others : List Node) (i : ℕ) : Type 0 where
   pub size : length more ≡ length rest
   pub agree : take (suc i) more ≡ take (suc i) rest
 
-pub agree_behind : (done rest others : List Node) (i j : ℕ) → length others ≡ length (done ++ rest)
+pub agree_after : (done rest others : List Node) (i j : ℕ) → length others ≡ length (done ++ rest)
     → j ≡ length done + suc i → take j others ≡ take j (done ++ rest) → Agreed done rest others i
-agree_behind done rest others i j same e t =
+agree_after done rest others i j same e t =
     let n = length done in
     let prefix : take n others ≡ done =
     sym (take-take n j others (omega arith))
@@ -73,7 +73,7 @@ wrong_tail P Q n [] i j f x p e w = absurd (w.stuck [] refl refl x p)
 wrong_tail P Q n (m ∷ ms) i j f x p e w = record {
   within = let k = w.within in omega arith;
   stuck = λ others same agree y q.
-      let o = agree_behind (n ∷ []) (m ∷ ms) others i (suc j) same (omega arith) agree in
+      let o = agree_after (n ∷ []) (m ∷ ms) others i (suc j) same (omega arith) agree in
       let z = f o.more y (subst (λ z. Q z y) o.split q) in
       w.stuck o.more o.size o.agree z.0 z.1;
 }
@@ -244,16 +244,16 @@ module _ {X : Type 0} (source : List ℕ) (P : List Node → X → Type 0) (V : 
       }
 
   -- the rest is wrong at a node, so all nodes are
-  pub wrong_behind : (nodes rest : List Node) (all : List X) (at i j : ℕ) → SoFar P V nodes rest all
+  pub wrong_after : (nodes rest : List Node) (all : List X) (at i j : ℕ) → SoFar P V nodes rest all
       → at + length rest ≡ length nodes → 1 ≤ length rest → j ≡ at + i
       → IsWrongAt (After P V D Z R all) rest i → IsWrongAt (Whole P V D Z) nodes j
-  wrong_behind nodes rest all at i j s a l e w =
+  wrong_after nodes rest all at i j s a l e w =
       let sizes : length nodes ≡ length s.done + length rest =
       ap length s.split ∙ length-append s.done rest in
       record {
         within = let k = w.within in omega arith;
         stuck = λ others same agree xs h.
-            let o = agree_behind s.done rest others i (suc j) (same ∙ ap length s.split)
+            let o = agree_after s.done rest others i (suc j) (same ∙ ap length s.split)
             (omega arith) (agree ∙ ap (take (suc j)) s.split) in
             let r = rest_parts s.done o.more all h.body h.tail xs s.parts h.parts h.ends
             (sym h.split ∙ o.split) in
@@ -416,7 +416,7 @@ module _ {X Y : Type 0} (source : List ℕ) (P : List Node → X → Type 0) (V 
       let sizes : length nodes ≡ length s.done + length rest =
       ap length s.split ∙ length-append s.done rest in
       wrong_map (Whole P V D Z) A nodes j whole
-      (wrong_behind source P V D Z R laws nodes rest all (length nodes - length rest) i j s
+      (wrong_after source P V D Z R laws nodes rest all (length nodes - length rest) i j s
       (omega arith) l e w)
 
   -- no part begins there

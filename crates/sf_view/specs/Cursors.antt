@@ -26,7 +26,7 @@ pub record Separates (text rest : List ℕ) : Type 0 where
   pub behind : List ℕ
   pub split : text ≡ before ++ comma ∷ (behind ++ rest)
   pub ows_before : Every is_ows before
-  pub ows_behind : Every is_ows behind
+  pub ows_after : Every is_ows behind
 
 -- the text from the next member on; none if there is only OWS
 abbrev pub IsNext : List ℕ → Option (List ℕ) → Type 0

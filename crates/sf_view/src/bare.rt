@@ -5,7 +5,9 @@ ghost use Rattle.sf_value.specs.Grammar.Numbers.{sign, signed};
 ghost use Rattle.sf_view.specs.Scans.{ScansDigits, ScansFraction, ScansNumber, ScansDate, ScansBare, Closes};
 
 use crate::bare_part::{Part, bytes_of};
-use crate::classes::{InBase64, InToken, Unescaped, behind, is_token_start, long_prefix, split};
+use crate::classes::{
+    InBase64, InToken, Unescaped, is_token_start, long_prefix, split, strip_byte,
+};
 use crate::display_string::scan_shown;
 use crate::node_types::NodeType;
 use sf_value::Dialect;
@@ -99,7 +101,7 @@ fn fraction(text: &[u8]) -> Option<(u64, &[u8])>
 fn signed_rest(text: &[u8]) -> (bool, &[u8])
     ensures { text.now ≡ sign result.0 ++ result.1.now }
 {
-    match behind(text, b'-') {
+    match strip_byte(text, b'-') {
         Some(rest) => return (true, rest),
         None => return (false, text),
     }
@@ -115,7 +117,7 @@ fn scan_number(text: &[u8]) -> Option<(Part, &[u8])>
     if count == 0 {
         return None;
     }
-    let Some(after_point) = behind(rest, b'.') else {
+    let Some(after_point) = strip_byte(rest, b'.') else {
         return Some((
             number_of(NodeType::Integer, with_sign(negative, value)),
             rest,
@@ -136,7 +138,7 @@ fn scan_number(text: &[u8]) -> Option<(Part, &[u8])>
 fn scan_date(text: &[u8]) -> Option<(Part, &[u8])>
     ensures { IfSome result (λ r. ScansDate text.now r.0 r.1.now) }
 {
-    let (part, rest) = scan_number(behind(text, b'@')?)?;
+    let (part, rest) = scan_number(strip_byte(text, b'@')?)?;
     match part.node_type {
         NodeType::Integer => return Some((number_of(NodeType::Date, part.number), rest)),
         _ => return None,
@@ -149,14 +151,14 @@ fn scan_escaped(whole: usize, text: &[u8]) -> Option<(Part, &[u8])>
     requires within { length text.now ≤ whole }
     ensures { (d : Which) → IfSome result (λ r. ScansBare d whole text.now r.0 r.1.now) }
 {
-    let mut rest = behind(text, b'"')?;
+    let mut rest = strip_byte(text, b'"')?;
     loop {
         let (_, stop) = long_prefix::<Unescaped>(rest);
-        if let Some(left) = behind(stop, b'"') {
+        if let Some(left) = strip_byte(stop, b'"') {
             let part = bytes_of(whole, NodeType::Text, true, text, text.len() - left.len());
             return Some((part, left));
         }
-        let (byte, left) = split(behind(stop, b'\\')?)?;
+        let (byte, left) = split(strip_byte(stop, b'\\')?)?;
         if byte != b'"' && byte != b'\\' {
             return None;
         }
@@ -171,9 +173,9 @@ fn scan_string(whole: usize, text: &[u8]) -> Option<(Part, &[u8])>
     requires within { length text.now ≤ whole }
     ensures { (d : Which) → IfSome result (λ r. ScansBare d whole text.now r.0 r.1.now) }
 {
-    let inside = behind(text, b'"')?;
+    let inside = strip_byte(text, b'"')?;
     let (prefix, stop) = long_prefix::<Unescaped>(inside);
-    let rest = behind(stop, b'"')?;
+    let rest = strip_byte(stop, b'"')?;
     Some((
         bytes_of(whole, NodeType::Text, false, inside, prefix.len()),
         rest,
@@ -183,7 +185,7 @@ fn scan_string(whole: usize, text: &[u8]) -> Option<(Part, &[u8])>
 /// The rest after the padding and the colon of a Byte Sequence whose last group has `over`
 /// characters.
 #[inline]
-fn behind_pads(over: usize, text: &[u8]) -> Option<&[u8]>
+fn after_pads(over: usize, text: &[u8]) -> Option<&[u8]>
     requires { over < 4 }
     ensures { IfSome result (λ rest. Closes over text.now rest.now) }
 {
@@ -204,7 +206,7 @@ fn behind_pads(over: usize, text: &[u8]) -> Option<&[u8]>
     if second != b'=' || over != 2 {
         return None;
     }
-    behind(last, b':')
+    strip_byte(last, b':')
 }
 
 /// A Byte Sequence, and the rest.
@@ -213,9 +215,9 @@ fn scan_blob(whole: usize, text: &[u8]) -> Option<(Part, &[u8])>
     requires within { length text.now ≤ whole }
     ensures { (d : Which) → IfSome result (λ r. ScansBare d whole text.now r.0 r.1.now) }
 {
-    let inside = behind(text, b':')?;
+    let inside = strip_byte(text, b':')?;
     let (prefix, stop) = long_prefix::<InBase64>(inside);
-    let rest = behind_pads(prefix.len() % 4, stop)?;
+    let rest = after_pads(prefix.len() % 4, stop)?;
     let part = bytes_of(whole, NodeType::Blob, true, text, text.len() - rest.len());
     Some((part, rest))
 }
@@ -225,7 +227,7 @@ fn scan_blob(whole: usize, text: &[u8]) -> Option<(Part, &[u8])>
 fn scan_boolean(text: &[u8]) -> Option<(Part, &[u8])>
     ensures { IfSome result (λ r. ScansNumber text.now r.0 r.1.now) }
 {
-    let (byte, rest) = split(behind(text, b'?')?)?;
+    let (byte, rest) = split(strip_byte(text, b'?')?)?;
     match byte {
         b'0' => return Some((number_of(NodeType::Boolean, 0), rest)),
         b'1' => return Some((number_of(NodeType::Boolean, 1), rest)),

@@ -12,7 +12,7 @@ use crate::keys::{bytes_at, first_node};
 use crate::lookup::hop;
 use crate::node::Node;
 use crate::node_types::{NodeType, Role};
-use crate::parts::behind_first;
+use crate::parts::after_first;
 use crate::single::{Source, value_of};
 use sf_value::{
     Bare, Dialect, Dict, Entries, Field, Inner, Item, Key, Kind, List, Member, OutOfMemory,
@@ -41,7 +41,7 @@ impl From<OutOfMemory> for NoField {
 
 impl NoField {
     /// The same fault, with `count` more nodes before these.
-    fn behind(self, count: usize) -> NoField
+    fn after(self, count: usize) -> NoField
         requires { (i : ℕ) → self ≡ no_field.Invalid i → count + i < 2 ^ 64 }
         ensures { result ≡ shift_fault count self }
     {
@@ -129,7 +129,7 @@ fn members(source: Source, nodes: &[Node]) -> Result<Sequence<Member>, NoField>
         }
         let member = match member(source, prefix) {
             Ok(member) => member,
-            Err(fault) => return Err(fault.behind(at)),
+            Err(fault) => return Err(fault.after(at)),
         };
         let Ok(_) = all.push(member) else {
             return Err(NoField::OutOfMemory);
@@ -155,7 +155,7 @@ fn entries(source: Source, nodes: &[Node]) -> Result<Entries<Member>, NoField>
         };
         let member = match member(source, prefix) {
             Ok(member) => member,
-            Err(fault) => return Err(fault.behind(at)),
+            Err(fault) => return Err(fault.after(at)),
         };
         all.set(key, member)?;
         rest = later;
@@ -202,9 +202,9 @@ fn item(source: Source, role: Role, nodes: &[Node]) -> Result<Item, NoField>
     let Some(bare) = value_of(source, role, nodes.len(), node)? else {
         return Err(NoField::Invalid(0));
     };
-    match params(source, Role::Parameter, behind_first(nodes)) {
+    match params(source, Role::Parameter, after_first(nodes)) {
         Ok(params) => return Ok(Item { bare, params }),
-        Err(fault) => return Err(fault.behind(1)),
+        Err(fault) => return Err(fault.after(1)),
     }
 }
 
@@ -218,9 +218,9 @@ fn inner(source: Source, nodes: &[Node]) -> Result<Inner, NoField>
     if !is_opening(source, nodes.len(), node) {
         return Err(NoField::Invalid(0));
     }
-    match inside(source, behind_first(nodes)) {
+    match inside(source, after_first(nodes)) {
         Ok(inner) => return Ok(inner),
-        Err(fault) => return Err(fault.behind(1)),
+        Err(fault) => return Err(fault.after(1)),
     }
 }
 
@@ -254,7 +254,7 @@ fn inside(source: Source, nodes: &[Node]) -> Result<Inner, NoField>
         }
         let item = match item(source, Role::InnerItem, prefix) {
             Ok(item) => item,
-            Err(fault) => return Err(fault.behind(at)),
+            Err(fault) => return Err(fault.after(at)),
         };
         let Ok(_) = items.push(item) else {
             return Err(NoField::OutOfMemory);
@@ -264,7 +264,7 @@ fn inside(source: Source, nodes: &[Node]) -> Result<Inner, NoField>
     let at = nodes.len() - rest.len();
     match params(source, Role::InnerParameter, rest) {
         Ok(params) => return Ok(Inner { items, params }),
-        Err(fault) => return Err(fault.behind(at)),
+        Err(fault) => return Err(fault.after(at)),
     }
 }
 

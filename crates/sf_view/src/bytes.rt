@@ -192,9 +192,9 @@ fn count_bytes(start: Coding, text: &[u8]) -> usize
     let mut rest = text;
     let mut count = 0;
     loop {
-        let (run, behind) = take_run(coding, rest);
+        let (run, after) = take_run(coding, rest);
         count += run.len();
-        let Some((_, next, later)) = take_byte(coding, behind) else {
+        let Some((_, next, later)) = take_byte(coding, after) else {
             return count;
         };
         count += 1;

@@ -473,11 +473,11 @@ fn collect(alloc: Global, start: Coding, text: &[u8]) -> Result<ShortBytes, OutO
     let mut coding = start;
     let mut rest = text;
     loop {
-        let (run, behind) = take_run(coding, rest);
+        let (run, after) = take_run(coding, rest);
         if !run.is_empty() {
             all.extend(run)?;
         }
-        let part = fill_part(coding, behind, &mut block);
+        let part = fill_part(coding, after, &mut block);
         all.extend(&block[..part.count])?;
         if part.whole {
             return Ok(all);

@@ -9,7 +9,7 @@ ghost use Rattle.sf_view.specs.Marks.{mark_of};
 ghost use Rattle.sf_view.specs.View.{text_of};
 ghost use Rattle.sf_view.specs.Views.{IsBorrowed};
 
-use crate::classes::{behind, behind_spaces, ends};
+use crate::classes::{after_spaces, ends, strip_byte};
 use crate::cursor::{first_start, next_start};
 use crate::keys::{Marks, PROBES, enter, tag};
 use crate::text_parts::{read_bare, read_key, read_param};
@@ -157,7 +157,7 @@ fn count_params<'a>(
 ) -> Result<(Counts, &'a [u8]), Uncounted>
     ensures { IfOk result (λ r. CountsParams dialect text.now r.1.now r.0.nodes r.0.bytes) }
 {
-    if behind(text, b';').is_none() {
+    if strip_byte(text, b';').is_none() {
         return Ok((Counts::NONE, text));
     }
     count_each_param(memory, dialect, text)
@@ -212,7 +212,7 @@ fn params_by_marks<'a>(dialect: Dialect, text: &'a [u8]) -> Result<(Counts, &'a 
     let mut rest = text;
     let mut counts = Counts::NONE;
     let mut marks = Marks::NONE;
-    while let Some(more) = behind(rest, b';') {
+    while let Some(more) = strip_byte(rest, b';') {
         let Some((key, bare, left)) = read_param(dialect, more) else {
             return Err(Uncounted::Declined);
         };
@@ -288,7 +288,7 @@ fn params_by_table<'a>(
 {
     let mut rest = text;
     let mut counts = Counts::NONE;
-    while let Some(more) = behind(rest, b';') {
+    while let Some(more) = strip_byte(rest, b';') {
         let Some((key, bare, left)) = read_param(dialect, more) else {
             return Err(Uncounted::Declined);
         };
@@ -313,7 +313,7 @@ fn params_by_map<'a>(
 {
     let mut rest = text;
     let mut kept = Entries::new(memory.alloc, memory.seed);
-    while let Some(more) = behind(rest, b';') {
+    while let Some(more) = strip_byte(rest, b';') {
         let Some((key, bare, left)) = read_param(dialect, more) else {
             return Err(Uncounted::Declined);
         };
@@ -363,21 +363,21 @@ fn count_items<'a>(
 ) -> Result<(Counts, &'a [u8]), Uncounted>
     ensures { IfOk result (λ r. CountsItems dialect 0 text.now r.1.now r.0.nodes r.0.bytes) }
 {
-    let mut rest = behind_spaces(text);
+    let mut rest = after_spaces(text);
     let mut counts = Counts::NONE;
     loop {
-        if let Some(left) = behind(rest, b')') {
+        if let Some(left) = strip_byte(rest, b')') {
             return Ok((counts, left));
         }
         let (item, after) = count_item(memory, dialect, rest)?;
         counts = counts.more(item.nodes, item.bytes)?;
-        let Some(more) = behind(after, b' ') else {
-            let Some(left) = behind(after, b')') else {
+        let Some(more) = strip_byte(after, b' ') else {
+            let Some(left) = strip_byte(after, b')') else {
                 return Err(Uncounted::Declined);
             };
             return Ok((counts, left));
         };
-        rest = behind_spaces(more);
+        rest = after_spaces(more);
     }
 }
 
@@ -389,7 +389,7 @@ fn count_inner<'a>(
 ) -> Result<(Counts, &'a [u8]), Uncounted>
     ensures { IfOk result (λ r. CountsInner dialect text.now r.1.now r.0.nodes r.0.bytes) }
 {
-    let Some(inside) = behind(text, b'(') else {
+    let Some(inside) = strip_byte(text, b'(') else {
         return Err(Uncounted::Declined);
     };
     let (items, after) = count_items(memory, dialect, inside)?;
@@ -408,7 +408,7 @@ fn count_member<'a>(
 ) -> Result<(Counts, &'a [u8]), Uncounted>
     ensures { IfOk result (λ r. CountsMember dialect text.now r.1.now r.0.nodes r.0.bytes) }
 {
-    if behind(text, b'(').is_some() {
+    if strip_byte(text, b'(').is_some() {
         let (counts, rest) = count_inner(memory, dialect, text)?;
         return Ok((counts, rest));
     }
@@ -429,7 +429,7 @@ fn count_entry<'a>(
     let Some((key, after)) = read_key(text) else {
         return Err(Uncounted::Declined);
     };
-    if let Some(value) = behind(after, b'=') {
+    if let Some(value) = strip_byte(after, b'=') {
         let (member, rest) = count_member(memory, dialect, value)?;
         return Ok((key, member, rest));
     }
@@ -446,8 +446,8 @@ fn count_item_field(
 ) -> Result<Counts, Uncounted>
     ensures { IfOk result (HasCounts dialect kind_is.Item text.now) }
 {
-    let (counts, rest) = count_item(memory, dialect, behind_spaces(text))?;
-    if !ends(behind_spaces(rest)) {
+    let (counts, rest) = count_item(memory, dialect, after_spaces(text))?;
+    if !ends(after_spaces(rest)) {
         return Err(Uncounted::Declined);
     }
     Ok(counts)

@@ -13,8 +13,8 @@ ghost use Rattle.sf_view.specs.Cursors.{IsFirst, IsNext, RemainsInDict, ReadsNex
 ghost use Rattle.sf_view.specs.Cursors.{integer_in, boolean_in, left_in};
 ghost use Rattle.sf_view.specs.Reads.{ShowsMember};
 
-use crate::classes::{behind, behind_spaces, behind_white, ends};
-use crate::text_parts::{behind_item, read_entry, read_member};
+use crate::classes::{after_spaces, after_white, ends, strip_byte};
+use crate::text_parts::{after_item, read_entry, read_member};
 use crate::view::BareView;
 use sf_value::{Dialect, Kind};
 
@@ -133,8 +133,8 @@ pub fn accepts(dialect: Dialect, kind: Kind, text: &[u8]) -> bool
 fn is_item(dialect: Dialect, text: &[u8]) -> bool
     ensures { IsTrue result → (v : Field) × IsOnly dialect kind_is.Item text.now v }
 {
-    match behind_item(dialect, behind_spaces(text)) {
-        Some(rest) => return ends(behind_spaces(rest)),
+    match after_item(dialect, after_spaces(text)) {
+        Some(rest) => return ends(after_spaces(rest)),
         None => return false,
     }
 }
@@ -170,7 +170,7 @@ fn is_dict(dialect: Dialect, text: &[u8]) -> Option<()>
 pub(crate) fn first_start(text: &[u8]) -> Option<&[u8]>
     ensures { IsFirst text.now (option_copied result) }
 {
-    let rest = behind_spaces(text);
+    let rest = after_spaces(text);
     if ends(rest) { None } else { Some(rest) }
 }
 
@@ -179,9 +179,9 @@ pub(crate) fn first_start(text: &[u8]) -> Option<&[u8]>
 pub(crate) fn next_start(text: &[u8]) -> Option<Option<&[u8]>>
     ensures { IfSome result (λ start. IsNext text.now (option_copied start)) }
 {
-    let white = behind_white(text);
+    let white = after_white(text);
     if ends(white) {
         return Some(None);
     }
-    Some(Some(behind_white(behind(white, b',')?)))
+    Some(Some(after_white(strip_byte(white, b',')?)))
 }

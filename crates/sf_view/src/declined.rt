@@ -80,8 +80,8 @@ fn last_member(dialect: Dialect, kind: Kind, text: &[u8]) -> Option<&[u8]>
     ensures { IfSome result (λ tail. Resumes dialect kind text.now tail.now) }
 {
     let mut last = first_start(text)?;
-    let mut rest = behind_member(dialect, kind, last)?;
-    while let Some(next) = behind_member(dialect, kind, rest) {
+    let mut rest = after_member(dialect, kind, last)?;
+    while let Some(next) = after_member(dialect, kind, rest) {
         last = rest;
         rest = next;
     }
@@ -90,7 +90,7 @@ fn last_member(dialect: Dialect, kind: Kind, text: &[u8]) -> Option<&[u8]>
 
 /// The text after a member and a comma: from the next member on.
 #[inline]
-fn behind_member(dialect: Dialect, kind: Kind, text: &[u8]) -> Option<&[u8]>
+fn after_member(dialect: Dialect, kind: Kind, text: &[u8]) -> Option<&[u8]>
     ensures { IfSome result (λ rest. PassesMember dialect kind text.now rest.now) }
 {
     match kind {

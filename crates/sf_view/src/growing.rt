@@ -10,7 +10,7 @@ ghost use Rattle.sf_view.specs.Settling.{HasParts};
 ghost use Rattle.sf_view.specs.Views.{IsViewed};
 
 use crate::buffer::most_nodes;
-use crate::classes::{behind, behind_spaces, behind_white, ends};
+use crate::classes::{after_spaces, after_white, ends, strip_byte};
 use crate::item::{KeyPlace, NO_KEY, Scan, scan_entry, scan_member};
 use crate::keys::Marks;
 use crate::node::Node;
@@ -86,7 +86,7 @@ fn grown_item(
 /// Reads a member, whose nodes go after the first `count`. These stay as they are, whether or not
 /// there is a member.
 #[inline(always)]
-fn member_behind<'a>(
+fn member_after<'a>(
     dialect: Dialect,
     text: &[u8],
     rest: &'a [u8],
@@ -110,9 +110,9 @@ fn member_behind<'a>(
     })
 }
 
-/// As [`member_behind`], for a member of a Dictionary; also returns the mark of its key.
+/// As [`member_after`], for a member of a Dictionary; also returns the mark of its key.
 #[inline(always)]
-fn entry_behind<'a>(
+fn entry_after<'a>(
     dialect: Dialect,
     text: &[u8],
     rest: &'a [u8],
@@ -129,11 +129,11 @@ fn entry_behind<'a>(
 {
     let (_, free) = nodes.split_at_mut(count);
     let (scan, mark) = scan_entry(dialect, text, rest, free, 0)?;
-    let behind = Scan {
+    let after = Scan {
         rest: scan.rest,
         count: count + scan.count,
     };
-    Some((behind, mark))
+    Some((after, mark))
 }
 
 /// Reads the members of a List from this place on, after this many nodes. Returns the number of all
@@ -154,17 +154,17 @@ fn list_from<'a>(
     let mut rest = from.rest;
     let mut count = from.count;
     loop {
-        let Some(scan) = member_behind(dialect, text, rest, NO_KEY, nodes, count) else {
+        let Some(scan) = member_after(dialect, text, rest, NO_KEY, nodes, count) else {
             return Err(Scan { rest, count });
         };
-        let white = behind_white(scan.rest);
+        let white = after_white(scan.rest);
         if ends(white) {
             return Ok(scan.count);
         }
-        let Some(more) = behind(white, b',') else {
+        let Some(more) = strip_byte(white, b',') else {
             return Err(Scan { rest, count });
         };
-        rest = behind_white(more);
+        rest = after_white(more);
         count = scan.count;
     }
 }
@@ -182,7 +182,7 @@ fn grown_list(
         (λ n. Accepts dialect kind_is.List text.now nodes.new.items n)) }
 {
     let mut from = Scan {
-        rest: behind_spaces(text),
+        rest: after_spaces(text),
         count: 0,
     };
     if ends(from.rest) {
@@ -249,7 +249,7 @@ fn dict_from<'a>(
     let mut count = from.count;
     let mut marks = from.marks;
     loop {
-        let Some((scan, mark)) = entry_behind(dialect, text, rest, nodes, count) else {
+        let Some((scan, mark)) = entry_after(dialect, text, rest, nodes, count) else {
             return Err(DictScan {
                 rest,
                 count,
@@ -258,7 +258,7 @@ fn dict_from<'a>(
             });
         };
         let later_marks = marks.with(mark);
-        let white = behind_white(scan.rest);
+        let white = after_white(scan.rest);
         if ends(white) {
             if are_apart(from.settled, later_marks, text, &nodes[..scan.count]) {
                 return Ok(scan.count);
@@ -266,7 +266,7 @@ fn dict_from<'a>(
             *repeated = true;
             return Ok(scan.count);
         }
-        let Some(more) = behind(white, b',') else {
+        let Some(more) = strip_byte(white, b',') else {
             return Err(DictScan {
                 rest,
                 count,
@@ -274,7 +274,7 @@ fn dict_from<'a>(
                 settled: from.settled,
             });
         };
-        rest = behind_white(more);
+        rest = after_white(more);
         count = scan.count;
         marks = later_marks;
     }
@@ -333,7 +333,7 @@ fn grown_dict(
         (λ n. HasParts dialect kind_is.Dict text.now nodes.new.items n repeated.new)) }
 {
     let mut from = DictScan {
-        rest: behind_spaces(text),
+        rest: after_spaces(text),
         count: 0,
         marks: Marks::NONE,
         settled: false,

@@ -7,7 +7,7 @@ ghost use Rattle.sf_value.specs.Grammar.Series.{SpellsWhole};
 ghost use Rattle.sf_view.specs.Cursors.{left_in};
 ghost use Rattle.sf_view.specs.ItemCursors.{RemainsInList, RemainsInItem, ReadsNextItem, ReadsNextParam};
 
-use crate::classes::behind;
+use crate::classes::strip_byte;
 use crate::cursor::{first_start, next_start};
 use crate::text_parts::{read_bare, read_param};
 use crate::view::BareView;
@@ -111,7 +111,7 @@ impl<'a> ParamCursor<'a> {
             length self.new.rest.now < length self.old.rest.now)) }
         ensures kept { length self.new.rest.now ≤ length self.old.rest.now }
     {
-        let Some(text) = behind(self.rest, b';') else {
+        let Some(text) = strip_byte(self.rest, b';') else {
             return Some(None);
         };
         let (key, bare, rest) = read_param(self.dialect, text)?;

@@ -75,7 +75,7 @@ pub(crate) fn bytes_at(source: &[u8], at: usize, size: usize) -> Option<&[u8]>
 
 /// The nodes after the first `count`.
 #[inline]
-fn nodes_behind(nodes: &[Node], count: usize) -> Option<&[Node]>
+fn nodes_after(nodes: &[Node], count: usize) -> Option<&[Node]>
     ensures { IfSome result (λ later. (later.now ≡ drop count nodes.now) × (count ≤ length nodes.now)) }
 {
     if count > nodes.len() {
@@ -94,7 +94,7 @@ fn first_key<'a>(source: &'a [u8], nodes: &'a [Node]) -> Option<(&'a [u8], &'a [
 {
     let node = first_node(nodes)?;
     let key = bytes_at(source, node.key_at as usize, node.key_length as usize)?;
-    let later = nodes_behind(nodes, node.size as usize)?;
+    let later = nodes_after(nodes, node.size as usize)?;
     if node.size == 0 {
         return None;
     }

@@ -110,7 +110,7 @@ impl<'a> View<'a> {
     {
         let nodes = match inner_parts(self.nodes) {
             Some((_, params)) => params,
-            None => behind_first(self.nodes),
+            None => after_first(self.nodes),
         };
         View {
             text: self.text,
@@ -154,7 +154,7 @@ fn first_key_of<'a>(source: &'a [u8], nodes: &[Node]) -> Option<&'a [u8]>
 
 /// The nodes after the first.
 #[inline]
-pub(crate) fn behind_first(nodes: &[Node]) -> &[Node]
+pub(crate) fn after_first(nodes: &[Node]) -> &[Node]
     ensures { result.now ≡ drop 1 nodes.now }
 {
     match nodes {
@@ -173,7 +173,7 @@ fn inner_parts(nodes: &[Node]) -> Option<(&[Node], &[Node])>
     if opening.node_type != NodeType::InnerList.code() {
         return None;
     }
-    let inside = behind_first(nodes);
+    let inside = after_first(nodes);
     Some(inside.split_at(items_end(inside)))
 }
 
@@ -182,7 +182,7 @@ fn inner_parts(nodes: &[Node]) -> Option<(&[Node], &[Node])>
 fn items_end(nodes: &[Node]) -> usize
     ensures within { result ≤ length nodes.now }
     ensures before { Each IsInside (take result nodes.now) }
-    ensures behind { IsAtParams (drop result nodes.now) }
+    ensures after { IsAtParams (drop result nodes.now) }
 {
     let stop = Role::InnerParameter.code();
     let mut end = 0;

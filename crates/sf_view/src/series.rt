@@ -4,7 +4,7 @@ ghost use Rattle.sf_value.specs.declared.value.Kind.TheVariants as kind_is;
 ghost use Rattle.sf_view.specs.Accepts.{Accepts};
 ghost use Rattle.sf_view.specs.Settling.{HasParts};
 
-use crate::classes::{behind, behind_spaces, behind_white, ends};
+use crate::classes::{after_spaces, after_white, ends, strip_byte};
 use crate::item::{NO_KEY, scan_entry, scan_item, scan_member};
 use crate::keys::Marks;
 use crate::node::Node;
@@ -18,9 +18,9 @@ pub(crate) fn whole_item(dialect: Dialect, text: &[u8], nodes: &mut [Node]) -> O
     ensures same { length nodes.new ≡ length nodes.old }
     ensures accepts { IfSome result (λ n. Accepts dialect kind_is.Item text.now nodes.new n) }
 {
-    let start = behind_spaces(text);
+    let start = after_spaces(text);
     let scan = scan_item(dialect, text, start, Role::Member, NO_KEY, nodes, 0)?;
-    if ends(behind_spaces(scan.rest)) {
+    if ends(after_spaces(scan.rest)) {
         return Some(scan.count);
     }
     None
@@ -33,18 +33,18 @@ fn whole_list(dialect: Dialect, text: &[u8], nodes: &mut [Node]) -> Option<usize
     ensures same { length nodes.new ≡ length nodes.old }
     ensures accepts { IfSome result (λ n. Accepts dialect kind_is.List text.now nodes.new n) }
 {
-    let mut rest = behind_spaces(text);
+    let mut rest = after_spaces(text);
     let mut count = 0;
     if ends(rest) {
         return Some(0);
     }
     loop {
         let scan = scan_member(dialect, text, rest, NO_KEY, nodes, count)?;
-        let white = behind_white(scan.rest);
+        let white = after_white(scan.rest);
         if ends(white) {
             return Some(scan.count);
         }
-        rest = behind_white(behind(white, b',')?);
+        rest = after_white(strip_byte(white, b',')?);
         count = scan.count;
     }
 }
@@ -64,7 +64,7 @@ fn whole_dict(
     ensures parts { IfSome result
         (λ n. HasParts dialect kind_is.Dict text.now nodes.new n repeated.new) }
 {
-    let mut rest = behind_spaces(text);
+    let mut rest = after_spaces(text);
     let mut count = 0;
     let mut marks = Marks::NONE;
     if ends(rest) {
@@ -73,7 +73,7 @@ fn whole_dict(
     loop {
         let (scan, mark) = scan_entry(dialect, text, rest, nodes, count)?;
         marks = marks.with(mark);
-        let white = behind_white(scan.rest);
+        let white = after_white(scan.rest);
         if ends(white) {
             if marks.differ(text, &nodes[..scan.count]) {
                 return Some(scan.count);
@@ -81,7 +81,7 @@ fn whole_dict(
             *repeated = true;
             return Some(scan.count);
         }
-        rest = behind_white(behind(white, b',')?);
+        rest = after_white(strip_byte(white, b',')?);
         count = scan.count;
     }
 }

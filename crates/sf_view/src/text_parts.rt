@@ -14,7 +14,7 @@ ghost use Rattle.sf_view.specs.Reads.{Reads, ReadsBare, ReadsParam, ReadsItems, 
 
 use crate::bare::scan_value;
 use crate::bare_part::Part;
-use crate::classes::{InKey, behind, behind_spaces, is_key_start, short_prefix, split};
+use crate::classes::{InKey, after_spaces, is_key_start, short_prefix, split, strip_byte};
 use crate::keys::bytes_at;
 use crate::node_types::NodeType;
 use crate::view::{BareView, Slice};
@@ -88,8 +88,8 @@ pub(crate) fn read_param<'a>(
 ) -> Option<(&'a [u8], BareView<'a>, &'a [u8])>
     ensures { IfSome result (λ r. ReadsParam dialect (semicolon ∷ text.now) r.0.now r.1 r.2.now) }
 {
-    let (key, after) = read_key(behind_spaces(text))?;
-    let Some(value) = behind(after, b'=') else {
+    let (key, after) = read_key(after_spaces(text))?;
+    let Some(value) = strip_byte(after, b'=') else {
         return Some((key, TRUE, after));
     };
     let (bare, rest) = read_bare(dialect, value)?;
@@ -98,23 +98,23 @@ pub(crate) fn read_param<'a>(
 
 /// The rest after parameters. It costs a call only if the text begins with a semicolon.
 #[inline(always)]
-pub(crate) fn behind_params(dialect: Dialect, text: &[u8]) -> Option<&[u8]>
+pub(crate) fn after_params(dialect: Dialect, text: &[u8]) -> Option<&[u8]>
     ensures { IfSome result (λ rest. Reads (SpellsRaw dialect) text.now rest.now) }
 {
-    if behind(text, b';').is_none() {
+    if strip_byte(text, b';').is_none() {
         return Some(text);
     }
-    let rest = behind_each_param(dialect, text)?;
+    let rest = after_each_param(dialect, text)?;
     Some(rest)
 }
 
-/// As [`behind_params`].
+/// As [`after_params`].
 #[inline(never)]
-fn behind_each_param(dialect: Dialect, text: &[u8]) -> Option<&[u8]>
+fn after_each_param(dialect: Dialect, text: &[u8]) -> Option<&[u8]>
     ensures { IfSome result (λ rest. Reads (SpellsRaw dialect) text.now rest.now) }
 {
     let mut rest = text;
-    while let Some(more) = behind(rest, b';') {
+    while let Some(more) = strip_byte(rest, b';') {
         let (_, _, left) = read_param(dialect, more)?;
         rest = left;
     }
@@ -123,36 +123,36 @@ fn behind_each_param(dialect: Dialect, text: &[u8]) -> Option<&[u8]>
 
 /// The rest after an Item.
 #[inline]
-pub(crate) fn behind_item(dialect: Dialect, text: &[u8]) -> Option<&[u8]>
+pub(crate) fn after_item(dialect: Dialect, text: &[u8]) -> Option<&[u8]>
     ensures { IfSome result (λ rest. Reads (SpellsItem dialect) text.now rest.now) }
 {
     let (_, rest) = read_bare(dialect, text)?;
-    behind_params(dialect, rest)
+    after_params(dialect, rest)
 }
 
 /// The rest after the Items of an Inner List and its closing bracket.
-fn behind_items(dialect: Dialect, text: &[u8]) -> Option<&[u8]>
+fn after_items(dialect: Dialect, text: &[u8]) -> Option<&[u8]>
     ensures { IfSome result (λ rest. ReadsItems dialect 0 text.now rest.now) }
 {
-    let mut rest = behind_spaces(text);
+    let mut rest = after_spaces(text);
     loop {
-        if let Some(left) = behind(rest, b')') {
+        if let Some(left) = strip_byte(rest, b')') {
             return Some(left);
         }
-        let after = behind_item(dialect, rest)?;
-        let Some(more) = behind(after, b' ') else {
-            return behind(after, b')');
+        let after = after_item(dialect, rest)?;
+        let Some(more) = strip_byte(after, b' ') else {
+            return strip_byte(after, b')');
         };
-        rest = behind_spaces(more);
+        rest = after_spaces(more);
     }
 }
 
 /// The rest after an Inner List.
-fn behind_inner(dialect: Dialect, text: &[u8]) -> Option<&[u8]>
+fn after_inner(dialect: Dialect, text: &[u8]) -> Option<&[u8]>
     ensures { IfSome result (λ rest. Reads (SpellsInner dialect) text.now rest.now) }
 {
-    let inside = behind(text, b'(')?;
-    behind_params(dialect, behind_items(dialect, inside)?)
+    let inside = strip_byte(text, b'(')?;
+    after_params(dialect, after_items(dialect, inside)?)
 }
 
 /// A member of a List, or of a Dictionary after its key and =: its bare item, or `None` for an
@@ -164,11 +164,11 @@ pub(crate) fn read_member<'a>(
 ) -> Option<(Option<BareView<'a>>, &'a [u8])>
     ensures { IfSome result (λ r. ReadsMember dialect text.now r.0 r.1.now) }
 {
-    if behind(text, b'(').is_some() {
-        return Some((None, behind_inner(dialect, text)?));
+    if strip_byte(text, b'(').is_some() {
+        return Some((None, after_inner(dialect, text)?));
     }
     let (bare, after) = read_bare(dialect, text)?;
-    Some((Some(bare), behind_params(dialect, after)?))
+    Some((Some(bare), after_params(dialect, after)?))
 }
 
 /// A member of a Dictionary: its key, its bare item or `None` for an Inner List, and the rest.
@@ -180,9 +180,9 @@ pub(crate) fn read_entry<'a>(
     ensures { IfSome result (λ r. ReadsEntry dialect text.now r.0.now r.1 r.2.now) }
 {
     let (key, after) = read_key(text)?;
-    if let Some(value) = behind(after, b'=') {
+    if let Some(value) = strip_byte(after, b'=') {
         let (bare, rest) = read_member(dialect, value)?;
         return Some((key, bare, rest));
     }
-    Some((key, Some(TRUE), behind_params(dialect, after)?))
+    Some((key, Some(TRUE), after_params(dialect, after)?))
 }

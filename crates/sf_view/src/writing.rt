@@ -385,7 +385,7 @@ fn put_member<W: Sink>(view: View, before: Sent, out: &mut W) -> Sent
 /// Writes an Item after its key: only its parameters if it is Boolean true, otherwise `=` and its
 /// text.
 #[inline(always)]
-fn put_item_behind<W: Sink>(view: View, before: Sent, out: &mut W) -> Sent
+fn put_item_after<W: Sink>(view: View, before: Sent, out: &mut W) -> Sent
     ensures { (d : Which) (r : Place) (k : Seq ℕ) (i : ItemValue)
         → DescribesItem d view.entry.text.now r k view.entry.nodes.now i
         → Follows W.state W.send_gives out.old out.new before result
@@ -400,7 +400,7 @@ fn put_item_behind<W: Sink>(view: View, before: Sent, out: &mut W) -> Sent
 
 /// Writes what follows the key of a member.
 #[inline(always)]
-fn put_behind<W: Sink>(view: View, before: Sent, out: &mut W) -> Sent
+fn put_after<W: Sink>(view: View, before: Sent, out: &mut W) -> Sent
     ensures { (d : Which) (k : Seq ℕ) (m : MemberValue)
         → DescribesMember d view.entry.text.now k view.entry.nodes.now m
         → Follows W.state W.send_gives out.old out.new before result (canon_behind m) }
@@ -410,7 +410,7 @@ fn put_behind<W: Sink>(view: View, before: Sent, out: &mut W) -> Sent
             let sent = put(b"=", before, out);
             return put_inner(items, view.params(), sent, out);
         }
-        None => return put_item_behind(view, before, out),
+        None => return put_item_after(view, before, out),
     }
 }
 
@@ -422,7 +422,7 @@ fn put_entry<W: Sink>(view: View, before: Sent, out: &mut W) -> Sent
         → Follows W.state W.send_gives out.old out.new before result (canon_entry (k, m)) }
 {
     let sent = put(view.key(), before, out);
-    put_behind(view, sent, out)
+    put_after(view, sent, out)
 }
 
 /// Writes a List: its members, with a comma and a space between two.

@@ -2,19 +2,17 @@
 use Rattle.std.proofs.Common.{◌≡◌, ℕ, suc, ◌+◌, Bool, true, false, not, List, [], ◌∷◌, ◌++◌}
 use Rattle.std.proofs.Common.{◌/◌, ◌%◌, ◌<◌, ◌≤◌, length, take, drop, refl, sym, ap, ◌∙◌, subst}
 use Rattle.std.proofs.Common.{arith}
-use Rattle.std.proofs.lemmas.Bool.{and_parts}
-use Rattle.std.proofs.lemmas.List.{take-append-drop}
+use Rattle.std.proofs.lemmas.List.{take-append-drop, length-take-le}
 use Rattle.std.specs.List.{prefix_len, IsSplitAt}
 use Rattle.sf_value.specs.Grammar.Words.{Every}
-use Rattle.sf_value.specs.Grammar.Classes.{is_visible}
-use Rattle.sf_value.specs.Grammar.Strings.{escaped, is_escaped, is_unescaped}
+use Rattle.sf_value.specs.Grammar.Strings.{escaped, is_escaped}
 use Rattle.sf_value.specs.Grammar.DisplayStrings.{hex, is_unencoded}
 use Rattle.sf_value.specs.Grammar.Canonical.{canon_shown}
 
 -- a known run, and what is found after it
-pub prefix_behind : (p : ℕ → Bool) (s prefix behind : List ℕ) → s ≡ prefix ++ behind
+pub prefix_after : (p : ℕ → Bool) (s prefix behind : List ℕ) → s ≡ prefix ++ behind
     → Every p prefix → length prefix + prefix_len p behind ≡ prefix_len p s
-prefix_behind p s prefix behind e h = known prefix h ∙ sym (ap (prefix_len p) e)
+prefix_after p s prefix behind e h = known prefix h ∙ sym (ap (prefix_len p) e)
   where
     known : (t : List ℕ) → Every p t
         → length t + prefix_len p behind ≡ prefix_len p (t ++ behind)
@@ -49,8 +47,15 @@ prefix_whole p (b ∷ t) h = by (p b) refl (λ l. prefix_whole p t l)
         (q, rest (omega (arith, l)))
     by false q rest = absurd (let l : length (b ∷ t) ≤ 0 = rw q at h in omega (arith, l))
 
-near_far : (s near far : List ℕ) (n : ℕ) → near ≡ take n s → far ≡ drop n s → s ≡ near ++ far
+pub near_far : (s near far : List ℕ) (n : ℕ) → near ≡ take n s → far ≡ drop n s → s ≡ near ++ far
 near_far s near far n e f = rw (e, f) (sym (take-append-drop n s))
+
+-- the first bytes and the rest
+pub first_split : (s near far : List ℕ) (n : ℕ)
+    → (near ≡ take n s) × (far ≡ drop n s) × (length far + n ≡ length s) → IsSplitAt s n near far
+first_split s near far n (e, f, k) =
+    let enough : n ≤ length s = omega (arith, k) in
+    (enough, e, f, rw e (length-take-le n s enough), k)
 
 -- a run that is found in what is near
 pub run_near : (p : ℕ → Bool) (s near far : List ℕ) (n len : ℕ) → IsSplitAt s n near far
@@ -63,14 +68,8 @@ pub run_far : (p : ℕ → Bool) (s near far : List ℕ) (n len more : ℕ) → 
     → len ≡ prefix_len p near → n ≤ len → more ≡ prefix_len p far → n + more ≡ prefix_len p s
 run_far p s near far n len more (_, e, f, k, _) found all behind =
     rw (sym k, behind)
-    (prefix_behind p s near far (near_far s near far n e f)
+    (prefix_after p s near far (near_far s near far n e f)
     (prefix_whole p near (omega (arith, found, all, k))))
-
--- what is unescaped and visible is unescaped
-pub unescaped_prefix : (s : List ℕ) → Every is_unescaped s → Every (λ b. not (is_escaped b)) s
-unescaped_prefix [] h = tt
-unescaped_prefix (b ∷ s) h =
-    ((and_parts (is_visible b) (not (is_escaped b)) h.0).1, unescaped_prefix s h.1)
 
 module _ (as_is : ℕ → Bool) where
   -- after a run is a byte that doesn't belong to it

@@ -14,7 +14,7 @@ use sf_value::{Entries, Inner, Item, Member, Sink};
 
 /// Writes an Item after its key: only its parameters if it is Boolean true, otherwise `=` and its
 /// text.
-fn put_item_behind<W: Sink>(item: &Item, before: Sent, out: &mut W) -> Sent
+fn put_item_after<W: Sink>(item: &Item, before: Sent, out: &mut W) -> Sent
     ensures text { Follows W.state W.send_gives out.old out.new before result
         (canon_flag item.now.bare item.now.params) }
     ensures valid { ValidItem Rfc9651 item.now }
@@ -24,7 +24,7 @@ fn put_item_behind<W: Sink>(item: &Item, before: Sent, out: &mut W) -> Sent
 }
 
 /// Writes an Inner List after its key: `=` and its text.
-fn put_inner_behind<W: Sink>(inner: &Inner, before: Sent, out: &mut W) -> Sent
+fn put_inner_after<W: Sink>(inner: &Inner, before: Sent, out: &mut W) -> Sent
     ensures text { Follows W.state W.send_gives out.old out.new before result
         (equals ∷ canon_inner inner.now) }
     ensures valid { ValidInner Rfc9651 inner.now }
@@ -34,14 +34,14 @@ fn put_inner_behind<W: Sink>(inner: &Inner, before: Sent, out: &mut W) -> Sent
 }
 
 /// Writes what follows the key of a member.
-fn put_behind<W: Sink>(member: &Member, before: Sent, out: &mut W) -> Sent
+fn put_after<W: Sink>(member: &Member, before: Sent, out: &mut W) -> Sent
     ensures text { Follows W.state W.send_gives out.old out.new before result
         (canon_behind member.now) }
     ensures valid { ValidMember Rfc9651 member.now }
 {
     match member {
-        Member::Item(item) => put_item_behind(item, before, out),
-        Member::Inner(inner) => put_inner_behind(inner, before, out),
+        Member::Item(item) => put_item_after(item, before, out),
+        Member::Inner(inner) => put_inner_after(inner, before, out),
     }
 }
 
@@ -52,7 +52,7 @@ fn put_entry<W: Sink>(key: &[u8], member: &Member, before: Sent, out: &mut W) ->
     ensures valid { ValidMember Rfc9651 member.now }
 {
     let sent = put(key, before, out);
-    put_behind(member, sent, out)
+    put_after(member, sent, out)
 }
 
 /// Writes a Dictionary: its members, with a comma and a space between two.

@@ -8,7 +8,7 @@ ghost use Rattle.sf_write.specs.Writing.{Follows};
 
 use crate::sending::{Sent, put};
 use crate::strings::{CHUNK, LONG, NEAR};
-use sf_value::classes::{UnencodedByte, long_prefix};
+use sf_value::classes::{UnencodedByte, long_run, prefix_of_16};
 use sf_value::{Sink, hex_digits, stands_for_itself};
 
 /// The number of bytes that have to be escaped. The compiler vectorises the count of a chunk.
@@ -25,25 +25,39 @@ pub(crate) fn escaped_count(bytes: &[u8]) -> usize {
 }
 
 /// The length of the longest prefix without a byte that has to be escaped.
+#[inline(always)]
 fn unencoded_len(bytes: &[u8]) -> usize
     // The bytes before the first one that has to be escaped.
     ensures len { result ≡ prefix_len is_unencoded bytes.now }
     ensures within { result ≤ length bytes.now }
 {
-    if bytes.len() < LONG {
+    let Some((near, far)) = bytes.split_first_chunk::<LONG>() else {
         return unencoded_len_by_byte(bytes);
-    }
+    };
     if !stands_for_itself(bytes[0]) {
         return 0;
     }
-    let (unencoded, rest) = long_prefix::<UnencodedByte>(bytes);
+    let run = prefix_of_16::<UnencodedByte>(near);
+    if run < LONG {
+        return run;
+    }
+    LONG + unencoded_len_after_run(far)
+}
+
+/// As [`unencoded_len`], after a run, which is likely to go on.
+#[inline(always)]
+fn unencoded_len_after_run(bytes: &[u8]) -> usize
+    ensures len { result ≡ prefix_len is_unencoded bytes.now }
+    ensures within { result ≤ length bytes.now }
+{
+    let (run, rest) = bytes.split_at(long_run::<UnencodedByte>(bytes));
     let more = unencoded_len_by_byte(rest);
-    unencoded.len() + more
+    run.len() + more
 }
 
 /// As [`unencoded_len`], after an escape, where the next one is likely to be near.
 #[inline(always)]
-fn unencoded_len_behind_escape(bytes: &[u8]) -> usize
+fn unencoded_len_after_escape(bytes: &[u8]) -> usize
     ensures len { result ≡ prefix_len is_unencoded bytes.now }
     ensures within { result ≤ length bytes.now }
 {
@@ -93,14 +107,14 @@ pub fn put_display_string<W: Sink>(text: &[u8], before: Sent, out: &mut W) -> Se
     let mut rest = text;
     let mut len = unencoded_len(text);
     loop {
-        let (unencoded, behind) = rest.split_at(len);
+        let (unencoded, after) = rest.split_at(len);
         sent = put(unencoded, sent, out);
-        let Some((byte, more)) = behind.split_first() else {
+        let Some((byte, more)) = after.split_first() else {
             return put(b"\"", sent, out);
         };
         let escape = percent_escape(*byte);
         sent = put(&escape, sent, out);
         rest = more;
-        len = unencoded_len_behind_escape(more);
+        len = unencoded_len_after_escape(more);
     }
 }

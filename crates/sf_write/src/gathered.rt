@@ -118,7 +118,7 @@ impl<'a> Gathered<'a> {
     /// Moves the block to memory, and adds these bytes. If an allocation fails, no byte is added.
     /// It is not inlined, since it is rare: a block takes many parts of a text.
     #[inline(never)]
-    fn add_behind_block(&mut self, bytes: &[u8]) -> Result<(), OutOfMemory>
+    fn add_after_block(&mut self, bytes: &[u8]) -> Result<(), OutOfMemory>
         ensures added { MatchResult result
             (λ _. bytes_of self.new ≡ bytes_of self.old ++ bytes.now)
             (λ _. bytes_of self.new ≡ bytes_of self.old) }
@@ -148,7 +148,7 @@ impl Sink for Gathered<'_> {
         if bytes.is_empty() {
             return Ok(0);
         }
-        if self.add_behind_block(bytes).is_err() {
+        if self.add_after_block(bytes).is_err() {
             self.failures = self.failures.saturating_add(1);
             return Err(Failed);
         }

@@ -18,14 +18,14 @@ fn integer_len(number: i64) -> usize {
 /// A Decimal: the whole part, the point, and at least one digit.
 fn decimal_len(thousandths: i64) -> usize {
     let magnitude = thousandths.unsigned_abs();
-    let behind = if magnitude % 100 == 0 {
+    let after = if magnitude % 100 == 0 {
         1
     } else if magnitude % 10 == 0 {
         2
     } else {
         3
     };
-    digits(magnitude / 1000).saturating_add((thousandths < 0) as usize + 1 + behind)
+    digits(magnitude / 1000).saturating_add((thousandths < 0) as usize + 1 + after)
 }
 
 /// A String: two quotes, the bytes, and a backslash before some of them.
@@ -106,7 +106,7 @@ fn member_len(member: &Member) -> usize {
 }
 
 /// What follows the key of a member of a Dictionary.
-fn behind_len(member: &Member) -> usize {
+fn after_len(member: &Member) -> usize {
     match member {
         Member::Item(item) => value_len(&item.bare).saturating_add(params_len(&item.params)),
         Member::Inner(inner) => inner_len(inner).saturating_add(1),
@@ -135,7 +135,7 @@ pub(crate) fn field_len(field: &Field) -> usize {
             for (key, member) in &dict.members {
                 len = len
                     .saturating_add(key.len())
-                    .saturating_add(behind_len(member));
+                    .saturating_add(after_len(member));
             }
             len
         }

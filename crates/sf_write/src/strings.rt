@@ -7,7 +7,7 @@ ghost use Rattle.sf_write.specs.Writing.{Follows};
 
 use crate::sending::{Sent, put};
 use sf_value::Sink;
-use sf_value::classes::{Unescaped, long_prefix};
+use sf_value::classes::{NoBackslash, long_run, prefix_of_16};
 
 /// The number of bytes that are counted together: small enough that the count fits in a byte.
 pub(crate) const CHUNK: usize = 128;
@@ -40,26 +40,39 @@ pub(crate) fn escaped_count(bytes: &[u8]) -> usize {
 }
 
 /// The length of the longest prefix without a byte that needs a backslash.
+#[inline(always)]
 fn unescaped_len(bytes: &[u8]) -> usize
     // The bytes before the first one that needs a backslash.
     ensures len { result ≡ prefix_len (λ b. not (is_escaped b)) bytes.now }
     ensures within { result ≤ length bytes.now }
 {
-    if bytes.len() < LONG {
+    let Some((near, far)) = bytes.split_first_chunk::<LONG>() else {
         return unescaped_len_by_byte(bytes);
-    }
+    };
     if needs_backslash(bytes[0]) {
         return 0;
     }
-    // The bytes of a valid String are tested many at a time.
-    let (visible, rest) = long_prefix::<Unescaped>(bytes);
+    let run = prefix_of_16::<NoBackslash>(near);
+    if run < LONG {
+        return run;
+    }
+    LONG + unescaped_len_after_run(far)
+}
+
+/// As [`unescaped_len`], after a run, which is likely to go on.
+#[inline(always)]
+fn unescaped_len_after_run(bytes: &[u8]) -> usize
+    ensures len { result ≡ prefix_len (λ b. not (is_escaped b)) bytes.now }
+    ensures within { result ≤ length bytes.now }
+{
+    let (run, rest) = bytes.split_at(long_run::<NoBackslash>(bytes));
     let more = unescaped_len_by_byte(rest);
-    visible.len() + more
+    run.len() + more
 }
 
 /// As [`unescaped_len`], after an escape, where the next one is likely to be near.
 #[inline(always)]
-fn unescaped_len_behind_escape(bytes: &[u8]) -> usize
+fn unescaped_len_after_escape(bytes: &[u8]) -> usize
     ensures len { result ≡ prefix_len (λ b. not (is_escaped b)) bytes.now }
     ensures within { result ≤ length bytes.now }
 {
@@ -96,13 +109,13 @@ pub fn put_string<W: Sink>(text: &[u8], before: Sent, out: &mut W) -> Sent
     let mut rest = text;
     let mut len = unescaped_len(text);
     loop {
-        let (unescaped, behind) = rest.split_at(len);
+        let (unescaped, after) = rest.split_at(len);
         sent = put(unescaped, sent, out);
-        let Some((byte, more)) = behind.split_first() else {
+        let Some((byte, more)) = after.split_first() else {
             return put(b"\"", sent, out);
         };
         sent = put(&[b'\\', *byte], sent, out);
         rest = more;
-        len = unescaped_len_behind_escape(more);
+        len = unescaped_len_after_escape(more);
     }
 }

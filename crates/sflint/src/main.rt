@@ -2,7 +2,7 @@
 //! colours if that is a terminal. `sf_lint` defines what it does, its status and its messages.
 #![tactic(auto)]
 
-use sf_lint::{OptionsFault, Settings, is_coloured, read_settings, run, status_line};
+use sf_lint::{Options, OptionsFault, Settings, is_coloured, read_options, run_with, status_line};
 use sf_tool::Status;
 use sf_value::{Reading, Writing};
 use std::env;
@@ -12,10 +12,11 @@ use std::io::{IsTerminal, Write};
 use std::process::ExitCode;
 
 fn main(rt: HostRuntime) -> ExitCode {
-    let status = match settings_of(&rt) {
-        Ok(settings) => {
+    let status = match options_of(&rt) {
+        Ok(Options { settings, caches }) => {
             let colour = has_colours(&rt);
-            answer(&rt, &Settings { colour, ..settings })
+            let settings = Settings { colour, ..settings };
+            answer(&rt, &Options { settings, caches })
         }
         Err(fault) => tell(&rt, fault),
     };
@@ -26,8 +27,8 @@ fn main(rt: HostRuntime) -> ExitCode {
     ExitCode::from(status.code())
 }
 
-/// The settings of the command line.
-fn settings_of(rt: &HostRuntime) -> Result<Settings, OptionsFault> {
+/// The options of the command line.
+fn options_of(rt: &HostRuntime) -> Result<Options, OptionsFault> {
     let Ok(args) = env::args(rt) else {
         return Err(OptionsFault::OutOfMemory);
     };
@@ -35,7 +36,7 @@ fn settings_of(rt: &HostRuntime) -> Result<Settings, OptionsFault> {
         Ok(words) => words,
         Err(_) => return Err(OptionsFault::OutOfMemory),
     };
-    read_settings(rt.alloc(), words.as_slice())
+    read_options(rt.alloc(), words.as_slice())
 }
 
 /// Whether the output is coloured: if standard output is a terminal, unless the environment says
@@ -62,12 +63,12 @@ fn tell(rt: &HostRuntime, fault: OptionsFault) -> Status {
 }
 
 /// Writes the report on standard input to standard output, and flushes that.
-fn answer(rt: &HostRuntime, settings: &Settings) -> Status {
+fn answer(rt: &HostRuntime, options: &Options) -> Status {
     let Ok(seed) = RandomState::new(rt) else {
         return Status::Stopped;
     };
     let mut source = Reading::new(rt.stdin());
     let mut sink = Writing::new(rt.stdout());
-    let status = run(rt.alloc(), &seed, settings, &mut source, &mut sink);
+    let status = run_with(rt.alloc(), &seed, options, &mut source, &mut sink);
     status.after_flush(sink.into_inner().flush())
 }

@@ -1,7 +1,7 @@
-//! The functions and structs of `sf.h`, the header of the library for C, which documents them. The
-//! sizes of the structs are asserted below and the offsets of their members tested, by the numbers
-//! that the tests of the library for C have for the header. The crate `sf` has safe functions over
-//! these.
+//! The functions and structs of `sf_functions.h`, a header of the library for C, which documents
+//! them. The sizes of the structs are asserted below and the offsets of their members tested, by the
+//! numbers that the tests of the library for C have for the header. The crate `sf` has safe functions
+//! over these.
 #![cfg_attr(not(test), no_std)]
 
 use core::ffi::c_void;
@@ -56,6 +56,7 @@ pub struct ResponsePriorityFlags {
 }
 
 #[repr(C)]
+#[derive(Clone, Copy, Debug, PartialEq, Eq)]
 pub struct Policy {
     pub max_age: u64,
     pub s_maxage: u64,
@@ -68,6 +69,7 @@ pub struct Policy {
 }
 
 #[repr(C)]
+#[derive(Clone, Copy, Debug, PartialEq, Eq)]
 pub struct Rules {
     pub policy: Policy,
     pub invalid_max_age: u8,
@@ -75,6 +77,22 @@ pub struct Rules {
     pub proxy_revalidate: u8,
     pub must_understand: u8,
     pub is_public: u8,
+}
+
+#[repr(C)]
+#[derive(Clone, Copy, Debug, PartialEq, Eq)]
+pub struct Time {
+    pub seconds: u64,
+    pub lines: u32,
+}
+
+#[repr(C)]
+#[derive(Clone, Copy, Debug, PartialEq, Eq)]
+pub struct Fallback {
+    pub rules: Rules,
+    pub expires: Time,
+    pub date: Time,
+    pub is_refused: u32,
 }
 
 #[repr(C)]
@@ -89,7 +107,7 @@ pub struct Response {
 pub struct Decision {
     pub seconds: u64,
     pub reuse: u8,
-    pub by: u8,
+    pub cause: u8,
     pub allows_storing: u8,
     pub allows_authorized: u8,
 }
@@ -149,6 +167,8 @@ const _: () = {
     assert!(size_of::<ResponsePriorityFlags>() == 4);
     assert!(size_of::<Policy>() == 24);
     assert!(size_of::<Rules>() == 32);
+    assert!(size_of::<Time>() == 16);
+    assert!(size_of::<Fallback>() == 72);
     assert!(size_of::<Response>() == 24);
     assert!(size_of::<Decision>() == 16);
     assert!(size_of::<Span>() == 16);
@@ -239,6 +259,11 @@ pub const BY_INVALID_S_MAXAGE: u8 = 59;
 pub const BY_EXPIRES: u8 = 60;
 pub const BY_MUST_REVALIDATE: u8 = 61;
 pub const BY_PROXY_REVALIDATE: u8 = 62;
+
+// An `sf_fallback_field`.
+pub const FALLBACK_CACHE_CONTROL: u32 = 71;
+pub const FALLBACK_EXPIRES: u32 = 72;
+pub const FALLBACK_DATE: u32 = 73;
 
 extern "C" {
     pub fn sf_version() -> u32;
@@ -415,6 +440,17 @@ extern "C" {
         response: *const Response,
         decision: *mut Decision,
     ) -> u32;
+    pub fn sf_fallback_line(
+        field: u32,
+        line: *const c_void,
+        length: usize,
+        fallback: *mut Fallback,
+    ) -> u32;
+    pub fn sf_fallback_lifetime(
+        fallback: *const Fallback,
+        received: u64,
+        response: *mut Response,
+    ) -> u32;
     pub fn sf_cache_status(
         seed: *const [u8; 16],
         text: *const c_void,
@@ -525,13 +561,19 @@ mod tests {
         assert_eq!(at!(Rules, proxy_revalidate), 26);
         assert_eq!(at!(Rules, must_understand), 27);
         assert_eq!(at!(Rules, is_public), 28);
+        assert_eq!(at!(Time, seconds), 0);
+        assert_eq!(at!(Time, lines), 8);
+        assert_eq!(at!(Fallback, rules), 0);
+        assert_eq!(at!(Fallback, expires), 32);
+        assert_eq!(at!(Fallback, date), 48);
+        assert_eq!(at!(Fallback, is_refused), 64);
         assert_eq!(at!(Response, age), 0);
         assert_eq!(at!(Response, lifetime), 8);
         assert_eq!(at!(Response, has_lifetime), 16);
         assert_eq!(at!(Response, is_understood), 17);
         assert_eq!(at!(Decision, seconds), 0);
         assert_eq!(at!(Decision, reuse), 8);
-        assert_eq!(at!(Decision, by), 9);
+        assert_eq!(at!(Decision, cause), 9);
         assert_eq!(at!(Decision, allows_storing), 10);
         assert_eq!(at!(Decision, allows_authorized), 11);
         assert_eq!(at!(Span, at), 0);

@@ -1,31 +1,29 @@
 //! What a proxy concludes from the heads of a request and its response, on standard input: a line
 //! `> Name: value` is of the request, and `< Name: value` of the response.
 
-use sf::{Cache, Error, Outcome, Path, Priority, Response, Reuse, RulesChoice};
+use sf::{Cache, Dialect, Error, Exchange, Outcome, Path, Priority, ResponsePriority};
 use std::io::{self, Read};
 
 /// The targeted fields that this cache obeys, in order (RFC 9213 section 2.2).
 const TARGETS: [&str; 2] = ["ExampleCDN-Cache-Control", "CDN-Cache-Control"];
+/// The RFCs of the three fields cite it, and RFC 9651 adds no types to them.
+const DIALECT: Dialect = Dialect::Rfc8941;
 
-/// The lines of a field, joined. White space around a value is no part of it (RFC 9110 section
-/// 5.5).
-fn field(heads: &[u8], side: u8, name: &str) -> Result<Vec<u8>, Error> {
-    sf::join(heads.split(|byte| *byte == b'\n').filter_map(|line| {
-        let line = line.strip_suffix(b"\r").unwrap_or(line);
-        let line = line.strip_prefix(&[side])?;
-        let (found, value) = line.split_at(line.iter().position(|byte| *byte == b':')?);
-        let is_it = sf::trim(found).eq_ignore_ascii_case(name.as_bytes());
-        is_it.then(|| sf::trim(&value[1..]))
-    }))
+/// The lines of a head: names and values.
+type Head<'a> = [(&'a [u8], &'a [u8])];
+
+/// The head of a side.
+fn head(heads: &[u8], side: u8) -> Vec<(&[u8], &[u8])> {
+    let lines = heads.split(|byte| *byte == b'\n');
+    let of_side = lines.filter_map(|line| line.strip_prefix(&[side]));
+    let pairs = of_side.filter_map(|line| sf::split_field_line(sf::trim(line)));
+    pairs.collect()
 }
 
 /// What a field says. One that is malformed counts as absent, and standard error shows it.
-fn read<T>(heads: &[u8], side: u8, name: &str) -> Result<T, Error>
-where
-    T: Default + for<'a> TryFrom<&'a [u8], Error = Error>,
-{
-    let text = field(heads, side, name)?;
-    T::try_from(&text).or_else(|error| {
+fn said<T: Default>(field: Result<T, Error>, head: &Head, name: &str) -> Result<T, Error> {
+    let text = sf::field_text(head, name)?;
+    field.or_else(|error| {
         match error.refusal() {
             Some(refusal) => eprintln!("{name}: {}", refusal.in_text(&text)),
             None => eprintln!("{name}: {error}"),
@@ -52,33 +50,28 @@ fn source(path: &Path) -> String {
     }
 }
 
-/// What a shared cache does with a new response (RFC 9213 and RFC 9111).
-fn decision(choice: RulesChoice) -> String {
-    let (index, rules) = match choice {
-        RulesChoice::Field { index, rules } => (index, rules),
-        RulesChoice::Fallback => return "Cache-Control decides".to_string(),
-    };
-    let what = match rules.decide(Cache::Shared, Response::default()).reuse {
-        Reuse::NotStored => "don't store it".to_string(),
-        Reuse::Fresh { seconds } => format!("store it, fresh for {seconds} s"),
-        Reuse::Stale => "store it, stale".to_string(),
-        Reuse::Revalidate => "store it, validate it before each use".to_string(),
-        Reuse::Unspecified => "no lifetime is set".to_string(),
-    };
-    format!("{}: {what}", TARGETS[index])
-}
-
 fn main() -> Result<(), Box<dyn std::error::Error>> {
     let mut heads = Vec::new();
     io::stdin().read_to_end(&mut heads)?;
+    let (request, response) = (head(&heads, b'>'), head(&heads, b'<'));
 
-    let client: Priority = read(&heads, b'>', "Priority")?;
-    let priority = client.merged_with(read(&heads, b'<', "Priority")?);
+    let client = Priority::from_headers_in(DIALECT, &request);
+    let client = said(client, &request, "Priority")?;
+    let server = ResponsePriority::from_headers_in(DIALECT, &response);
+    let priority = client.merged_with(said(server, &response, "Priority")?);
     let how = ["", ", incremental"][usize::from(priority.incremental())];
     println!("urgency {}{how}", priority.urgency());
-    println!("{}", source(&read(&heads, b'<', "Cache-Status")?));
-    let targets = TARGETS.map(|name| field(&heads, b'<', name));
-    let targets: Vec<_> = targets.into_iter().collect::<Result<_, _>>()?;
-    println!("{}", decision(sf::select_rules(targets)?));
+
+    let path = Path::from_headers_in(DIALECT, &response);
+    println!("{}", source(&said(path, &response, "Cache-Status")?));
+
+    // What a shared cache does with the response (RFC 9213 and RFC 9111).
+    let exchange = Exchange::now(Cache::Shared).with_status(200);
+    let verdict = exchange.decide_in(DIALECT, &TARGETS, &response)?;
+    for malformed in &verdict.malformed {
+        eprintln!("{malformed}");
+    }
+    let what = ["don't store it", "store it"][usize::from(verdict.may_store())];
+    println!("{what} by {verdict}");
     Ok(())
 }

@@ -1,75 +1,72 @@
-//! A caching proxy's decisions on a request that it forwards, and on the response, by their fields
-//! on standard input: a line `> Name: value` is of the request, and `< Name: value` of the
-//! response. Left out: method, status code, `Authorization`, `Vary`, the time since the request.
+//! A caching proxy's decisions on a request that it forwards, and on the response, by their heads on
+//! standard input: a line `> Name: value` is of the request, and `< Name: value` of the response.
+//! Standard error shows what is malformed. The words of the command line are `private` for a private
+//! cache, the status code, and `understood` if the cache understands it. Left out: method,
+//! `Authorization`, `Vary`, the time since the request.
 
-use sf::{
-    Cache, Dialect, Error, Forward, Forwarded, Hop, Parser, Response, Reuse, RulesChoice, TokenRef,
-};
+use sf::{Cache, Dialect, Error, Exchange, Forward, Forwarded, Hop, Priority, ResponsePriority};
+use sf::{Reuse, TokenRef};
 use std::io::{self, BufRead};
 
 /// This cache.
 const NAME: &TokenRef = TokenRef::constant("ExampleCDN");
 /// This cache's own field, and the one of all caches of its kind (RFC 9213 section 2.2).
-const TARGET_LIST: [&str; 2] = ["ExampleCDN-Cache-Control", "CDN-Cache-Control"];
+const TARGETS: [&str; 2] = ["ExampleCDN-Cache-Control", "CDN-Cache-Control"];
+/// The RFCs of these fields cite RFC 8941, and have no field of a newer type.
+const DIALECT: Dialect = Dialect::Rfc8941;
+
+/// The field lines of a side: names and values.
+fn head(lines: &[Vec<u8>], side: u8) -> Vec<(&[u8], &[u8])> {
+    let of_side = lines.iter().filter_map(|line| line.strip_prefix(&[side]));
+    let pairs = of_side.filter_map(|line| sf::split_field_line(sf::trim(line)));
+    pairs.collect()
+}
+
+/// What a field says. One that is malformed counts as absent (RFC 9218 section 5).
+fn said<T: Default>(name: &str, field: Result<T, Error>) -> Result<T, Error> {
+    field.or_else(|error| {
+        eprintln!("{name}: {error}");
+        error.as_absent()
+    })
+}
 
 fn main() -> Result<(), Box<dyn std::error::Error>> {
-    let words: Vec<String> = std::env::args().skip(1).collect(); // private, understood
+    let words: Vec<String> = std::env::args().skip(1).collect();
     let has_word = |word: &str| words.iter().any(|said| said == word);
     let lines: Vec<_> = io::stdin().lock().split(b'\n').collect::<Result<_, _>>()?;
-    let field = |side: u8, name: &str| {
-        sf::join(lines.iter().filter_map(|line| {
-            let line = line.strip_suffix(b"\r").unwrap_or(line);
-            let line = line.strip_prefix(&[side])?;
-            let (found, value) = line.split_at(line.iter().position(|byte| *byte == b':')?);
-            let is_it = sf::trim(found).eq_ignore_ascii_case(name.as_bytes());
-            is_it.then(|| sf::trim(&value[1..]))
-        }))
-    };
+    let (request, response) = (head(&lines, b'>'), head(&lines, b'<'));
 
-    // The RFCs of these fields cite RFC 8941, and have no field of a newer type.
-    let parser = Parser::new().with_dialect(Dialect::Rfc8941);
-    let asked = parser.priority(field(b'>', "Priority")?);
-    let answered = parser.response_priority(field(b'<', "Priority")?);
-    let answered = answered.or_else(Error::as_absent)?;
-    let both = asked.or_else(Error::as_absent)?.merged_with(answered);
+    let asked = said("Priority", Priority::from_headers_in(DIALECT, &request))?;
+    let answered = ResponsePriority::from_headers_in(DIALECT, &response);
+    let both = asked.merged_with(said("Priority", answered)?);
     let how = ["", ", incremental"][usize::from(both.incremental())];
     println!("urgency {}{how}", both.urgency());
 
-    let targets = TARGET_LIST.map(|name| field(b'<', name));
-    let targets: Vec<_> = targets.into_iter().collect::<Result<_, _>>()?;
     let cache = [Cache::Shared, Cache::Private][usize::from(has_word("private"))];
-    let response = Response {
-        age: sf::age(field(b'<', "Age")?).unwrap_or_default(),
-        is_understood: has_word("understood"),
-        ..Response::default()
-    };
-    let decision = match parser.select_rules(targets)? {
-        RulesChoice::Fallback => None,
-        RulesChoice::Field { index, rules } => {
-            let decision = rules.decide(cache, response);
-            let by = decision.by.map(|cause| format!(" ({cause})"));
-            let (name, by) = (TARGET_LIST[index], by.unwrap_or_default());
-            match decision.reuse {
-                Reuse::NotStored => println!("by {name}: don't store it{by}"),
-                Reuse::Fresh { seconds } => println!("by {name}: fresh for {seconds} s{by}"),
-                Reuse::Stale => println!("by {name}: stale{by}"),
-                Reuse::Revalidate => println!("by {name}: validate it before each use{by}"),
-                Reuse::Unspecified => println!("by {name}: no lifetime{by}"),
-            }
-            Some(decision)
-        }
-    };
-    if decision.is_none() {
-        println!("by no targeted field: Cache-Control decides");
+    let mut exchange = Exchange::now(cache).with_understood(has_word("understood"));
+    exchange.status = words.iter().find_map(|word| word.parse().ok());
+    let verdict = exchange.decide_in(DIALECT, &TARGETS, &response)?;
+    for malformed in &verdict.malformed {
+        eprintln!("{malformed}");
     }
+    let by = verdict.decision.cause.map(|cause| format!(" ({cause})"));
+    let how = match verdict.decision.reuse {
+        Reuse::NotStored => "don't store it".to_string(),
+        Reuse::Fresh { seconds } => format!("fresh for {seconds} s"),
+        Reuse::Stale => "stale".to_string(),
+        Reuse::Revalidate => "validate it before each use".to_string(),
+        Reuse::Unspecified => "no lifetime".to_string(),
+    };
+    println!("by {}: {how}{}", verdict.field, by.unwrap_or_default());
 
-    let mut forwarded = Forwarded::new(Forward::UriMiss);
-    // Whether it is stored is not known if Cache-Control decides, which is not read.
-    forwarded.stored = decision.map(|decision| decision.may_store());
+    let forwarded = Forwarded::new(Forward::UriMiss).with_stored(verdict.may_store());
     let mut hop = Hop::new(NAME).with_outcome(forwarded);
-    hop.ttl = decision.and_then(|it| it.fresh_for()).map(Into::into);
-    // A hop that is added to malformed lines would be ignored with them: it is sent alone.
-    let path = parser.append_or_replace_hop(&hop, [field(b'<', "Cache-Status")?])?;
-    println!("Cache-Status: {path}");
+    hop.ttl = verdict.fresh_for().map(Into::into);
+    let path = sf::field_text(&response, "Cache-Status")?;
+    let sent = hop.append_or_replace_in(DIALECT, [path])?;
+    if let Some(refusal) = sent.refusal() {
+        eprintln!("Cache-Status: {refusal}");
+    }
+    println!("Cache-Status: {sent}");
     Ok(())
 }

@@ -1,4 +1,6 @@
 use crate::ffi;
+#[cfg(feature = "std")]
+use crate::Dialect;
 use crate::{Error, Parser, Policy, Seconds};
 use core::fmt;
 use sf_sys as raw;
@@ -19,7 +21,7 @@ pub enum Cache {
 /// use sf::{Cache, CacheRules, Cause, Response, Reuse};
 /// let rules = CacheRules::parse("max-age=60, no-cache").unwrap().unwrap();
 /// let decision = rules.decide(Cache::Shared, Response::default());
-/// assert_eq!((decision.reuse, decision.by), (Reuse::Revalidate, Some(Cause::NoCache)));
+/// assert_eq!((decision.reuse, decision.cause), (Reuse::Revalidate, Some(Cause::NoCache)));
 /// ```
 #[derive(Clone, Copy, Debug, Default, PartialEq, Eq, Hash)]
 #[allow(clippy::struct_excessive_bools)] // they are directives, each by its name
@@ -52,9 +54,11 @@ pub struct Response {
     /// Its age in seconds (RFC 9111 section 4.2.3); [`age`](crate::age()) reads a part of it, the
     /// `Age` field.
     pub age: u64,
-    /// The lifetime in seconds by `Expires` less `Date`, or of a heuristic, if one may apply, which
-    /// counts if no directive sets a lifetime (sections 4.2.1 and 4.2.2). If a targeted field
-    /// decides, `Expires` is ignored (RFC 9213 section 2.2).
+    /// The lifetime in seconds by `Expires` less `Date` ([`Fallback::lifetime`]), or of a heuristic,
+    /// if one may apply, which counts if no directive sets a lifetime (sections 4.2.1 and 4.2.2). If
+    /// a targeted field decides, `Expires` is ignored (RFC 9213 section 2.2).
+    ///
+    /// [`Fallback::lifetime`]: crate::Fallback::lifetime
     pub lifetime: Option<u64>,
     /// Whether the cache understands the status code and implements its requirements (section
     /// 5.2.2.3).
@@ -193,9 +197,9 @@ pub struct Decision {
     /// How the response may be used.
     pub reuse: Reuse,
     /// The directive that decided; `None` if there is none.
-    pub by: Option<Cause>,
-    /// Whether a directive permits storing it, whatever its status code (RFC 9111 section 3).
-    /// [`Reuse::NotStored`] forbids it all the same.
+    pub cause: Option<Cause>,
+    /// Whether a directive permits storing it, also if its status code is not heuristically
+    /// cacheable (RFC 9111 section 3). [`Reuse::NotStored`] forbids it all the same.
     pub allows_storing: bool,
     /// Whether a directive permits a shared cache to store it, though the request had
     /// `Authorization` (section 3.5). [`Reuse::NotStored`] forbids it all the same.
@@ -251,15 +255,15 @@ impl From<raw::Decision> for Decision {
                 raw::REUSE_UNSPECIFIED => Reuse::Unspecified,
                 _ => Reuse::NotStored,
             },
-            by: cause_of(decision.by),
+            cause: cause_of(decision.cause),
             allows_storing: decision.allows_storing != 0,
             allows_authorized: decision.allows_authorized != 0,
         }
     }
 }
 
-fn cause_of(by: u8) -> Option<Cause> {
-    Some(match by {
+fn cause_of(cause: u8) -> Option<Cause> {
+    Some(match cause {
         raw::BY_NO_STORE => Cause::NoStore,
         raw::BY_PRIVATE => Cause::Private,
         raw::BY_MUST_UNDERSTAND => Cause::MustUnderstand,
@@ -297,7 +301,7 @@ impl Decision {
         match self.reuse {
             Reuse::NotStored => false,
             Reuse::Unspecified => self.allows_storing,
-            Reuse::Revalidate => self.allows_storing || self.by != Some(Cause::NoCache),
+            Reuse::Revalidate => self.allows_storing || self.cause != Some(Cause::NoCache),
             Reuse::Fresh { .. } | Reuse::Stale => true,
         }
     }
@@ -321,6 +325,31 @@ impl Decision {
     }
 }
 
+/// How the response may be used, and the directive that decided.
+///
+/// ```
+/// use sf::{Cache, CacheRules, Response};
+/// let decide = |text| {
+///     let rules = CacheRules::parse(text).unwrap().unwrap();
+///     rules.decide(Cache::Shared, Response::default()).to_string()
+/// };
+/// assert_eq!(decide("max-age=60"), "fresh for 60 s (max-age)");
+/// assert_eq!(decide("no-cache"), "revalidate (no-cache)");
+/// assert_eq!(decide("a"), "unspecified");
+/// ```
+impl fmt::Display for Decision {
+    fn fmt(&self, f: &mut fmt::Formatter<'_>) -> fmt::Result {
+        f.write_str(self.reuse.as_str())?;
+        if let Reuse::Fresh { seconds } = self.reuse {
+            write!(f, " for {seconds} s")?;
+        }
+        match self.cause {
+            Some(cause) => write!(f, " ({cause})"),
+            None => Ok(()),
+        }
+    }
+}
+
 impl CacheRules {
     /// Reads the text of one targeted field (RFC 9213 section 2.1), by RFC 9651; `None` if it has
     /// no members. After `None` and after [`Error::Refused`] a cache ignores this field and uses
@@ -339,6 +368,22 @@ impl CacheRules {
         Parser::new().cache_rules(text)
     }
 
+    /// Reads the text of one targeted field by a dialect: see [`CacheRules::parse`].
+    ///
+    /// # Errors
+    ///
+    /// [`Error::Refused`] if the text is not a well-formed Dictionary.
+    ///
+    /// ```
+    /// use sf::{CacheRules, Dialect};
+    /// assert!(CacheRules::parse_in(Dialect::Rfc8941, "max-age=60, x=@1").is_err());
+    /// assert!(CacheRules::parse_in(Dialect::Rfc9651, "max-age=60, x=@1").is_ok());
+    /// ```
+    #[cfg(feature = "std")]
+    pub fn parse_in(dialect: Dialect, text: impl AsRef<[u8]>) -> Result<Option<CacheRules>, Error> {
+        Parser::new().with_dialect(dialect).cache_rules(text)
+    }
+
     /// Decides what a cache does with a response by these directives and its age (RFC 9111 sections
     /// 3, 4.2 and 5.2.2). Of directives that conflict, the most restrictive one decides. Ages and
     /// lifetimes above 2^31 seconds count as 2^31.
@@ -349,7 +394,7 @@ impl CacheRules {
     /// let aged = |age| rules.decide(Cache::Shared, Response { age, ..Response::default() });
     /// assert_eq!(aged(10).reuse, Reuse::Fresh { seconds: 50 });
     /// assert_eq!(aged(60).reuse, Reuse::Revalidate);
-    /// assert_eq!(aged(60).by, Some(Cause::MustRevalidate));
+    /// assert_eq!(aged(60).cause, Some(Cause::MustRevalidate));
     /// ```
     #[must_use]
     pub fn decide(&self, cache: Cache, response: Response) -> Decision {
@@ -362,7 +407,7 @@ impl CacheRules {
             // Another library: nothing is stored by what it says.
             Err(_) => Decision {
                 reuse: Reuse::NotStored,
-                by: None,
+                cause: None,
                 allows_storing: false,
                 allows_authorized: false,
             },
@@ -414,7 +459,8 @@ pub enum RulesChoice {
         /// Its directives.
         rules: CacheRules,
     },
-    /// Each field is ignored: `Cache-Control` and `Expires` decide.
+    /// Each field is ignored: `Cache-Control` and `Expires` decide, by a
+    /// [`Fallback`](crate::Fallback).
     Fallback,
 }
 
@@ -516,4 +562,24 @@ pub fn select_rules(
     fields: impl IntoIterator<Item = impl AsRef<[u8]>>,
 ) -> Result<RulesChoice, Error> {
     Parser::new().select_rules(fields)
+}
+
+/// Chooses the field that a cache obeys by a dialect: see [`select_rules`].
+///
+/// # Errors
+///
+/// [`Error::OutOfMemory`] only.
+///
+/// ```
+/// use sf::{select_rules_in, Dialect};
+/// let targets = ["max-age=60, x=@1", "no-store"];
+/// assert_eq!(select_rules_in(Dialect::Rfc8941, targets).unwrap().index(), Some(1));
+/// assert_eq!(select_rules_in(Dialect::Rfc9651, targets).unwrap().index(), Some(0));
+/// ```
+#[cfg(feature = "std")]
+pub fn select_rules_in(
+    dialect: Dialect,
+    fields: impl IntoIterator<Item = impl AsRef<[u8]>>,
+) -> Result<RulesChoice, Error> {
+    Parser::new().with_dialect(dialect).select_rules(fields)
 }

@@ -97,17 +97,22 @@ impl Refusal {
     /// ```
     #[must_use]
     pub fn line(&self, lines: impl IntoIterator<Item = impl AsRef<[u8]>>) -> LinePlace {
+        self.place_in(lines.into_iter().map(|line| line.as_ref().len()))
+    }
+
+    /// The same for lines of these lengths.
+    pub(crate) fn place_in(&self, lengths: impl Iterator<Item = usize>) -> LinePlace {
         let mut left = usize::try_from(self.offset).unwrap_or(usize::MAX);
         let mut place = LinePlace::default();
         let mut before = 0; // the length of the line so far
-        for (line, bytes) in lines.into_iter().enumerate() {
+        for (line, length) in lengths.enumerate() {
             if line > 0 {
                 if left < before + 2 {
                     break;
                 }
                 left -= before + 2;
             }
-            before = bytes.as_ref().len();
+            before = length;
             let offset = left.min(before);
             place = LinePlace { line, offset };
         }
@@ -160,7 +165,7 @@ impl Refusal {
                 offset: place.offset as u64,
                 ..*self
             },
-            line: Some(place.line),
+            line: Some(place.line + 1),
             text: lines.get(place.line).map_or(&[], AsRef::as_ref),
             most,
         }
@@ -181,6 +186,23 @@ pub struct Excerpt<'a> {
     most: usize,
 }
 
+impl Excerpt<'_> {
+    /// The same with another number of the line, such as that of the line in a message's head.
+    ///
+    /// ```
+    /// let refusal = sf::check(sf::Kind::List, "a, b c").unwrap_err().refusal().unwrap();
+    /// let shown = refusal.excerpt_of_line(&["a", "b c"], 8).with_line(7).to_string();
+    /// assert!(shown.contains("\nline 7, place 2:\nb c\n"));
+    /// ```
+    #[must_use]
+    pub fn with_line(self, number: usize) -> Self {
+        Excerpt {
+            line: Some(number),
+            ..self
+        }
+    }
+}
+
 impl fmt::Display for Excerpt<'_> {
     fn fmt(&self, f: &mut fmt::Formatter<'_>) -> fmt::Result {
         let length = self.text.len();
@@ -191,7 +213,7 @@ impl fmt::Display for Excerpt<'_> {
         let shown = &self.text[from..length.min(from.saturating_add(self.most))];
         write!(f, "{}", self.refusal)?;
         if let Some(line) = self.line {
-            write!(f, "\nline {}, place {}:", line + 1, self.refusal.offset)?;
+            write!(f, "\nline {line}, place {}:", self.refusal.offset)?;
         }
         f.write_str("\n")?;
         for byte in shown {
@@ -234,8 +256,11 @@ fn halves(set: u128) -> [u64; 2] {
 
 impl fmt::Display for Refusal {
     fn fmt(&self, f: &mut fmt::Formatter<'_>) -> fmt::Result {
-        let message = Short::<MESSAGE_SIZE>::written(|buffer| ffi::refusal_text(self, buffer));
-        f.pad(message.map_err(|_| fmt::Error)?.as_str())
+        match Short::<MESSAGE_SIZE>::written(|buffer| ffi::refusal_text(self, buffer)) {
+            Ok(message) => f.pad(message.as_str()),
+            // Out of memory: `format!` would panic if this returned an error.
+            Err(_) => write!(f, "malformed at place {}", self.offset),
+        }
     }
 }
 
@@ -258,7 +283,10 @@ impl fmt::Display for RefusalInText<'_> {
         let shown = crate::buffer::written(MESSAGE_SIZE, |buffer| {
             ffi::refusal_in_text(&self.refusal, self.text, buffer)
         });
-        f.pad(&shown.map_err(|_| fmt::Error)?)
+        match shown {
+            Ok(shown) => f.pad(&shown),
+            Err(_) => self.refusal.fmt(f),
+        }
     }
 }
 

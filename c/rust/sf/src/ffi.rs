@@ -325,50 +325,6 @@ const NO_POLICY: raw::Policy = raw::Policy {
     is_private: 0,
 };
 
-/// The directives of a targeted field; `None` if it has no members.
-pub(crate) fn cache_control(seed: &Seed, text: &[u8]) -> Result<Option<raw::Policy>, Error> {
-    let mut refusal = NO_REFUSAL;
-    let mut policy = NO_POLICY;
-    let status = unsafe {
-        raw::sf_cache_control(
-            &seed.bytes,
-            start(text),
-            text.len(),
-            &mut policy,
-            &mut refusal,
-        )
-    };
-    match status {
-        raw::EMPTY => Ok(None),
-        status => done(status, &refusal).map(|()| Some(policy)),
-    }
-}
-
-/// The directives of the only field of a target list; `None` if it is ignored.
-pub(crate) fn select_one(seed: &Seed, text: &[u8]) -> Result<Option<raw::Policy>, Error> {
-    let mut index = 0;
-    let mut policy = NO_POLICY;
-    let field = raw::Span {
-        at: 0,
-        length: text.len(),
-    };
-    let status = unsafe {
-        raw::sf_select(
-            &seed.bytes,
-            start(text),
-            text.len(),
-            &field,
-            1,
-            &mut index,
-            &mut policy,
-        )
-    };
-    match status {
-        raw::EMPTY => Ok(None),
-        status => done(status, &NO_REFUSAL).map(|()| Some(policy)),
-    }
-}
-
 const NO_RULES: raw::Rules = raw::Rules {
     policy: NO_POLICY,
     invalid_max_age: 0,
@@ -402,6 +358,36 @@ pub(crate) fn cache_rules(
     }
 }
 
+pub(crate) const NO_FALLBACK: raw::Fallback = raw::Fallback {
+    rules: NO_RULES,
+    expires: NO_TIME,
+    date: NO_TIME,
+    is_refused: 0,
+};
+
+const NO_TIME: raw::Time = raw::Time {
+    seconds: 0,
+    lines: 0,
+};
+
+/// Adds a line of a field that decides if each field of a target list is ignored.
+pub(crate) fn add_fallback_line(field: u32, line: &[u8], fallback: &mut raw::Fallback) {
+    // After a refusal the directives are those of no-store.
+    let _ = unsafe { raw::sf_fallback_line(field, start(line), line.len(), fallback) };
+}
+
+/// The lifetime by `Expires`.
+pub(crate) fn fallback_lifetime(fallback: &raw::Fallback, received: u64) -> Option<u64> {
+    let mut response = raw::Response {
+        age: 0,
+        lifetime: 0,
+        has_lifetime: 0,
+        is_understood: 0,
+    };
+    let status = unsafe { raw::sf_fallback_lifetime(fallback, received, &mut response) };
+    (status == raw::OK).then_some(response.lifetime)
+}
+
 /// What a cache decides.
 pub(crate) fn decide(
     rules: &raw::Rules,
@@ -411,7 +397,7 @@ pub(crate) fn decide(
     let mut decision = raw::Decision {
         seconds: 0,
         reuse: raw::REUSE_NOT_STORED,
-        by: raw::BY_NOTHING,
+        cause: raw::BY_NOTHING,
         allows_storing: 0,
         allows_authorized: 0,
     };

@@ -2,7 +2,9 @@
 
 use crate::buffer::{append, written};
 use crate::ffi;
-use crate::{Error, Forward, FwdStatus, Hop, Integer, Name, Outcome, Parser, StringRef};
+#[cfg(feature = "std")]
+use crate::Dialect;
+use crate::{Error, Forward, FwdStatus, Hop, Integer, Name, Outcome, Parser, Refusal, StringRef};
 use alloc::string::String;
 use alloc::vec::Vec;
 use sf_sys as raw;
@@ -136,17 +138,82 @@ impl Parser {
     /// ```
     /// let hop = sf::Hop::new(sf::TokenRef::constant("edge")).with_outcome(sf::Outcome::Hit);
     /// let old = sf::Parser::new().with_dialect(sf::Dialect::Rfc8941);
-    /// assert_eq!(old.append_or_replace_hop(&hop, ["a;x=@1"]).unwrap(), "edge;hit");
+    /// let appended = old.append_or_replace_hop(&hop, ["a;x=@1"]).unwrap();
+    /// assert_eq!((appended.as_str(), appended.refusal().is_some()), ("edge;hit", true));
     /// ```
     pub fn append_or_replace_hop(
         &self,
         hop: &Hop<'_>,
         lines: impl IntoIterator<Item = impl AsRef<[u8]>>,
-    ) -> Result<String, Error> {
+    ) -> Result<Appended, Error> {
         match self.append_hop(hop, lines) {
-            Err(Error::Refused(_)) => self.serialize_hop(hop),
-            text => text,
+            Ok(text) => Ok(Appended::Joined(text)),
+            Err(Error::Refused(refusal)) => Ok(Appended::Apart {
+                own: self.serialize_hop(hop)?,
+                refusal,
+            }),
+            Err(error) => Err(error),
         }
+    }
+}
+
+/// The text of Cache-Status that a cache sends on, in the place of the lines that it received: see
+/// [`Hop::append_or_replace`]. Its `Display` is the text.
+#[derive(Clone, Debug, PartialEq, Eq)]
+pub enum Appended {
+    /// The hops of the lines, and this cache's after them.
+    Joined(String),
+    /// The lines are malformed. Who reads them ignores all of them, and each line that is added, so
+    /// this cache's hop takes their place.
+    Apart {
+        /// This cache's hop.
+        own: String,
+        /// Where the lines, joined, are malformed, and why.
+        refusal: Refusal,
+    },
+}
+
+impl Appended {
+    /// The text to send on.
+    ///
+    /// ```
+    /// let hop = sf::Hop::new(sf::TokenRef::constant("edge")).with_outcome(sf::Outcome::Hit);
+    /// assert_eq!(hop.append_or_replace(["a;;"]).unwrap().as_str(), "edge;hit");
+    /// ```
+    #[must_use]
+    pub fn as_str(&self) -> &str {
+        match self {
+            Appended::Joined(text) | Appended::Apart { own: text, .. } => text,
+        }
+    }
+
+    /// Where the lines that came are malformed, if they are.
+    ///
+    /// ```
+    /// let hop = sf::Hop::new(sf::TokenRef::constant("edge")).with_outcome(sf::Outcome::Hit);
+    /// assert_eq!(hop.append_or_replace(["a"]).unwrap().refusal(), None);
+    /// assert_eq!(hop.append_or_replace(["a;;"]).unwrap().refusal().unwrap().offset, 2);
+    /// ```
+    #[must_use]
+    pub fn refusal(&self) -> Option<Refusal> {
+        match self {
+            Appended::Joined(_) => None,
+            Appended::Apart { refusal, .. } => Some(*refusal),
+        }
+    }
+}
+
+impl From<Appended> for String {
+    fn from(appended: Appended) -> String {
+        match appended {
+            Appended::Joined(text) | Appended::Apart { own: text, .. } => text,
+        }
+    }
+}
+
+impl core::fmt::Display for Appended {
+    fn fmt(&self, f: &mut core::fmt::Formatter<'_>) -> core::fmt::Result {
+        f.pad(self.as_str())
     }
 }
 
@@ -179,23 +246,68 @@ impl Hop<'_> {
         Parser::new().append_hop(self, lines)
     }
 
-    /// Appends this hop, as [`Hop::append_to`] does, or writes it alone if the lines are malformed.
-    /// Either is sent in the place of the lines.
+    /// Appends this hop to the lines by a dialect: see [`Hop::append_to`]. RFC 9211 cites RFC 8941.
+    ///
+    /// # Errors
+    ///
+    /// Those of [`Hop::append_to`].
+    ///
+    /// ```
+    /// use sf::{Dialect, Hop, TokenRef};
+    /// let hop = Hop::new(TokenRef::constant("edge"));
+    /// assert!(hop.append_to_in(Dialect::Rfc8941, ["a;x=@1"]).is_err());
+    /// assert_eq!(hop.append_to_in(Dialect::Rfc9651, ["a;x=@1"]).unwrap(), "a;x=@1, edge");
+    /// ```
+    pub fn append_to_in(
+        &self,
+        dialect: Dialect,
+        lines: impl IntoIterator<Item = impl AsRef<[u8]>>,
+    ) -> Result<String, Error> {
+        let parser = Parser::new().with_dialect(dialect);
+        parser.append_hop(self, lines)
+    }
+
+    /// Appends this hop, as [`Hop::append_to`] does, or writes it alone if the lines are malformed,
+    /// and returns which it did. Either text is sent in the place of the lines.
     ///
     /// # Errors
     ///
     /// [`Error::Invalid`] if the outcome is [`Outcome::Conflict`], [`Error::OutOfMemory`].
     ///
     /// ```
-    /// let hop = sf::Hop::new(sf::TokenRef::constant("edge")).with_outcome(sf::Outcome::Hit);
-    /// assert_eq!(hop.append_or_replace(["a; fwd=miss"]).unwrap(), "a;fwd=miss, edge;hit");
-    /// assert_eq!(hop.append_or_replace(["origin;;"]).unwrap(), "edge;hit");
+    /// use sf::{Appended, Hop, Outcome, TokenRef};
+    /// let hop = Hop::new(TokenRef::constant("edge")).with_outcome(Outcome::Hit);
+    /// let appended = hop.append_or_replace(["a; fwd=miss"]).unwrap();
+    /// assert_eq!(appended, Appended::Joined("a;fwd=miss, edge;hit".to_string()));
+    /// let replaced = hop.append_or_replace(["origin;;"]).unwrap();
+    /// assert!(matches!(replaced, Appended::Apart { ref own, .. } if own == "edge;hit"));
     /// ```
     pub fn append_or_replace(
         &self,
         lines: impl IntoIterator<Item = impl AsRef<[u8]>>,
-    ) -> Result<String, Error> {
+    ) -> Result<Appended, Error> {
         Parser::new().append_or_replace_hop(self, lines)
+    }
+
+    /// The same by a dialect. RFC 9211 cites RFC 8941.
+    ///
+    /// # Errors
+    ///
+    /// Those of [`Hop::append_or_replace`].
+    ///
+    /// ```
+    /// use sf::{Dialect, Hop, TokenRef};
+    /// let hop = Hop::new(TokenRef::constant("edge"));
+    /// let appended = hop.append_or_replace_in(Dialect::Rfc8941, ["a;x=@1"]).unwrap();
+    /// assert_eq!((appended.as_str(), appended.refusal().unwrap().offset), ("edge", 4));
+    /// ```
+    pub fn append_or_replace_in(
+        &self,
+        dialect: Dialect,
+        lines: impl IntoIterator<Item = impl AsRef<[u8]>>,
+    ) -> Result<Appended, Error> {
+        let parser = Parser::new().with_dialect(dialect);
+        parser.append_or_replace_hop(self, lines)
     }
 
     /// Writes the text of a Cache-Status field whose only member is this hop: a field line of its

@@ -1,8 +1,8 @@
 //! Fields in and out of a `HeaderMap` of the crate `http`.
 
 use crate::{
-    join, trim, CacheRules, Choice, Dictionary, Error, FieldType, Hop, Item, List, Parser, Path,
-    Policy, Priority, ResponsePriority, RulesChoice,
+    join, select_rules_in, trim, CacheRules, Choice, Dialect, Dictionary, Error, FieldType, Hop,
+    Item, List, Parser, Policy, Priority, Refusal, ResponsePriority, RulesChoice,
 };
 use alloc::string::String;
 use alloc::vec::Vec;
@@ -139,21 +139,6 @@ field!(List, "a, b");
 field!(Dictionary, "u=1, i");
 
 impl Priority {
-    /// Reads the Priority field of a head; the default if the head has none.
-    ///
-    /// # Errors
-    ///
-    /// [`Error::Refused`] if it is malformed: see [`Priority::parse`].
-    ///
-    /// ```
-    /// let mut headers = http::HeaderMap::new();
-    /// headers.insert("priority", http::HeaderValue::from_static("u=1"));
-    /// assert_eq!(sf::Priority::from_headers(&headers).unwrap().urgency().get(), 1);
-    /// ```
-    pub fn from_headers(headers: &HeaderMap) -> Result<Priority, Error> {
-        Priority::parse(text_of(headers, PRIORITY)?)
-    }
-
     /// Puts what this priority sets into the Priority field of a head, in which unknown members
     /// stay: see [`Priority::change`]. If nothing is set, a head without the field is left without
     /// it.
@@ -176,22 +161,6 @@ impl Priority {
 }
 
 impl ResponsePriority {
-    /// Reads the Priority field of the head of a response; the default if the head has none.
-    ///
-    /// # Errors
-    ///
-    /// [`Error::Refused`] if it is malformed: see [`ResponsePriority::parse`].
-    ///
-    /// ```
-    /// let mut headers = http::HeaderMap::new();
-    /// headers.insert("priority", http::HeaderValue::from_static("u=1"));
-    /// let response = sf::ResponsePriority::from_headers(&headers).unwrap();
-    /// assert_eq!((response.urgency.map(u8::from), response.incremental), (Some(1), None));
-    /// ```
-    pub fn from_headers(headers: &HeaderMap) -> Result<ResponsePriority, Error> {
-        ResponsePriority::parse(text_of(headers, PRIORITY)?)
-    }
-
     /// Puts what this priority sets, and nothing else, into the Priority field of the head of a
     /// response. If nothing is set, the head has no such field then.
     ///
@@ -228,8 +197,32 @@ impl CacheRules {
         headers: &HeaderMap,
         names: impl IntoIterator<Item = impl AsHeaderName>,
     ) -> Result<RulesChoice, Error> {
+        CacheRules::select_from_headers_in(Dialect::default(), headers, names)
+    }
+
+    /// The same by a dialect. RFC 9213 cites RFC 8941.
+    ///
+    /// # Errors
+    ///
+    /// Those of [`select_rules_in`].
+    ///
+    /// ```
+    /// use sf::{CacheRules, Dialect};
+    /// let mut headers = http::HeaderMap::new();
+    /// headers.insert("cdn-cache-control", http::HeaderValue::from_static("no-store, x=@1"));
+    /// let index = |dialect| {
+    ///     let targets = ["cdn-cache-control"];
+    ///     CacheRules::select_from_headers_in(dialect, &headers, targets).unwrap().index()
+    /// };
+    /// assert_eq!([Dialect::Rfc8941, Dialect::Rfc9651].map(index), [None, Some(0)]);
+    /// ```
+    pub fn select_from_headers_in(
+        dialect: Dialect,
+        headers: &HeaderMap,
+        names: impl IntoIterator<Item = impl AsHeaderName>,
+    ) -> Result<RulesChoice, Error> {
         for (index, name) in names.into_iter().enumerate() {
-            let choice = crate::select_rules([text_of(headers, name)?])?;
+            let choice = select_rules_in(dialect, [text_of(headers, name)?])?;
             if let RulesChoice::Field { rules, .. } = choice {
                 return Ok(RulesChoice::Field { index, rules });
             }
@@ -257,31 +250,29 @@ impl Policy {
         headers: &HeaderMap,
         names: impl IntoIterator<Item = impl AsHeaderName>,
     ) -> Result<Choice, Error> {
-        for (index, name) in names.into_iter().enumerate() {
-            let choice = crate::select([text_of(headers, name)?])?;
-            if let Choice::Field { policy, .. } = choice {
-                return Ok(Choice::Field { index, policy });
-            }
-        }
-        Ok(Choice::Fallback)
+        Policy::select_from_headers_in(Dialect::default(), headers, names)
     }
-}
 
-impl Path {
-    /// Reads the Cache-Status field of a head; a path without hops if the head has none.
+    /// The same by a dialect. RFC 9213 cites RFC 8941.
     ///
     /// # Errors
     ///
-    /// Those of [`Path::parse`].
+    /// Those of [`select_in`](crate::select_in).
     ///
     /// ```
+    /// use sf::{Dialect, Policy};
     /// let mut headers = http::HeaderMap::new();
-    /// headers.append("cache-status", http::HeaderValue::from_static("origin; fwd=miss"));
-    /// headers.append("cache-status", http::HeaderValue::from_static("edge; hit"));
-    /// assert_eq!(sf::Path::from_headers(&headers).unwrap().served_by(), Some(1));
+    /// headers.insert("cdn-cache-control", http::HeaderValue::from_static("max-age=60, x=@1"));
+    /// let targets = ["cdn-cache-control"];
+    /// let choice = Policy::select_from_headers_in(Dialect::Rfc8941, &headers, targets).unwrap();
+    /// assert_eq!(choice.index(), None);
     /// ```
-    pub fn from_headers(headers: &HeaderMap) -> Result<Path, Error> {
-        Path::parse(text_of(headers, CACHE_STATUS)?)
+    pub fn select_from_headers_in(
+        dialect: Dialect,
+        headers: &HeaderMap,
+        names: impl IntoIterator<Item = impl AsHeaderName>,
+    ) -> Result<Choice, Error> {
+        CacheRules::select_from_headers_in(dialect, headers, names).map(Choice::from)
     }
 }
 
@@ -301,5 +292,34 @@ impl Hop<'_> {
     pub fn append_to_headers(&self, headers: &mut HeaderMap) -> Result<(), Error> {
         let text = self.append_to([text_of(headers, CACHE_STATUS)?]);
         put(headers, HeaderName::from_static(CACHE_STATUS), text)
+    }
+
+    /// Appends this hop to the Cache-Status field of a head, or replaces the field by it if the
+    /// field is malformed, by a dialect: see [`Hop::append_or_replace`]. Returns where the field was
+    /// malformed, if it was.
+    ///
+    /// # Errors
+    ///
+    /// Those of [`Hop::append_or_replace`]; the head is then unchanged.
+    ///
+    /// ```
+    /// use sf::{Dialect, Hop, TokenRef};
+    /// let mut headers = http::HeaderMap::new();
+    /// headers.insert("cache-status", http::HeaderValue::from_static("a;;"));
+    /// let hop = Hop::new(TokenRef::constant("edge"));
+    /// let refusal = hop.append_or_replace_in_headers(Dialect::Rfc8941, &mut headers).unwrap();
+    /// assert_eq!(refusal.unwrap().offset, 2);
+    /// assert_eq!(headers["cache-status"], "edge");
+    /// ```
+    pub fn append_or_replace_in_headers(
+        &self,
+        dialect: Dialect,
+        headers: &mut HeaderMap,
+    ) -> Result<Option<Refusal>, Error> {
+        let appended = self.append_or_replace_in(dialect, [text_of(headers, CACHE_STATUS)?])?;
+        let refusal = appended.refusal();
+        let text = Ok(appended.into());
+        put(headers, HeaderName::from_static(CACHE_STATUS), text)?;
+        Ok(refusal)
     }
 }

@@ -13,6 +13,7 @@ extern crate alloc;
 mod date;
 mod error;
 mod kind;
+mod line;
 mod number;
 mod seed;
 mod text;
@@ -33,6 +34,8 @@ mod buffer;
 #[cfg(feature = "alloc")]
 mod field;
 #[cfg(feature = "alloc")]
+mod head;
+#[cfg(feature = "alloc")]
 mod item;
 #[cfg(feature = "alloc")]
 mod keyed;
@@ -47,6 +50,10 @@ mod tree;
 
 // Fields of which the RFCs say what they mean.
 mod decision;
+mod directives;
+#[cfg(feature = "alloc")]
+mod exchange;
+mod fallback;
 mod hop;
 #[cfg(feature = "alloc")]
 mod hop_text;
@@ -66,8 +73,10 @@ pub use date::Date;
 pub use decision::{age, Cache, CacheRules, Cause, Decision, Response, Reuse, RulesChoice};
 pub use error::{Error, Excerpt, LinePlace, Refusal};
 pub use event::{Event, Events};
+pub use fallback::{Fallback, FieldDate, LineRefusal};
 pub use hop::{Forward, Forwarded, FwdStatus, Hop, Name, Outcome};
 pub use kind::{Dialect, Kind};
+pub use line::{split_field_line, FieldLine};
 pub use number::{Decimal, Integer};
 pub use parser::{trim, Parser};
 pub use policy::{Choice, Policy, Seconds};
@@ -80,10 +89,13 @@ pub use view::{Node, Nodes, Role, Space, View};
 pub use {
     bare::{BareItem, BareItemFromInput},
     error::RefusalInText,
+    exchange::{Exchange, Fault, Malformed, Obstacle, Verdict},
     field::List,
+    head::{field_text, join},
+    hop_text::Appended,
     item::{InnerList, Item, ListEntry},
     keyed::{Dictionary, Iter, IterMut, Parameters},
-    parser::{join, FieldType},
+    parser::FieldType,
     path::Path,
     text::{Key, String, Token},
     tree::Tree,
@@ -91,7 +103,7 @@ pub use {
 
 #[cfg(feature = "std")]
 pub use {
-    decision::select_rules,
+    decision::{select_rules, select_rules_in},
     parser::{check, equal, normalise},
-    policy::select,
+    policy::{select, select_in},
 };

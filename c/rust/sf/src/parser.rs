@@ -266,13 +266,11 @@ impl Parser {
 #[cfg(feature = "alloc")]
 mod owned {
     use super::{FieldType, Kind, Parser};
-    use crate::buffer::{lengthen, written};
-    use crate::ffi::{self, Fit};
+    use crate::buffer::written;
+    use crate::ffi;
     use crate::nodes::Nodes;
-    use crate::{Error, Tree};
+    use crate::{join, Error, Tree};
     use alloc::string::String;
-    use alloc::vec::Vec;
-    use sf_sys as raw;
 
     impl Parser {
         /// Parses a field of the kind of `T`.
@@ -360,36 +358,7 @@ mod owned {
             written(text.len(), |buffer| ffi::normalise(&rules, text, buffer))
         }
     }
-
-    /// Joins the lines of a field, with a comma and a space between two (RFC 9651 section 4.2). The
-    /// result of no lines is empty. An empty line is a line: beside others it gives `a, , b`, which
-    /// is malformed (RFC 9110 section 5.3).
-    ///
-    /// # Errors
-    ///
-    /// [`Error::OutOfMemory`] only.
-    ///
-    /// ```
-    /// assert_eq!(sf::join(["a, b", "c"]).unwrap(), b"a, b, c");
-    /// ```
-    pub fn join(lines: impl IntoIterator<Item = impl AsRef<[u8]>>) -> Result<Vec<u8>, Error> {
-        let mut buffer: Vec<u8> = Vec::new();
-        let mut joined = raw::Joined {
-            length: 0,
-            required: 0,
-            begun: 0,
-        };
-        for line in lines {
-            while let Fit::Short(length) = ffi::join(line.as_ref(), &mut buffer, &mut joined)? {
-                lengthen(&mut buffer, length)?;
-            }
-        }
-        buffer.truncate(joined.length);
-        Ok(buffer)
-    }
 }
-#[cfg(feature = "alloc")]
-pub use owned::join;
 
 /// A field line's value without the spaces and tabs around it, which are no part of it (RFC 9110
 /// section 5.5). What reads a text accepts spaces there, but refuses a tab at the beginning, and one

@@ -1,6 +1,8 @@
 use crate::buffer::resize;
 use crate::ffi::{self, Fit};
 use crate::hop_text::NO_HOP;
+#[cfg(feature = "std")]
+use crate::{field_text, FieldLine};
 use crate::{
     Dialect, Error, Forward, Forwarded, FwdStatus, Hop, Integer, Name, Outcome, Parser, Seed,
 };
@@ -44,7 +46,7 @@ impl fmt::Debug for Path {
 }
 
 impl Path {
-    /// Reads the text of a Cache-Status field (RFC 9211 section 2).
+    /// Reads the text of a Cache-Status field (RFC 9211 section 2), by RFC 9651.
     ///
     /// # Errors
     ///
@@ -58,6 +60,58 @@ impl Path {
     #[cfg(feature = "std")]
     pub fn parse(text: impl AsRef<[u8]>) -> Result<Path, Error> {
         Parser::new().path(text)
+    }
+
+    /// Reads the text of a Cache-Status field by a dialect: see [`Path::parse`]. RFC 9211 cites RFC
+    /// 8941.
+    ///
+    /// # Errors
+    ///
+    /// Those of [`Path::parse`].
+    ///
+    /// ```
+    /// use sf::{Dialect, Path};
+    /// assert!(Path::parse_in(Dialect::Rfc8941, "a;hit;x=@1").is_err());
+    /// assert!(Path::parse_in(Dialect::Rfc9651, "a;hit;x=@1").is_ok());
+    /// ```
+    #[cfg(feature = "std")]
+    pub fn parse_in(dialect: Dialect, text: impl AsRef<[u8]>) -> Result<Path, Error> {
+        Parser::new().with_dialect(dialect).path(text)
+    }
+
+    /// Reads the Cache-Status field of a head, by RFC 9651; a path without hops if the head has none.
+    /// The head is its field lines, such as a slice of pairs or a `&HeaderMap` of the crate `http`.
+    ///
+    /// # Errors
+    ///
+    /// Those of [`Path::parse`]. The offset of a refusal is one in the
+    /// [`field_text`](crate::field_text).
+    ///
+    /// ```
+    /// let head = [("Cache-Status", "origin; fwd=miss"), ("cache-status", "edge; hit")];
+    /// assert_eq!(sf::Path::from_headers(&head).unwrap().served_by(), Some(1));
+    /// ```
+    #[cfg(feature = "std")]
+    pub fn from_headers(head: impl IntoIterator<Item = impl FieldLine>) -> Result<Path, Error> {
+        Path::parse(field_text(head, "Cache-Status")?)
+    }
+
+    /// The same by a dialect. RFC 9211 cites RFC 8941.
+    ///
+    /// # Errors
+    ///
+    /// Those of [`Path::from_headers`].
+    ///
+    /// ```
+    /// use sf::{Dialect, Path};
+    /// assert!(Path::from_headers_in(Dialect::Rfc8941, [("Cache-Status", "a;x=@1")]).is_err());
+    /// ```
+    #[cfg(feature = "std")]
+    pub fn from_headers_in(
+        dialect: Dialect,
+        head: impl IntoIterator<Item = impl FieldLine>,
+    ) -> Result<Path, Error> {
+        Path::parse_in(dialect, field_text(head, "Cache-Status")?)
     }
 
     fn read(seed: &Seed, dialect: Dialect, text: &[u8]) -> Result<Path, Error> {

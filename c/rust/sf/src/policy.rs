@@ -1,5 +1,7 @@
 use crate::ffi;
-use crate::{Error, Integer, Parser};
+#[cfg(feature = "std")]
+use crate::Dialect;
+use crate::{Error, Integer, Parser, RulesChoice};
 use core::fmt;
 use core::time::Duration;
 use sf_sys as raw;
@@ -178,6 +180,22 @@ impl Policy {
         Parser::new().policy(text)
     }
 
+    /// Reads the text of one targeted field by a dialect: see [`Policy::parse`].
+    ///
+    /// # Errors
+    ///
+    /// [`Error::Refused`] if the text is not a well-formed Dictionary.
+    ///
+    /// ```
+    /// use sf::{Dialect, Policy};
+    /// assert!(Policy::parse_in(Dialect::Rfc8941, "max-age=60, x=@1").is_err());
+    /// assert!(Policy::parse_in(Dialect::Rfc9651, "max-age=60, x=@1").is_ok());
+    /// ```
+    #[cfg(feature = "std")]
+    pub fn parse_in(dialect: Dialect, text: impl AsRef<[u8]>) -> Result<Option<Policy>, Error> {
+        Parser::new().with_dialect(dialect).policy(text)
+    }
+
     /// The freshness lifetime of a response, in a shared or in a private cache; `None` if the
     /// policy sets none (RFC 9111 section 4.2.1).
     ///
@@ -249,7 +267,8 @@ pub enum Choice {
         /// Its directives.
         policy: Policy,
     },
-    /// Each field is ignored: `Cache-Control` and `Expires` decide.
+    /// Each field is ignored: `Cache-Control` and `Expires` decide, by a
+    /// [`Fallback`](crate::Fallback).
     Fallback,
 }
 
@@ -283,9 +302,21 @@ impl Choice {
     }
 }
 
+impl From<RulesChoice> for Choice {
+    fn from(choice: RulesChoice) -> Choice {
+        match choice {
+            RulesChoice::Field { index, rules } => Choice::Field {
+                index,
+                policy: rules.policy,
+            },
+            RulesChoice::Fallback => Choice::Fallback,
+        }
+    }
+}
+
 impl Parser {
-    /// Reads the text of one targeted field, by RFC 9651 whatever the dialect; `None` if it has no
-    /// members: see [`Policy::parse`].
+    /// Reads the text of one targeted field, by the dialect of the parser; `None` if it has no
+    /// members: see [`Policy::parse`]. RFC 9213 cites RFC 8941.
     ///
     /// # Errors
     ///
@@ -294,18 +325,19 @@ impl Parser {
     /// ```
     /// let policy = sf::Parser::new().policy("max-age=60").unwrap();
     /// assert_eq!(policy.and_then(|policy| policy.max_age), Some(60.into()));
+    /// let old = sf::Parser::new().with_dialect(sf::Dialect::Rfc8941);
+    /// assert!(old.policy("max-age=60, x=@1").is_err());
     /// ```
     pub fn policy(&self, text: impl AsRef<[u8]>) -> Result<Option<Policy>, Error> {
-        let policy = ffi::cache_control(&self.seed(), text.as_ref())?;
-        Ok(policy.map(Policy::from))
+        Ok(self.cache_rules(text)?.map(|rules| rules.policy))
     }
 
-    /// Chooses the field of a target list that a cache obeys, by RFC 9651 whatever the dialect: see
+    /// Chooses the field of a target list that a cache obeys, by the dialect of the parser: see
     /// [`select`](crate::select).
     ///
     /// # Errors
     ///
-    /// [`Error::OutOfMemory`] only.
+    /// [`Error::OutOfMemory`]; [`Error::TooLong`] if a field is.
     ///
     /// ```
     /// let choice = sf::Parser::new().select(["", "no-store"]).unwrap();
@@ -315,14 +347,7 @@ impl Parser {
         &self,
         fields: impl IntoIterator<Item = impl AsRef<[u8]>>,
     ) -> Result<Choice, Error> {
-        let seed = self.seed();
-        for (index, field) in fields.into_iter().enumerate() {
-            if let Some(policy) = ffi::select_one(&seed, field.as_ref())? {
-                let policy = policy.into();
-                return Ok(Choice::Field { index, policy });
-            }
-        }
-        Ok(Choice::Fallback)
+        self.select_rules(fields).map(Choice::from)
     }
 }
 
@@ -330,10 +355,11 @@ impl Parser {
 /// section 2.2). The texts of the fields are in the order of the list; that of a field that the
 /// response does not have is empty. A field is ignored if its text is not a well-formed Dictionary,
 /// or is one without members (section 2.1). The fields after the one that is obeyed are not read.
+/// Texts are read by RFC 9651; [`select_in`] has a dialect.
 ///
 /// # Errors
 ///
-/// [`Error::OutOfMemory`] only.
+/// [`Error::OutOfMemory`]; [`Error::TooLong`] if a field is.
 ///
 /// ```
 /// let own = sf::join(["max-age=60"]).unwrap(); // ExampleCDN-Cache-Control
@@ -344,4 +370,24 @@ impl Parser {
 #[cfg(feature = "std")]
 pub fn select(fields: impl IntoIterator<Item = impl AsRef<[u8]>>) -> Result<Choice, Error> {
     Parser::new().select(fields)
+}
+
+/// Chooses the field that a cache obeys by a dialect: see [`select`].
+///
+/// # Errors
+///
+/// Those of [`select`].
+///
+/// ```
+/// use sf::{select_in, Dialect};
+/// let targets = ["max-age=60, x=@1", "no-store"];
+/// assert_eq!(select_in(Dialect::Rfc8941, targets).unwrap().index(), Some(1));
+/// assert_eq!(select_in(Dialect::Rfc9651, targets).unwrap().index(), Some(0));
+/// ```
+#[cfg(feature = "std")]
+pub fn select_in(
+    dialect: Dialect,
+    fields: impl IntoIterator<Item = impl AsRef<[u8]>>,
+) -> Result<Choice, Error> {
+    Parser::new().with_dialect(dialect).select(fields)
 }

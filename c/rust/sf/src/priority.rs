@@ -1,5 +1,9 @@
 use crate::ffi;
 use crate::short::Short;
+#[cfg(feature = "alloc")]
+use crate::Dialect;
+#[cfg(feature = "std")]
+use crate::{field_text, FieldLine};
 use crate::{Error, Parser};
 use core::fmt;
 use sf_sys as raw;
@@ -124,7 +128,7 @@ impl From<Priority> for raw::PriorityFlags {
 }
 
 impl Priority {
-    /// Reads the text of a Priority field (RFC 9218 section 5). Members that are unknown, of
+    /// Reads the text of a Priority field (RFC 9218 section 5), by RFC 9651. Members that are unknown, of
     /// another type or out of range are ignored.
     ///
     /// # Errors
@@ -139,6 +143,58 @@ impl Priority {
     #[cfg(feature = "std")]
     pub fn parse(text: impl AsRef<[u8]>) -> Result<Priority, Error> {
         Parser::new().priority(text)
+    }
+
+    /// Reads the text of a Priority field by a dialect: see [`Priority::parse`]. RFC 9218 cites RFC
+    /// 8941.
+    ///
+    /// # Errors
+    ///
+    /// [`Error::Refused`] if the text is not a well-formed Dictionary.
+    ///
+    /// ```
+    /// use sf::{Dialect, Priority};
+    /// assert!(Priority::parse_in(Dialect::Rfc8941, "u=1, x=@1").is_err());
+    /// assert!(Priority::parse_in(Dialect::Rfc9651, "u=1, x=@1").is_ok());
+    /// ```
+    #[cfg(feature = "std")]
+    pub fn parse_in(dialect: Dialect, text: impl AsRef<[u8]>) -> Result<Priority, Error> {
+        Parser::new().with_dialect(dialect).priority(text)
+    }
+
+    /// Reads the Priority field of a request's head, by RFC 9651; the default if the head has none.
+    /// The head is its field lines, such as a slice of pairs or a `&HeaderMap` of the crate `http`.
+    ///
+    /// # Errors
+    ///
+    /// [`Error::Refused`] if it is malformed: see [`Priority::parse`]. The offset is one in the
+    /// [`field_text`](crate::field_text).
+    ///
+    /// ```
+    /// let head = [("Priority", "u=1"), ("Host", "a.example"), ("Priority", "i")];
+    /// assert_eq!(sf::Priority::from_headers(&head).unwrap().to_string(), "u=1, i");
+    /// ```
+    #[cfg(feature = "std")]
+    pub fn from_headers(head: impl IntoIterator<Item = impl FieldLine>) -> Result<Priority, Error> {
+        Priority::parse(field_text(head, "Priority")?)
+    }
+
+    /// The same by a dialect. RFC 9218 cites RFC 8941.
+    ///
+    /// # Errors
+    ///
+    /// Those of [`Priority::from_headers`].
+    ///
+    /// ```
+    /// use sf::{Dialect, Priority};
+    /// assert!(Priority::from_headers_in(Dialect::Rfc8941, [("Priority", "u=1, x=@1")]).is_err());
+    /// ```
+    #[cfg(feature = "std")]
+    pub fn from_headers_in(
+        dialect: Dialect,
+        head: impl IntoIterator<Item = impl FieldLine>,
+    ) -> Result<Priority, Error> {
+        Priority::parse_in(dialect, field_text(head, "Priority")?)
     }
 
     /// Merges the priority of a client's request, this one, with that of a server's response (RFC
@@ -195,6 +251,30 @@ impl Priority {
     #[cfg(feature = "std")]
     pub fn change(self, text: impl AsRef<[u8]>) -> Result<alloc::string::String, Error> {
         Parser::new().change_priority(self, text)
+    }
+
+    /// Puts what this priority sets into the text of a Priority field by a dialect: see
+    /// [`Priority::change`].
+    ///
+    /// # Errors
+    ///
+    /// [`Error::Refused`] if the text is not a well-formed Dictionary.
+    ///
+    /// ```
+    /// use sf::{Dialect, Priority};
+    /// let priority = Priority { urgency: None, incremental: Some(true) };
+    /// assert!(priority.change_in(Dialect::Rfc8941, "u=1, x=@1").is_err());
+    /// assert_eq!(priority.change_in(Dialect::Rfc8941, "u=1, x").unwrap(), "u=1, x, i");
+    /// ```
+    #[cfg(feature = "std")]
+    pub fn change_in(
+        self,
+        dialect: Dialect,
+        text: impl AsRef<[u8]>,
+    ) -> Result<alloc::string::String, Error> {
+        Parser::new()
+            .with_dialect(dialect)
+            .change_priority(self, text)
     }
 
     /// The urgency, 3 if it is not set (RFC 9218 section 4.1).
@@ -281,6 +361,60 @@ impl ResponsePriority {
         Parser::new().response_priority(text)
     }
 
+    /// Reads the text of the Priority field of a response by a dialect: see
+    /// [`ResponsePriority::parse`]. RFC 9218 cites RFC 8941.
+    ///
+    /// # Errors
+    ///
+    /// [`Error::Refused`] if the text is not a well-formed Dictionary.
+    ///
+    /// ```
+    /// use sf::{Dialect, ResponsePriority};
+    /// assert!(ResponsePriority::parse_in(Dialect::Rfc8941, "u=1, x=@1").is_err());
+    /// assert!(ResponsePriority::parse_in(Dialect::Rfc9651, "u=1, x=@1").is_ok());
+    /// ```
+    #[cfg(feature = "std")]
+    pub fn parse_in(dialect: Dialect, text: impl AsRef<[u8]>) -> Result<ResponsePriority, Error> {
+        Parser::new().with_dialect(dialect).response_priority(text)
+    }
+
+    /// Reads the Priority field of a response's head, by RFC 9651; the default if the head has none:
+    /// see [`Priority::from_headers`].
+    ///
+    /// # Errors
+    ///
+    /// [`Error::Refused`] if it is malformed: see [`Priority::parse`].
+    ///
+    /// ```
+    /// let response = sf::ResponsePriority::from_headers([("priority", "u=1")]).unwrap();
+    /// assert_eq!((response.urgency.map(u8::from), response.incremental), (Some(1), None));
+    /// ```
+    #[cfg(feature = "std")]
+    pub fn from_headers(
+        head: impl IntoIterator<Item = impl FieldLine>,
+    ) -> Result<ResponsePriority, Error> {
+        ResponsePriority::parse(field_text(head, "Priority")?)
+    }
+
+    /// The same by a dialect. RFC 9218 cites RFC 8941.
+    ///
+    /// # Errors
+    ///
+    /// Those of [`ResponsePriority::from_headers`].
+    ///
+    /// ```
+    /// use sf::{Dialect, ResponsePriority};
+    /// let head = [("Priority", "u=1, x=@1")];
+    /// assert!(ResponsePriority::from_headers_in(Dialect::Rfc8941, head).is_err());
+    /// ```
+    #[cfg(feature = "std")]
+    pub fn from_headers_in(
+        dialect: Dialect,
+        head: impl IntoIterator<Item = impl FieldLine>,
+    ) -> Result<ResponsePriority, Error> {
+        ResponsePriority::parse_in(dialect, field_text(head, "Priority")?)
+    }
+
     /// The priority of a response that sets both parameters, so that it has them whatever the
     /// client asked for.
     ///
@@ -358,8 +492,8 @@ impl Parser {
         ffi::priority(&self.seed(), self.dialect(), text.as_ref()).map(Priority::from)
     }
 
-    /// Puts what a priority sets into the text of a Priority field, by RFC 9651 whatever the
-    /// dialect: see [`Priority::change`].
+    /// Puts what a priority sets into the text of a Priority field, by the dialect of the parser:
+    /// see [`Priority::change`]. RFC 9218 cites RFC 8941.
     ///
     /// # Errors
     ///
@@ -367,7 +501,9 @@ impl Parser {
     ///
     /// ```
     /// let priority = sf::Priority { urgency: None, incremental: Some(true) };
-    /// assert_eq!(sf::Parser::new().change_priority(priority, "u=1, x").unwrap(), "u=1, x, i");
+    /// let old = sf::Parser::new().with_dialect(sf::Dialect::Rfc8941);
+    /// assert_eq!(old.change_priority(priority, "u=1, x").unwrap(), "u=1, x, i");
+    /// assert!(old.change_priority(priority, "u=1, x=@1").is_err());
     /// ```
     #[cfg(feature = "alloc")]
     pub fn change_priority(
@@ -376,6 +512,10 @@ impl Parser {
         text: impl AsRef<[u8]>,
     ) -> Result<alloc::string::String, Error> {
         let (seed, text) = (self.seed(), text.as_ref());
+        if self.dialect() != Dialect::default() {
+            // The call for it reads RFC 9651, by which a text has the same value if it is accepted.
+            ffi::priority(&seed, self.dialect(), text)?;
+        }
         crate::buffer::written(128, |buffer| {
             ffi::priority_change(&seed, text, &priority.into(), buffer)
         })

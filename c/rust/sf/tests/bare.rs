@@ -108,4 +108,29 @@ fn values_are_built_and_written_with_a_seed() {
     let urgent = parser.priority("u=0").unwrap();
     assert_eq!(parser.change_priority(urgent, "u=5, x").unwrap(), "u=0, x");
     assert_eq!(parser.bare_item("tea").unwrap().as_token(), Some("tea"));
+    let appended = parser.append_or_replace_hop(&hop, ["b;;"]).unwrap();
+    assert_eq!(
+        (appended.as_str(), appended.refusal().unwrap().offset),
+        ("a;hit", 2)
+    );
+    let exchange = sf::Exchange::at(sf::Cache::Private, 784_111_777).with_status(200);
+    let head = [("CDN-Cache-Control", "max-age=60"), ("Age", "20")];
+    let verdict = parser
+        .decide(&exchange, &["CDN-Cache-Control"], head)
+        .unwrap();
+    assert_eq!(
+        verdict.to_string(),
+        "CDN-Cache-Control: fresh for 40 s (max-age)"
+    );
+    assert_eq!(sf::field_text(head, "age").unwrap(), b"20");
+}
+
+#[test]
+fn the_fallback_is_read() {
+    let mut fallback = sf::Fallback::new();
+    fallback.add_cache_control("max-age=60, x=");
+    fallback.add_expires("Sun, 06 Nov 1994 08:50:37 GMT");
+    assert_eq!(fallback.expires().seconds(), Some(784_111_837));
+    let refused = fallback.refusal().unwrap();
+    assert_eq!((refused.line, refused.refusal.offset), (0, 14));
 }

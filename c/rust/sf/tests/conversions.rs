@@ -387,7 +387,7 @@ fn what_fields_say_is_read_and_written() {
     let read: CacheRules = rules.to_string().parse().unwrap();
     let decided = |rules: CacheRules| rules.decide(Cache::Shared, Response::default());
     assert_eq!(decided(rules), decided(read));
-    assert_eq!(decided(rules).by, Some(Cause::InvalidMaxAge));
+    assert_eq!(decided(rules).cause, Some(Cause::InvalidMaxAge));
     assert_eq!(refused::<CacheRules>("max-age=60,").offset, 11);
     assert_eq!(of(written::<Path>("a; hit,\"b\"")), "a;hit, \"b\"");
 }

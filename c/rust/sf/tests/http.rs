@@ -3,8 +3,8 @@
 
 use http::header::{HeaderMap, HeaderName, HeaderValue};
 use sf::{
-    Dictionary, Error, Forward, Forwarded, Hop, Item, List, Parser, Path, Policy, Priority,
-    ResponsePriority, TokenRef,
+    Cache, Dialect, Dictionary, Error, Exchange, Fallback, Forward, Forwarded, Hop, Item, List,
+    Parser, Path, Policy, Priority, ResponsePriority, TokenRef,
 };
 
 fn head(lines: &[(&'static str, &'static str)]) -> HeaderMap {
@@ -85,6 +85,23 @@ fn a_head_is_read() {
 }
 
 #[test]
+fn a_cache_falls_back() {
+    let headers = head(&[
+        ("cache-control", "\tPublic"),
+        ("expires", "Sun, 06 Nov 1994 08:50:37 GMT"),
+        ("cache-control", "x=\"no-store\" "),
+        ("date", " Sun, 06 Nov 1994 08:49:37 GMT"),
+    ]);
+    let fallback = Fallback::from_headers(&headers);
+    assert_eq!(fallback.rules().to_string(), "public");
+    assert_eq!(fallback.lifetime(0), Some(60));
+    let none = Fallback::from_headers(&HeaderMap::new());
+    assert_eq!((none, none.lifetime(0)), (Fallback::new(), None));
+    let two = [("expires", "Sun"), ("expires", "06 Nov 1994 08:50:37 GMT")];
+    assert_eq!(Fallback::from_headers(&head(&two)).lifetime(0), Some(0));
+}
+
+#[test]
 fn a_head_is_written() {
     let mut headers = head(&[
         ("example", "old"),
@@ -124,4 +141,59 @@ fn a_head_is_written() {
     let mut malformed = head(&[("cache-status", "a;hit,")]);
     assert!(hop.append_to_headers(&mut malformed).is_err());
     assert_eq!(malformed["cache-status"], "a;hit,");
+}
+
+#[test]
+fn a_head_is_decided_about() {
+    let lines = [
+        ("examplecdn-cache-control", "max-age=60, x=@1"),
+        ("cdn-cache-control", "max-age=600,"),
+        ("cache-control", "public"),
+        ("expires", "Sun, 06 Nov 1994 08:50:37 GMT"),
+        ("date", "Sun, 06 Nov 1994 08:49:37 GMT"),
+        ("age", "20"),
+    ];
+    let targets = ["ExampleCDN-Cache-Control", "CDN-Cache-Control"];
+    let exchange = Exchange::at(Cache::Shared, 784_111_777).with_status(200);
+    for dialect in [Dialect::Rfc8941, Dialect::Rfc9651] {
+        let verdict = exchange.decide_in(dialect, &targets, &lines).unwrap();
+        let of_map = exchange.decide_in(dialect, &targets, &head(&lines));
+        assert_eq!(of_map, Ok(verdict));
+    }
+    let verdict = exchange.decide_in(Dialect::Rfc8941, &targets, &head(&lines));
+    let verdict = verdict.unwrap();
+    assert_eq!(verdict.to_string(), "Expires: fresh for 40 s (expires)");
+    assert_eq!(verdict.malformed.len(), 2);
+    let two = head(&[("priority", "u=1"), ("priority", " i")]);
+    assert_eq!(sf::field_text(&two, "Priority").unwrap(), b"u=1, i");
+}
+
+#[test]
+fn each_field_has_a_dialect() {
+    let [old, new] = [Dialect::Rfc8941, Dialect::Rfc9651];
+    let mut headers = head(&[("priority", "u=1, x=@1"), ("cache-status", "a;x=@1")]);
+    assert!(Priority::from_headers_in(old, &headers).is_err());
+    assert_eq!(
+        Priority::from_headers_in(new, &headers),
+        Priority::from_headers(&headers)
+    );
+    assert!(ResponsePriority::from_headers_in(old, &headers).is_err());
+    assert!(ResponsePriority::from_headers_in(new, &headers).is_ok());
+    assert!(Path::from_headers_in(old, &headers).is_err());
+    assert_eq!(
+        Path::from_headers_in(new, &headers),
+        Path::from_headers(&headers)
+    );
+    let hop = Hop::new(TokenRef::constant("edge"));
+    assert_eq!(
+        hop.append_or_replace_in_headers(new, &mut headers),
+        Ok(None)
+    );
+    assert_eq!(headers["cache-status"], "a;x=@1, edge");
+    let refusal = hop.append_or_replace_in_headers(old, &mut headers).unwrap();
+    assert_eq!(refusal.unwrap().offset, 4);
+    assert_eq!(headers["cache-status"], "edge");
+    let mut none = HeaderMap::new();
+    assert_eq!(hop.append_or_replace_in_headers(old, &mut none), Ok(None));
+    assert_eq!(none["cache-status"], "edge");
 }

@@ -3,8 +3,9 @@
 
 use sf::{
     equal, select, select_rules, Cache, CacheRules, Cause, Choice, Decision, Dialect, Error,
-    Forward, Forwarded, FwdStatus, Hop, Kind, Name, Outcome, Parser, Path, Policy, Priority,
-    Response, ResponsePriority, Reuse, RulesChoice, Seconds, StringRef, TokenRef, Urgency,
+    Fallback, Forward, Forwarded, FwdStatus, Hop, Kind, Name, Outcome, Parser, Path, Policy,
+    Priority, Response, ResponsePriority, Reuse, RulesChoice, Seconds, StringRef, TokenRef,
+    Urgency,
 };
 
 #[test]
@@ -78,7 +79,7 @@ fn ages_are_read() {
 #[test]
 fn what_may_be_stored() {
     let fresh = Reuse::Fresh { seconds: 60 };
-    for (reuse, by, allows_storing, may) in [
+    for (reuse, cause, allows_storing, may) in [
         (Reuse::NotStored, Some(Cause::NoStore), false, false),
         (Reuse::NotStored, Some(Cause::NoStore), true, false),
         (Reuse::NotStored, Some(Cause::Private), true, false),
@@ -100,7 +101,7 @@ fn what_may_be_stored() {
     ] {
         let decision = Decision {
             reuse,
-            by,
+            cause,
             allows_storing,
             allows_authorized: false,
         };
@@ -162,7 +163,9 @@ fn a_hop_is_appended() {
     for text in ["a;hit,", "a b", "a;;b", "(", "\u{e9}"] {
         let refused = hop.append_to([text]).unwrap_err();
         assert_eq!(refused.as_absent(), Ok(std::string::String::new()));
-        assert_eq!(hop.append_or_replace([text]).unwrap(), own);
+        let replaced = hop.append_or_replace([text]).unwrap();
+        assert_eq!(replaced.as_str(), own);
+        assert_eq!(replaced.refusal(), refused.refusal());
     }
     // An empty line is one, as it is for join.
     for lines in [&["a", ""], &["", "a"], &["", ""]] {
@@ -170,7 +173,7 @@ fn a_hop_is_appended() {
         let refused = hop.append_to(lines);
         assert_eq!(refused, hop.append_to([joined]));
         assert!(matches!(refused, Err(Error::Refused(_))));
-        assert_eq!(hop.append_or_replace(lines).unwrap(), own);
+        assert_eq!(hop.append_or_replace(lines).unwrap().to_string(), own);
     }
     // Only one of hit and fwd should appear (RFC 9211 section 2.1).
     let both = Hop::new(TokenRef::constant("here")).with_outcome(Outcome::Conflict(forwarded));
@@ -299,7 +302,7 @@ fn a_cache_decides() {
                 ..Response::default()
             },
         );
-        assert_eq!((decision.reuse, decision.by), (reuse, by), "{text}");
+        assert_eq!((decision.reuse, decision.cause), (reuse, by), "{text}");
     }
     let rules = CacheRules::parse("must-understand, no-store, max-age=5")
         .unwrap()
@@ -309,7 +312,7 @@ fn a_cache_decides() {
         ..Response::default()
     };
     assert_eq!(
-        rules.decide(Cache::Shared, Response::default()).by,
+        rules.decide(Cache::Shared, Response::default()).cause,
         Some(Cause::NoStore)
     );
     assert_eq!(
@@ -329,11 +332,89 @@ fn a_cache_decides() {
             seconds: (1 << 31) - 1
         }
     ); // section 1.2.2
-    assert_eq!(decision.by, Some(Cause::Expires));
+    assert_eq!(decision.cause, Some(Cause::Expires));
     assert!(decision.allows_storing && decision.allows_authorized && decision.may_store());
     assert_eq!(CacheRules::parse(""), Ok(None));
     assert_eq!(select_rules(["", "a b"]), Ok(RulesChoice::Fallback));
     assert_eq!(Cause::InvalidSMaxage.to_string(), "invalid s-maxage");
+}
+
+/// What the lines of `Cache-Control`, `Expires` and `Date` say.
+fn fallback(cache_control: &[&str], expires: &[&str], date: &[&str]) -> Fallback {
+    let mut fallback = Fallback::new();
+    for line in cache_control {
+        fallback.add_cache_control(line);
+    }
+    for line in expires {
+        fallback.add_expires(line);
+    }
+    for line in date {
+        fallback.add_date(line);
+    }
+    fallback
+}
+
+// RFC 9111 section 5.2.
+#[test]
+fn cache_control_is_read_line_by_line() {
+    let rules = |lines: &[&str]| fallback(lines, &[], &[]).rules().to_string();
+    assert_eq!(rules(&[]), "");
+    assert_eq!(rules(&["No-Store, Max-Age=0,,"]), "max-age=0, no-store");
+    assert_eq!(
+        rules(&["max-age=60", " PRIVATE, s-maxage=\"9\""]),
+        "max-age=60, s-maxage=9, private"
+    );
+    assert_eq!(rules(&["max-age=60", "Max-Age=060"]), "max-age=60");
+    assert_eq!(rules(&["max-age=60", "max-age=5"]), "max-age=invalid");
+    assert_eq!(rules(&["x=\"no-store\", public"]), "public");
+    for lines in [
+        &["max-age=60", "a b"][..],
+        &["a b", "max-age=60, must-understand"],
+        &["max-age=60, x=\"a", "b\""],
+    ] {
+        let refused = fallback(lines, &[], &[]);
+        assert!(refused.is_refused(), "{lines:?}");
+        assert_eq!(refused.rules().to_string(), "no-store", "{lines:?}");
+    }
+    assert!(!fallback(&["", " , "], &[], &[]).is_refused());
+}
+
+// RFC 9111 sections 4.2.1 and 5.3; the dates are those of RFC 9110 section 5.6.7, and a minute later.
+#[test]
+fn expires_sets_a_lifetime() {
+    const FIRST: &str = "Sun, 06 Nov 1994 08:49:37 GMT";
+    const LATER: &str = "Sun, 06 Nov 1994 08:50:37 GMT";
+    let received = 784_111_827; // 50 seconds after the first
+    let lifetime = |expires, date| fallback(&[], expires, date).lifetime(received);
+    assert_eq!(lifetime(&[], &[FIRST]), None);
+    assert_eq!(lifetime(&[LATER], &[FIRST]), Some(60));
+    assert_eq!(
+        lifetime(&["\tSunday, 06-Nov-94 08:50:37 GMT "], &[FIRST]),
+        Some(60)
+    );
+    assert_eq!(lifetime(&[LATER], &["Sun Nov  6 08:49:37 1994"]), Some(60));
+    assert_eq!(lifetime(&[FIRST], &[LATER]), Some(0));
+    assert_eq!(lifetime(&["0"], &[FIRST]), Some(0));
+    assert_eq!(lifetime(&[LATER, LATER], &[FIRST]), Some(0));
+    assert_eq!(
+        lifetime(&["Sun", "06 Nov 1994 08:50:37 GMT"], &[FIRST]),
+        Some(0)
+    );
+    assert_eq!(lifetime(&[LATER], &[]), Some(10));
+    assert_eq!(lifetime(&[LATER], &["x"]), Some(10));
+    assert_eq!(lifetime(&[LATER], &[FIRST, FIRST]), Some(10));
+    let both = fallback(&["max-age=5"], &[LATER], &[FIRST]);
+    let decision = both.decide(Cache::Shared, received, Response::default());
+    assert_eq!(decision.cause, Some(Cause::MaxAge)); // section 5.3
+    let old = Response {
+        age: 60,
+        ..Response::default()
+    };
+    let decision = fallback(&["public"], &[LATER], &[FIRST]).decide(Cache::Shared, received, old);
+    assert_eq!(
+        (decision.reuse, decision.cause),
+        (Reuse::Stale, Some(Cause::Expires))
+    );
 }
 
 #[test]
@@ -366,9 +447,13 @@ fn a_field_of_a_target_list_is_chosen() {
             matches!(choice, Choice::Fallback)
         );
     }
+    // RFC 8941 has no Dates.
+    let fields = ["@1", "max-age=60;x=@1", "max-age=5"];
     let old = Parser::new().with_dialect(Dialect::Rfc8941);
-    let chosen = old.select(["@1", "max-age=60;x=@1"]).unwrap();
-    assert!(matches!(chosen, Choice::Field { index: 1, .. }));
+    assert_eq!(select(fields).unwrap().index(), Some(1));
+    assert_eq!(old.select(fields).unwrap().index(), Some(2));
+    assert_eq!(sf::select_in(Dialect::Rfc8941, fields), old.select(fields));
+    assert!(old.policy("max-age=60;x=@1").is_err());
 }
 
 #[test]

@@ -1,6 +1,9 @@
 //! Failed allocations of the crate's own vectors: an error, and no abort.
 
-use sf::{join, normalise, Dictionary, Error, Hop, Kind, List, Parser, Path, Priority, StringRef};
+use sf::{
+    field_text, join, normalise, Cache, Dictionary, Error, Exchange, Hop, Kind, List, Parser,
+};
+use sf::{Path, Priority, StringRef};
 use std::alloc::{GlobalAlloc, Layout, System};
 use std::cell::Cell;
 use std::ptr::null_mut;
@@ -88,6 +91,19 @@ fn a_failed_allocation_is_an_error() {
     each_refused(|| Path::parse("a;fwd=miss, \"b\";hit"));
     let hop = Hop::new(StringRef::constant("edge"));
     each_refused(|| hop.serialize());
+    each_refused(|| hop.append_or_replace(["a", "b"]));
+    each_refused(|| hop.append_or_replace(["a", "b,"]));
     let priority = Priority::parse("u=1").unwrap();
     each_refused(|| priority.serialize());
+    let head = [
+        ("CDN-Cache-Control", "max-age=60"),
+        ("CDN-Cache-Control", "no-store,"),
+        ("Cache-Control", "a b"),
+        ("Expires", "0"),
+        ("Date", "0"),
+        ("Age", "x"),
+    ];
+    each_refused(|| field_text(head, "CDN-Cache-Control"));
+    let exchange = Exchange::at(Cache::Shared, 784_111_777);
+    each_refused(|| exchange.decide(&["CDN-Cache-Control"], &head));
 }

@@ -53,10 +53,10 @@ use Rattle.sf_parse.proofs.Machine.Series.{sp_ows}
 use Rattle.sf_parse.proofs.Machine.Series.{ows_after}
 use Rattle.sf_parse.specs.Machine.Members.{member_start, member_step, member_finish}
 use Rattle.sf_parse.specs.Machine.Entries.{with_key, flag_of, BehindKey, ResidualEntry, GoodEntry}
-use Rattle.sf_parse.specs.Machine.Entries.{entry_start, behind_key_step, entry_step, entry_finish}
+use Rattle.sf_parse.specs.Machine.Entries.{entry_start, after_key_step, entry_step, entry_finish}
 
 key_apart : (k : List ℕ) (b : ℕ) (t : EntryState) → is_in_key b ≡ true
-    → behind_key_step k b ≡ Some t → ⊥
+    → after_key_step k b ≡ Some t → ⊥
 key_apart k b t e n = ⊎_elim
     (λ h. let x = eqb-true b 61 (allow_cases (b == 61) (Equals k) t h).0 in
     let f : is_in_key 61 ≡ true = rw x at e in cc)
@@ -86,9 +86,9 @@ module _ (d : Dialect) where
       × Member) → Type 0
   ReadsEntry = Reads EntryState (List ℕ × Member) GoodEntry (ResidualEntry d)
 
-  behind_key_reads : (k : List ℕ)
-      → ReadsEntry (BehindKey d k) (behind_key_step k) (Some (flag_of k []))
-  behind_key_reads k = reads_either (reads_after 61 (Equals k) tt)
+  after_key_reads : (k : List ℕ)
+      → ReadsEntry (BehindKey d k) (after_key_step k) (Some (flag_of k []))
+  after_key_reads k = reads_either (reads_after 61 (Equals k) tt)
       (reads_mapped (InFlag k) (flag_of k) (λ s g. g) (λ s t v. same) (between_reads d [] refl))
       apart
       (λ v w. λ e. absurd cc)
@@ -102,10 +102,10 @@ module _ (d : Dialect) where
   entry_reads : (s : EntryState) → GoodEntry s
       → ReadsEntry (ResidualEntry d s) (entry_step d s) (entry_finish s)
   entry_reads (InKey k) g = reads_then InKey (λ k t. tt) (λ k t v. same) (word_reads is_in_key k)
-      (λ x e. behind_key_reads x) apart
+      (λ x e. after_key_reads x) apart
     where
       apart : (x : List ℕ) (b : ℕ) (s : List ℕ) (t : EntryState) → Some k ≡ Some x
-          → word_step is_in_key k b ≡ Some s → behind_key_step x b ≡ Some t → ⊥
+          → word_step is_in_key k b ≡ Some s → after_key_step x b ≡ Some t → ⊥
       apart x b s t e n m = key_apart x b t (allow_cases (is_in_key b) (k ++ b ∷ []) s n).0 m
   entry_reads (Equals k) g = reads_mapped (InMemberValue k) (with_key k) (λ s g. g) (λ s t v. same)
       (member_starts d)
@@ -203,7 +203,7 @@ module _ (d : Dialect) where
       between_apart [] b c.0 c.1 f)
       (option_or_cases (allow (b == 61) (Equals o.0))
       (option_map (InFlag o.0) (between_step [] b)) t o.3))
-      (onward_cases InKey (word_step is_in_key k b) (Some k) (λ k. behind_key_step k b) t n)
+      (onward_cases InKey (word_step is_in_key k b) (Some k) (λ k. after_key_step k b) t n)
   entry_apart (Equals k) v b t e n f = cc
   entry_apart (InMemberValue k s) v b t e n f =
       let c = map_cases (with_key k) (member_finish s) v e in

@@ -20,7 +20,7 @@ use Rattle.sf_parse.specs.Machine.Items.{ItemState}
 use Rattle.sf_parse.specs.Machine.Items.{item_start, item_step, item_finish}
 use Rattle.sf_parse.specs.Machine.Inners.{InnerState, BetweenItems, InItem, Closing, MoreItems}
 use Rattle.sf_parse.specs.Machine.Inners.{ResidualInner}
-use Rattle.sf_parse.specs.Machine.Inners.{GoodInner, behind_step, inner_step, inner_finish}
+use Rattle.sf_parse.specs.Machine.Inners.{GoodInner, after_step, inner_step, inner_finish}
 use Rattle.sf_parse.specs.Machine.Members.{MemberState}
 use Rattle.sf_parse.specs.Machine.Members.{InOne, InMany}
 use Rattle.sf_parse.proofs.Machine.Language.{reads_iff, reads_mapped, reads_then, reads_first}
@@ -34,9 +34,9 @@ use Rattle.sf_parse.proofs.Machine.Items.{item_apart}
 use Rattle.sf_parse.specs.Machine.Members.{ResidualMember, GoodMember, member_start, member_step}
 use Rattle.sf_parse.specs.Machine.Members.{member_finish}
 
-behind_after : (is : List Item) (b : ℕ) (t : InnerState) → behind_step is b ≡ Some t
+after_after : (is : List Item) (b : ℕ) (t : InnerState) → after_step is b ≡ Some t
     → is_after b ≡ true
-behind_after is b t n = ⊎_elim
+after_after is b t n = ⊎_elim
     (λ e. ap is_after (eqb-true b 32 (allow_cases (b == 32) (BetweenItems is) t e).0))
     (λ e. ap is_after (eqb-true b 41 (allow_cases (b == 41) (Closing is (Between [])) t e.1).0))
     (option_or_cases (allow (b == 32) (BetweenItems is)) (allow (b == 41) (Closing is (Between []))) t n)
@@ -140,8 +140,8 @@ module _ (d : Dialect) where
   abbrev Behind : List Item → List ℕ → Inner → Type 0
   Behind is = Either (After 32 (MoreItems d 0 is)) (After 41 (Closes is))
 
-  behind_to : (is : List Item) (u : List ℕ) (v : Inner) → Behind is u v → MoreItems d 1 is u v
-  behind_to is u v (inl (t, e, ([], ps, body, suffix, e1, f, k, c))) = (
+  after_to : (is : List Item) (u : List ℕ) (v : Inner) → Behind is u v → MoreItems d 1 is u v
+  after_to is u v (inl (t, e, ([], ps, body, suffix, e1, f, k, c))) = (
     [],
     ps,
     32 ∷ body,
@@ -152,7 +152,7 @@ module _ (d : Dialect) where
     k,
     c,
   )
-  behind_to is u v (inl (
+  after_to is u v (inl (
     t,
     e,
     (i ∷ more, ps, body, suffix, e1, (gap, prefix, b2, e2, f, z, s, r), k, c),
@@ -167,7 +167,7 @@ module _ (d : Dialect) where
     k,
     c,
   )
-  behind_to is u v (inr (suffix, e, (ps, k, c))) = (
+  after_to is u v (inr (suffix, e, (ps, k, c))) = (
     [],
     ps,
     [],
@@ -179,8 +179,8 @@ module _ (d : Dialect) where
         ∙ ap (λ y. inner y ps) (sym (append-nil is)),
   )
 
-  behind_from : (is : List Item) (u : List ℕ) (v : Inner) → MoreItems d 1 is u v → Behind is u v
-  behind_from is u v ([], ps, [], suffix, e, f, k, c) = inr (
+  after_from : (is : List Item) (u : List ℕ) (v : Inner) → MoreItems d 1 is u v → Behind is u v
+  after_from is u v ([], ps, [], suffix, e, f, k, c) = inr (
     suffix,
     e,
     (
@@ -190,13 +190,13 @@ module _ (d : Dialect) where
           ∙ ap (λ y. inner y ps) (append-nil is),
     ),
   )
-  behind_from is u v ([], ps, b ∷ body, suffix, e, f, k, c) = inl (
+  after_from is u v ([], ps, b ∷ body, suffix, e, f, k, c) = inl (
     body ++ 41 ∷ suffix,
     e
         ∙ ap (λ y. y ∷ (body ++ 41 ∷ suffix)) (eqb-true b 32 f.0),
     ([], ps, body, suffix, refl, f.1, k, c),
   )
-  behind_from is u v (
+  after_from is u v (
     i ∷ more,
     ps,
     body,
@@ -206,7 +206,7 @@ module _ (d : Dialect) where
     k,
     c,
   ) = absurd (omega arith)
-  behind_from is u v (i ∷ more, ps, body, suffix, e, (b ∷ gap, prefix, b2, e2, f, z, s, r), k, c) =
+  after_from is u v (i ∷ more, ps, body, suffix, e, (b ∷ gap, prefix, b2, e2, f, z, s, r), k, c) =
       inl (
         (gap ++ (prefix ++ b2)) ++ 41 ∷ suffix,
         e ∙ ap (λ y. y ++ 41 ∷ suffix) e2
@@ -223,10 +223,10 @@ module _ (d : Dialect) where
         ),
       )
 
-  behind_reads : (is : List Item) → ReadsInner (MoreItems d 1 is) (behind_step is) None
-  behind_reads is = reads_iff (λ u v. (
-    behind_to is u v,
-    behind_from is u v,
+  after_reads : (is : List Item) → ReadsInner (MoreItems d 1 is) (after_step is) None
+  after_reads is = reads_iff (λ u v. (
+    after_to is u v,
+    after_from is u v,
   ))
       (reads_either (reads_after 32 (BetweenItems is) tt)
       (reads_after 41 (Closing is (Between [])) refl) apart (λ v w. λ e. absurd cc))
@@ -268,7 +268,7 @@ module _ (d : Dialect) where
           let c = map_cases (InItem is) (item_start d b) t n in
           item_not d b 41 c.0 x (no_item d).1 c.1
   inner_reads (InItem is s) g = ends_none
-      (reads_then (InItem is) (λ s g. g) (λ s t v. same) (item_reads d s g) (λ i e. behind_reads (is
+      (reads_then (InItem is) (λ s g. g) (λ s t v. same) (item_reads d s g) (λ i e. after_reads (is
       ++ i ∷ [])) apart)
     where
       none_after : (o : Option Item) → option_and_then {U = Inner} (λ i. None) o ≡ None
@@ -280,8 +280,8 @@ module _ (d : Dialect) where
       ends_none {L = L} {next = next} r = subst (ReadsInner L next) (none_after (item_finish s)) r
 
       apart : (i : Item) (b : ℕ) (s' : ItemState) (t : InnerState) → item_finish s ≡ Some i
-          → item_step d s b ≡ Some s' → behind_step (is ++ i ∷ []) b ≡ Some t → ⊥
-      apart i b s' t e n m = item_apart d s i b s' e n (behind_after (is ++ i ∷ []) b t m)
+          → item_step d s b ≡ Some s' → after_step (is ++ i ∷ []) b ≡ Some t → ⊥
+      apart i b s' t e n m = item_apart d s i b s' e n (after_after (is ++ i ∷ []) b t m)
   inner_reads (Closing is s) g = reads_mapped (Closing is) (inner is) (λ s g. g) (λ s t v. same)
       (params_reads d s g)
 

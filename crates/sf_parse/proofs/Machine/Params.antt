@@ -118,14 +118,14 @@ module _ (d : Dialect) where
       one_more ps k (Boolean true) gap [] suffix u v (let a = w.0 in cc) f w.1 (inl (refl, refl)) m
   more_to ps u v g (inr h) = ([], h.1 ∙ sym g ∙ sym (ap settle (append-nil ps)), h.0)
 
-  behind_key : (ps : Pairs Bare) (k : List ℕ) (x : Bare) (value suffix : List ℕ) (v : Pairs Bare)
+  after_key : (ps : Pairs Bare) (k : List ℕ) (x : Bare) (value suffix : List ℕ) (v : Pairs Bare)
       → SpellsValue d value x → PutParams d ps k x suffix v → KeyParams d ps k (value ++ suffix) v
-  behind_key ps k x value suffix v (inl (
+  after_key ps k x value suffix v (inl (
     e,
     n,
   )) m = inr (subst (λ y. PutParams d ps k (Boolean true) (y
       ++ suffix) v) (sym n) (subst (λ y. PutParams d ps k y suffix v) e m))
-  behind_key ps k x value suffix v (inr (b2, e, sb)) m = inl (
+  after_key ps k x value suffix v (inr (b2, e, sb)) m = inl (
     b2 ++ suffix,
     ap (λ y. y ++ suffix) e,
     (x, b2, suffix, refl, sb, m),
@@ -147,7 +147,7 @@ module _ (d : Dialect) where
           p.0 ++ (value ++ suffix),
           refl,
           f,
-          (p.0, p.0, value ++ suffix, refl, (refl, i), behind_key ps p.0 p.1 value suffix v s m),
+          (p.0, p.0, value ++ suffix, refl, (refl, i), after_key ps p.0 p.1 value suffix v s m),
         ),
       )
 

@@ -48,9 +48,9 @@ module _ {S X V : Type 0} (k : Series S X V) (law : SeriesLaws S X V k) where
   abbrev Behind : V → List ℕ → V → Type 0
   Behind given = Past is_ows (Either (After 44 (ResidualSeries k (Comma given))) (Nothing given))
 
-  behind_to : (given : V) (u : List ℕ) (v : V) → k.Settled given → Behind given u v
+  after_to : (given : V) (u : List ℕ) (v : V) → k.Settled given → Behind given u v
       → MoreMembers k given u v
-  behind_to given u v g (
+  after_to given u v g (
     before,
     rest,
     e,
@@ -70,7 +70,7 @@ module _ {S X V : Type 0} (k : Series S X V) (law : SeriesLaws S X V k) where
         w,
         i ∙ law.all_add given x xs,
       )
-  behind_to given u v g (before, rest, e, f, inr (e1, i)) = (
+  after_to given u v g (before, rest, e, f, inr (e1, i)) = (
     [],
     [],
     before,
@@ -81,9 +81,9 @@ module _ {S X V : Type 0} (k : Series S X V) (law : SeriesLaws S X V k) where
         ∙ sym (law.all_none given g),
   )
 
-  behind_from : (given : V) (u : List ℕ) (v : V) → k.Settled given → MoreMembers k given u v
+  after_from : (given : V) (u : List ℕ) (v : V) → k.Settled given → MoreMembers k given u v
       → Behind given u v
-  behind_from given u v g ([], body, tail, e, c, w, i) = (
+  after_from given u v g ([], body, tail, e, c, w, i) = (
     tail,
     [],
     e ∙ ap (λ y. y ++ tail) c
@@ -91,7 +91,7 @@ module _ {S X V : Type 0} (k : Series S X V) (law : SeriesLaws S X V k) where
     w,
     inr (refl, i ∙ law.all_none given g),
   )
-  behind_from given u v g (
+  after_from given u v g (
     x ∷ xs,
     body,
     tail,
@@ -135,17 +135,17 @@ module _ {S X V : Type 0} (k : Series S X V) (law : SeriesLaws S X V k) where
         ),
       )
 
-  behind_both : (given : V) → k.Settled given → (u : List ℕ) (v : V)
+  after_both : (given : V) → k.Settled given → (u : List ℕ) (v : V)
       → Behind given u v ↔ MoreMembers k given u v
-  behind_both given g u v = (behind_to given u v g, behind_from given u v g)
+  after_both given g u v = (after_to given u v g, after_from given u v g)
 
   not_comma : (b : ℕ) → is_ows b ≡ true → (b == 44) ≡ true → ⊥
   not_comma b e n = let n' : is_ows 44 ≡ true = rw (eqb-true b 44 n) at e in cc
 
   gap_reads : (given : V) → k.Settled given
       → ReadsSeries (MoreMembers k given) (gap_step given) (Some given)
-  gap_reads given g = reads_iff (behind_both given g)
-      (reads_past is_ows (Gap given) g (behind_both given g)
+  gap_reads given g = reads_iff (after_both given g)
+      (reads_past is_ows (Gap given) g (after_both given g)
       (λ b t e n. not_comma b e (allow_cases (b == 44) (Comma given) t n).0)
       (reads_maybe 44 (Comma given) given g))
 

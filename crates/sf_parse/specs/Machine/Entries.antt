@@ -51,13 +51,13 @@ GoodEntry (InFlag k s) = GoodParams s
 abbrev pub entry_start : ℕ → Option EntryState
 entry_start b = option_map InKey (word_start is_key_start b)
 
-abbrev pub behind_key_step : List ℕ → ℕ → Option EntryState
-behind_key_step k b = option_or (allow (b == equals) (Equals k))
+abbrev pub after_key_step : List ℕ → ℕ → Option EntryState
+after_key_step k b = option_or (allow (b == equals) (Equals k))
     (option_map (InFlag k) (between_step [] b))
 
 abbrev pub entry_step : Dialect → EntryState → ℕ → Option EntryState
 entry_step d (InKey k) b = onward InKey (word_step is_in_key k b) (Some k)
-    (λ k. behind_key_step k b)
+    (λ k. after_key_step k b)
 entry_step d (Equals k) b = option_map (InMemberValue k) (member_start d b)
 entry_step d (InMemberValue k s) b = option_map (InMemberValue k) (member_step d s b)
 entry_step d (InFlag k s) b = option_map (InFlag k) (params_step d s b)

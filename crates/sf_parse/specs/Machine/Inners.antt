@@ -42,8 +42,8 @@ GoodInner (BetweenItems is) = Unit {0}
 GoodInner (InItem is s) = GoodItem s
 GoodInner (Closing is s) = GoodParams s
 
-abbrev pub behind_step : List Item → ℕ → Option InnerState
-behind_step is b = option_or (allow (b == space) (BetweenItems is))
+abbrev pub after_step : List Item → ℕ → Option InnerState
+after_step is b = option_or (allow (b == space) (BetweenItems is))
     (allow (b == close_bracket) (Closing is (Between [])))
 
 abbrev pub inner_step : Dialect → InnerState → ℕ → Option InnerState
@@ -51,7 +51,7 @@ inner_step d (BetweenItems is) b = option_or (allow (is_sp b) (BetweenItems is))
     (option_or (allow (b == close_bracket) (Closing is (Between [])))
     (option_map (InItem is) (item_start d b)))
 inner_step d (InItem is s) b = onward (InItem is) (item_step d s b) (item_finish s)
-    (λ i. behind_step (is
+    (λ i. after_step (is
     ++ i ∷ []) b)
 inner_step d (Closing is s) b = option_map (Closing is) (params_step d s b)
 

@@ -277,7 +277,7 @@ fn each_value_is_changed_in_place(rt: HostRuntime) {
     }
 }
 
-/// Adds 1000 to each value in turn, behind a look at its key.
+/// Adds 1000 to each value in turn, after a look at its key.
 fn raise_all(rt: &(impl Abort + AllocGlobal), entries: &mut Entries<Bare>, count: u8) {
     let mut values = entries.iter_mut();
     for place in 0..count {

@@ -55,10 +55,10 @@ value-present k (p ∷ t) d = by (bytes_eq k p.0) refl p.1 refl (value-present k
     by false e (Some v) f rest = rw (f, e) rest
 
 -- a parameter of another key is put after those that are there
-pub put_behind : (ps qs : Pairs Bare) (t : Table) (k : List ℕ) (o : Option Bare)
+pub put_after : (ps qs : Pairs Bare) (t : Table) (k : List ℕ) (o : Option Bare)
     → HasDistinctKeys (t ++ (k, o) ∷ []) → ps ≡ present t → qs ≡ added ps k o
     → qs ≡ present (t ++ (k, o) ∷ [])
-put_behind ps qs t k o d e f = by o refl
+put_after ps qs t k o d e f = by o refl
   where
     joined : present (t ++ (k, o) ∷ []) ≡ present t ++ present ((k, o) ∷ [])
     joined = filter_map-append (λ p. option_map (λ value. (p.0, value)) p.1) t ((k, o) ∷ [])
@@ -113,11 +113,11 @@ all_put a b c d e f g h i hit fwd status ttl stored collapsed key detail
     let t5 : Table = t4 ++ (codes "stored", stored) ∷ [] in
     let t6 : Table = t5 ++ (codes "collapsed", collapsed) ∷ [] in
     let t7 : Table = t6 ++ (codes "key", key) ∷ [] in
-    let p1 = put_behind a b [] (codes "hit") hit (search rules) a' b' in
-    let p2 = put_behind b c t1 (codes "fwd") fwd (search rules) p1 c' in
-    let p3 = put_behind c d t2 (codes "fwd-status") status (search rules) p2 d' in
-    let p4 = put_behind d e t3 (codes "ttl") ttl (search rules) p3 e' in
-    let p5 = put_behind e f t4 (codes "stored") stored (search rules) p4 f' in
-    let p6 = put_behind f g t5 (codes "collapsed") collapsed (search rules) p5 g' in
-    let p7 = put_behind g h t6 (codes "key") key (search rules) p6 h' in
-    put_behind h i t7 (codes "detail") detail (search rules) p7 i'
+    let p1 = put_after a b [] (codes "hit") hit (search rules) a' b' in
+    let p2 = put_after b c t1 (codes "fwd") fwd (search rules) p1 c' in
+    let p3 = put_after c d t2 (codes "fwd-status") status (search rules) p2 d' in
+    let p4 = put_after d e t3 (codes "ttl") ttl (search rules) p3 e' in
+    let p5 = put_after e f t4 (codes "stored") stored (search rules) p4 f' in
+    let p6 = put_after f g t5 (codes "collapsed") collapsed (search rules) p5 g' in
+    let p7 = put_after g h t6 (codes "key") key (search rules) p6 h' in
+    put_after h i t7 (codes "detail") detail (search rules) p7 i'

@@ -108,7 +108,9 @@ impl<'a> HopCursor<'a> {
 
     /// Reads the next hop: `Some(None)` after the last one, and `None` if the cursor declines the
     /// text, of which nothing is then claimed. It declines a text that spells no List, a List with
-    /// a member that names no cache, and a bare item with 4 GiB or more of text from it on.
+    /// a member that names no cache, and a bare item with 4 GiB or more of text from it on. It is
+    /// inlined, so that a hop is not copied.
+    #[inline(always)]
     pub fn next(&mut self) -> Option<Option<HopView<'a>>>
         // A member with this hop comes before those that remain; after the last one, none remain.
         ensures next { IfSome result (λ hop. ReadsNextHop self.old self.new hop) }
@@ -140,7 +142,7 @@ fn name_of(bare: BareView) -> Option<NameView>
 }
 
 /// Reads the parameters of an Item.
-#[inline]
+#[inline(always)]
 fn read_params(start: ParamCursor) -> Option<(HopParams, ItemCursor)>
     // Parameters that show these parts come before the members that remain.
     ensures reads { IfSome result (λ r. ReadsParams start.entry r.0 r.1) }
@@ -177,22 +179,16 @@ impl<'a> HopParams<'a> {
             → ShowsParts d self.new (with_param s (param.entry.key.now, x)) }
     {
         let bare = &param.bare;
-        if param.key == b"hit".as_slice() {
-            self.hit = bare.as_boolean();
-        } else if param.key == b"fwd".as_slice() {
-            self.fwd = bare.as_token();
-        } else if param.key == b"fwd-status".as_slice() {
-            self.fwd_status = bare.as_integer();
-        } else if param.key == b"ttl".as_slice() {
-            self.ttl = bare.as_integer();
-        } else if param.key == b"stored".as_slice() {
-            self.stored = bare.as_boolean();
-        } else if param.key == b"collapsed".as_slice() {
-            self.collapsed = bare.as_boolean();
-        } else if param.key == b"key".as_slice() {
-            self.key = bare.as_text();
-        } else if param.key == b"detail".as_slice() {
-            self.detail = name_of(param.bare);
+        match param.key {
+            b"hit" => self.hit = bare.as_boolean(),
+            b"fwd" => self.fwd = bare.as_token(),
+            b"fwd-status" => self.fwd_status = bare.as_integer(),
+            b"ttl" => self.ttl = bare.as_integer(),
+            b"stored" => self.stored = bare.as_boolean(),
+            b"collapsed" => self.collapsed = bare.as_boolean(),
+            b"key" => self.key = bare.as_text(),
+            b"detail" => self.detail = name_of(param.bare),
+            _ => {}
         }
     }
 }

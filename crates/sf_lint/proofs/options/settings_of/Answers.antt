@@ -28,7 +28,7 @@ returns-in-Some c =
     ∙ ap (option_map texts) c.in-Some.is in
     let P : Option (List Text) → Type 0 =
     λ ws. AreFields (field_words ws) c.in_ok-fields-in-Some.fields.items in
-    (subst P (sym given) c.in_ok-fields-in-Some.ensures, (c.is_quiet-quiet.ensures, refl))
+    (subst P (sym given) c.in_ok-fields-in-Some.ensures, (c.has_flag-quiet.ensures, refl))
 
 pub returns-in-None : goal.returns-in-None
 returns-in-None c =
@@ -39,5 +39,5 @@ returns-in-None c =
     let P : Option (List Text) → Type 0 =
     λ ws. AreFields (field_words ws) c.new.result.items in (
       subst P (sym given) (ap (map Some) (sym c.new.ensures.items)),
-      (c.is_quiet-quiet.ensures, refl),
+      (c.has_flag-quiet.ensures, refl),
     )

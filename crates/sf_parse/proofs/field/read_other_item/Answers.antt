@@ -7,4 +7,4 @@ returns-then-ends-clause-parses c =
     let d = c.args.context.now.dialect in
     item_parsed d _ _ _ _ _ c.requires
     (item_whole d _ _ _ _ _ c.in-Some.ensures c.read_params-rest.ensures)
-    c.behind_spaces.ensures (c.ends.ensures.all c.if-ends.true)
+    c.after_spaces.ensures (c.ends.ensures.all c.if-ends.true)

@@ -4,7 +4,7 @@ use Rattle.sf_parse.specs.SeriesView.{series_next}
 use Rattle.sf_parse.specs.StaysFree.{series_keeps}
 use Rattle.sf_parse.proofs.Prefixes.{never, goes_more, free_goes}
 use Rattle.sf_parse.proofs.WholeMembers.{member_taken, taken_more, taken_so_far, kept_so_far}
-use Rattle.sf_parse.proofs.WholeMembers.{comma_goes, comma_may_begin, behind_open, not_free}
+use Rattle.sf_parse.proofs.WholeMembers.{comma_goes, comma_may_begin, after_open, not_free}
 use Rattle.sf_parse.proofs.BegunParts.{begun_left, begun_none}
 use Rattle.sf_parse.proofs.WholeParts.{params_none}
 use Rattle.sf_parse.proofs.series.add_each_member.Goals as goal
@@ -135,7 +135,7 @@ returns-then-not-goes_on-3-clause-goes g c =
     λ s. taken_more first next added none with _ _ _ _ _ _ _ _ s (so_far.goes s)
     (member_taken first next added none with _ _ _ _ s _ _ _ _ _ so_far.may_begin
     (c.in-Some.ensures.whole d _ _ (params_none d _ _ c.new-params.ensures))
-    (c.in_ok-add_found.ensures.added c.if-not-branch.false) c.in-Some-behind_member.ensures)
+    (c.in_ok-add_found.ensures.added c.if-not-branch.false) c.in-Some-after_member.ensures)
 
 pub returns-then-not-goes_on-3-clause-none_open : goal.returns-then-not-goes_on-3-clause-none_open
 returns-then-not-goes_on-3-clause-none_open g c =
@@ -146,7 +146,7 @@ returns-then-not-goes_on-3-clause-none_open g c =
     let none = g.P.SeriesMember.none in
     let with = g.P.SeriesMember.with_found in
     let so_far = c.loop-found.invariant in
-    behind_open first next added none with _ _ _ _ _ c.in-Some-behind_member.ensures
+    after_open first next added none with _ _ _ _ _ c.in-Some-after_member.ensures
 
 pub loop-found-preserved-in_default : goal.loop-found-preserved-in_default
 loop-found-preserved-in_default g c =
@@ -165,8 +165,8 @@ loop-found-preserved-in_default g c =
           (comma_goes first next added none with _ _ _ s _ _ _ comma (c.in_ok-left.ensures.goes s));
     }
 
-pub loop-found-preserved-in_default-behind_member : goal.loop-found-preserved-in_default-behind_member
-loop-found-preserved-in_default-behind_member g c =
+pub loop-found-preserved-in_default-after_member : goal.loop-found-preserved-in_default-after_member
+loop-found-preserved-in_default-after_member g c =
     let d = c.args.context.now.dialect in
     let first = g.P.SeriesMember.first d in
     let next = g.P.Level.next d in
@@ -174,11 +174,11 @@ loop-found-preserved-in_default-behind_member g c =
     let none = g.P.SeriesMember.none in
     let with = g.P.SeriesMember.with in
     let so_far = c.loop-found.invariant in
-    let comma = c.goes_on-in_default-behind_member.ensures.comma c.if-not-goes_on-2.false in
+    let comma = c.goes_on-in_default-after_member.ensures.comma c.if-not-goes_on-2.false in
     record {
       may_begin = comma_may_begin first next added none with _ _ comma;
       none_begun = begun_none d _ _ _ c.in_ok-left-2.ensures.begun
-          (c.goes_on-in_default-behind_member.ensures.less c.if-not-goes_on-2.false);
+          (c.goes_on-in_default-after_member.ensures.less c.if-not-goes_on-2.false);
       goes = λ s. goes_more (series_next first next added none) _ _ _ _ _ _ (so_far.goes s)
           (comma_goes first next added none with _ _ _ s _ _ _ comma (c.in_ok-left-2.ensures.goes s));
     }
@@ -199,7 +199,7 @@ loop-found-preserved g c =
       goes = λ s. goes_more (series_next first next added none) _ _ _ _ _ _ (so_far.goes s)
           (comma_goes first next added none with _ _ _ s _ _ _ comma (member_taken first next added none with _ _ _ _ s _ _ _ _ _ so_far.may_begin
           (c.in-Some.ensures.whole d _ _ (params_none d _ _ c.new-params.ensures))
-          (c.in_ok-add_found.ensures.added c.if-not-branch.false) c.in-Some-behind_member.ensures));
+          (c.in_ok-add_found.ensures.added c.if-not-branch.false) c.in-Some-after_member.ensures));
     }
 
 pub returns-then-not-goes_on-clause-begun : goal.returns-then-not-goes_on-clause-begun

@@ -14,9 +14,9 @@ returns-in_default-clause-goes g c =
     λ s. taken_so_far first next added none with _ _ _ _ _ _ s
     (record { taken = []; split = refl; leads = refl })
 
-pub returns-in_default-behind_member-clause-goes :
-    goal.returns-in_default-behind_member-clause-goes
-returns-in_default-behind_member-clause-goes g c =
+pub returns-in_default-after_member-clause-goes :
+    goal.returns-in_default-after_member-clause-goes
+returns-in_default-after_member-clause-goes g c =
     let d = c.args.context.now.dialect in
     let first = g.P.SeriesMember.first d in
     let next = g.P.Level.next d in
@@ -35,15 +35,15 @@ returns-clause-goes g c =
     let none = g.P.SeriesMember.none in
     let with = g.P.SeriesMember.with in
     λ s. member_taken first next added none with _ _ _ _ s _ _ _ _ _ c.requires.may_begin c.in-Some.ensures.whole
-    c.in_ok-add.ensures c.in-Some-behind_member.ensures
+    c.in_ok-add.ensures c.in-Some-after_member.ensures
 
 pub returns-in_default-clause-begun : goal.returns-in_default-clause-begun
 returns-in_default-clause-begun g c =
     begun_here c.args.context.now.dialect _ _ c.in_default.ensures.begun
 
-pub returns-in_default-behind_member-clause-begun :
-    goal.returns-in_default-behind_member-clause-begun
-returns-in_default-behind_member-clause-begun g c = rw c.in-Some.ensures.none tt
+pub returns-in_default-after_member-clause-begun :
+    goal.returns-in_default-after_member-clause-begun
+returns-in_default-after_member-clause-begun g c = rw c.in-Some.ensures.none tt
 
 pub returns-clause-begun : goal.returns-clause-begun
 returns-clause-begun g c = rw c.in-Some.ensures.none tt

@@ -4,7 +4,7 @@ use Rattle.sf_parse.proofs.stop.stop_between_items.Goals as goal
 
 pub returns-in-Some : goal.returns-in-Some
 returns-in-Some c = λ is.
-    closed_stop c.args.context.now.dialect _ _ is _ c.in-Some.ensures (c.stop_behind_items.ensures _)
+    closed_stop c.args.context.now.dialect _ _ is _ c.in-Some.ensures (c.stop_after_items.ensures _)
 
 pub returns-in_default-stop_in_item : goal.returns-in_default-stop_in_item
 returns-in_default-stop_in_item c = λ is.

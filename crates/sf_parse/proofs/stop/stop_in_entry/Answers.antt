@@ -8,10 +8,10 @@ pub returns-in-Some : goal.returns-in-Some
 returns-in-Some c =
     let d = c.args.context.now.dialect in
     key_stop d _ _ _ _ c.in_ok-after.ensures.split c.in_ok-after.ensures.key
-    (flag_stop d _ _ _ _ c.in-Some.ensures c.in_ok-behind_key.ensures)
+    (flag_stop d _ _ _ _ c.in-Some.ensures c.stop_in_params.ensures)
 
-pub returns-in_default-behind : goal.returns-in_default-behind
-returns-in_default-behind c =
+pub returns-in_default-strip_byte : goal.returns-in_default-strip_byte
+returns-in_default-strip_byte c =
     let d = c.args.context.now.dialect in
     let key = c.in_ok-after.field-0-0.now in
     key_stop d _ key _ _ c.in_ok-after.ensures.split c.in_ok-after.ensures.key
@@ -23,13 +23,13 @@ pub returns-in_default-stop_in_member : goal.returns-in_default-stop_in_member
 returns-in_default-stop_in_member c =
     let d = c.args.context.now.dialect in
     key_stop d _ _ _ _ c.in_ok-after.ensures.split c.in_ok-after.ensures.key
-    (equals_stop d _ _ _ _ c.in-Some-behind.ensures refl c.first_bytes.ensures refl)
+    (equals_stop d _ _ _ _ c.in-Some-strip_byte.ensures refl c.first_bytes.ensures refl)
 
 pub returns : goal.returns
 returns c =
     let d = c.args.context.now.dialect in
     key_stop d _ _ _ _ c.in_ok-after.ensures.split c.in_ok-after.ensures.key
-    (member_value_stop d _ _ _ _ c.in-Some-behind.ensures c.in-Some-stop_in_member.ensures)
+    (member_value_stop d _ _ _ _ c.in-Some-strip_byte.ensures c.in-Some-stop_in_member.ensures)
 
 pub stop_in_params-requires : goal.stop_in_params-requires
 stop_in_params-requires c =
@@ -40,5 +40,5 @@ stop_in_params-requires c =
 pub stop_in_member-requires : goal.stop_in_member-requires
 stop_in_member-requires c =
     let d = c.args.context.now.dialect in
-    beside_rest d _ (61 ∷ []) _ _ c.in-Some-behind.ensures
+    beside_rest d _ (61 ∷ []) _ _ c.in-Some-strip_byte.ensures
     (beside_rest d _ _ _ _ c.in_ok-after.ensures.split c.requires)

@@ -1,6 +1,7 @@
 use Rattle.std.proofs.Common.{[], ap, ◌∙◌}
 use Rattle.sf_parse.specs.declared.begun.Parts.TheVariants as parts_are
-use Rattle.sf_parse.specs.Machine.Inners.{BetweenItems, Closing}
+use Rattle.sf_parse.specs.Machine.Inners.{BetweenItems, InItem, Closing}
+use Rattle.sf_parse.specs.Machine.Items.{InParams}
 use Rattle.sf_parse.specs.Machine.Members.{InMany, member_step}
 use Rattle.sf_parse.specs.Machine.Params.{Between, Opened}
 use Rattle.sf_parse.proofs.Stops.{stop_more, parts_lead, none_goes, opened_stop}
@@ -14,6 +15,15 @@ returns-in-Items c =
     (parts_lead d _ _ _ _ c.requires c.in-Some.is c.if-begun-inside.true c.in-Items.is)
     (c.stop_between_items.ensures items)
 
+pub returns-in-Unkept : goal.returns-in-Unkept
+returns-in-Unkept c =
+    let d = c.args.context.now.dialect in
+    let opened = parts_lead d _ _ _ _ c.requires c.in-Some.is c.if-begun-inside.true c.in-Unkept.is in
+    let o = opened.1 in
+    stop_more (member_step d) _ (InMany (BetweenItems []))
+    (InMany (InItem opened.0 (InParams o.bare (Opened o.params)))) _ _ _ o.goes
+    (c.stop_in_open_item.ensures opened.0 o.bare o.params)
+
 pub returns-in-None : goal.returns-in-None
 returns-in-None c =
     let d = c.args.context.now.dialect in
@@ -22,7 +32,7 @@ returns-in-None c =
     _ _ _
     (parts_lead d _ _ _ _ c.requires c.in-Some.is c.if-begun-inside.true
     (c.in-Inner.is ∙ ap (parts_are.Inner items) c.in-None.is))
-    (c.stop_behind_items.ensures items)
+    (c.stop_after_items.ensures items)
 
 pub returns-in-Some-params : goal.returns-in-Some-params
 returns-in-Some-params c =
@@ -39,4 +49,4 @@ pub returns : goal.returns
 returns c =
     let d = c.args.context.now.dialect in
     stop_more (member_step d) _ (InMany (BetweenItems [])) (InMany (BetweenItems [])) _ _ _
-    (none_goes d _ _ c.behind_spaces.ensures) (c.stop_between_items-2.ensures [])
+    (none_goes d _ _ c.after_spaces.ensures) (c.stop_between_items-2.ensures [])

@@ -6,7 +6,7 @@ use Rattle.sf_parse.proofs.stop.stop_in_item.Goals as goal
 pub returns-in-Some : goal.returns-in-Some
 returns-in-Some c =
     params_stop c.args.context.now.dialect _ _ c.in_ok-stop.stop _ c.in_ok-stop.ensures
-    c.if-stop.true c.in-Some.ensures c.in_ok-behind_bare.ensures
+    c.if-stop.true c.in-Some.ensures c.stop_in_params.ensures
 
 pub returns : goal.returns
 returns c =

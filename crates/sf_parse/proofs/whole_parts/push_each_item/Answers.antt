@@ -8,21 +8,21 @@ use Rattle.sf_parse.proofs.whole_parts.push_each_item.Goals as goal
 pub loop-rest-init : goal.loop-rest-init
 loop-rest-init c = record { taken = []; split = refl; leads = refl }
 
-pub loop-rest-preserved-in-Some-behind : goal.loop-rest-preserved-in-Some-behind
-loop-rest-preserved-in-Some-behind c =
+pub loop-rest-preserved-in-Some-strip_byte : goal.loop-rest-preserved-in-Some-strip_byte
+loop-rest-preserved-in-Some-strip_byte c =
     let d = c.args.context.now.dialect in
     goes_more (member_step d) _ _ _ _ _ _ c.loop-rest.invariant
     (item_goes d _ _ _ _ _ _ _ (item_whole d _ _ _ _ _ (c.in-Some.ensures.reads d)
     (params_none d _ _ c.new-params.ensures))
-    c.in-Some-behind.ensures c.behind_spaces-rest.ensures
+    c.in-Some-strip_byte.ensures c.after_spaces-rest.ensures
     (c.in_ok-push_leaf.ensures.added c.if-not-branch.false))
 
-pub loop-rest-smaller-in-Some-behind : goal.loop-rest-smaller-in-Some-behind
-loop-rest-smaller-in-Some-behind c =
+pub loop-rest-smaller-in-Some-strip_byte : goal.loop-rest-smaller-in-Some-strip_byte
+loop-rest-smaller-in-Some-strip_byte c =
     let d = c.args.context.now.dialect in
     item_shorter d _ _ _ _ _ (item_whole d _ _ _ _ _ (c.in-Some.ensures.reads d)
     (params_none d _ _ c.new-params.ensures))
-    c.in-Some-behind.ensures c.behind_spaces-rest.ensures
+    c.in-Some-strip_byte.ensures c.after_spaces-rest.ensures
 
 pub loop-rest-preserved : goal.loop-rest-preserved
 loop-rest-preserved c =

@@ -38,8 +38,8 @@ returns-in-Err-Refused c =
     c.loop-line.invariant.reads in
     let many : ExceedsCapacity targets c.trimmed.result.now headers → 24576 ≤ length targets =
     λ room. many-names targets headers number _ small c.loop-line.invariant.listed room.1 in
-    reads_on-refused targets c.args.input.now _ c.trimmed.result.now number headers reads many
-    refused
+    reads_on-refused targets (lines_of c.args.input.now) _ c.trimmed.result.now number headers reads
+    many refused
 
 pub returns-in-Err-OutOfMemory : goal.returns-in-Err-OutOfMemory
 returns-in-Err-OutOfMemory c =
@@ -54,7 +54,7 @@ returns-in-Err-OutOfMemory c =
     subst (λ ls. ReadsOn targets (lines_of c.args.input.now) ls number headers) e
     c.loop-line.invariant.reads in (
       number,
-      reads_on-memory targets c.args.input.now _ c.trimmed.result.now number headers reads
+      reads_on-memory targets (lines_of c.args.input.now) _ c.trimmed.result.now number headers reads
           taken,
     )
 

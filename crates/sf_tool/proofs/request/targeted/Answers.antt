@@ -1,48 +1,65 @@
-use Rattle.std.proofs.Common.{◌≡◌, ◌++◌, ◌∷◌, [], ap, ap₂, sym, ◌∙◌, arith}
-use Rattle.std.proofs.Common.{true, false, subst}
-use Rattle.http_header.specs.Token.{lowercase}
-use Rattle.clap.specs.Walk.{Text}
-use Rattle.sf_tool.specs.Fields.{is_header_name}
-use Rattle.sf_tool.proofs.CommandLine.{names-more, lowercase-more, not-names, texts, text-at}
+use Rattle.std.proofs.Common.{◌≡◌, List, Some, None, ap, codes, map, refl, sym, ◌∙◌}
+use Rattle.std.specs.Prelude.{option_map}
+use Rattle.std.specs.Borrow.{Bor}
+use Rattle.std.proofs.lemmas.Result.{err_from_is_err_and}
+use Rattle.clap.specs.Words.{found_of, rows_of}
+use Rattle.clap.specs.Walk.{Text, all_of}
+use Rattle.clap.proofs.WalkLemmas.{raw_values-rows}
+use Rattle.sf_tool.proofs.CommandLine.{fallback-fault, names-fault, no-names}
 use Rattle.sf_tool.proofs.request.targeted.Goals as goal
+
+abbrev texts : Bor (List (Bor Text)) → List Text
+texts s = map (λ v. v.now) s.now
+
+pub returns-in_err-fallback : goal.returns-in_err-fallback
+returns-in_err-fallback c =
+    let p = err_from_is_err_and c.from_residual.result c.from_residual.ensures.1 in
+    rw (p.1, p.2)
+    (fallback-fault (rows_of (found_of c.args.given.now)) c.in_err-fallback.field-0.0
+    c.in_err-fallback.ensures)
 
 pub returns-in_default : goal.returns-in_default
 returns-in_default c =
-    let at = text-at c.args.words.now c.loop-word.word-index c.loop-word-test.true in
-    let P : Text → Type 0 = λ w. is_header_name w ≡ false in
-    not-names (texts c.args.words.now) c.loop-word.word-index [] at.0
-    (subst P (c.as_bytes.ensures.value ∙ at.1) c.in_default.ensures)
+    let f = found_of c.args.given.now in
+    let given : all_of (codes "name") (rows_of f) ≡ None =
+    sym (raw_values-rows f (codes "name")) ∙ sym c.get_strs.ensures
+    ∙ ap (option_map texts) c.in_default.is in
+    no-names (rows_of f) given
 
-pub returns-in_default-made : goal.returns-in_default-made
-returns-in_default-made c =
-    let at = text-at c.args.words.now c.loop-word.word-index c.loop-word-test.true in
-    let P : Text → Type 0 = λ w. is_header_name w ≡ true in
-    let names = names-more (texts c.args.words.now) c.loop-word.word-index [] at.0
-    c.loop-word.invariant.are_names
-    (subst P (c.as_bytes.ensures.value ∙ at.1) c.in-Some.ensures.0) in
-    (omega (arith, at.2), (c.loop-word.word-index, at.0, names))
+pub returns-in_err-names : goal.returns-in_err-names
+returns-in_err-names c =
+    let f = found_of c.args.given.now in
+    let given : all_of (codes "name") (rows_of f) ≡ Some (texts c.in-Some.words) =
+    sym (raw_values-rows f (codes "name")) ∙ sym c.get_strs.ensures
+    ∙ ap (option_map texts) c.in-Some.is in
+    let p = err_from_is_err_and c.from_residual-in_err-names.result
+    c.from_residual-in_err-names.ensures.1 in
+    rw (p.1, p.2)
+    (names-fault (rows_of f) (texts c.in-Some.words) given c.in_err-names.field-0.0
+    c.in_err-names.ensures)
 
-pub returns-in_default-push : goal.returns-in_default-push
-returns-in_default-push c =
-    let at = text-at c.args.words.now c.loop-word.word-index c.loop-word-test.true in
-    let P : Text → Type 0 = λ w. is_header_name w ≡ true in
-    let names = names-more (texts c.args.words.now) c.loop-word.word-index [] at.0
-    c.loop-word.invariant.are_names
-    (subst P (c.as_bytes.ensures.value ∙ at.1) c.in-Some.ensures.0) in
-    (omega (arith, at.2), (c.loop-word.word-index, at.0, names))
+pub returns-in-Some-fallback : goal.returns-in-Some-fallback
+returns-in-Some-fallback c =
+    let f = found_of c.args.given.now in
+    let given : all_of (codes "name") (rows_of f) ≡ Some (texts c.in-Some.words) =
+    sym (raw_values-rows f (codes "name")) ∙ sym c.get_strs.ensures
+    ∙ ap (option_map texts) c.in-Some.is in (
+      refl,
+      (
+        rw c.in-Some-fallback.is at c.in_ok-fallback.ensures,
+        (texts c.in-Some.words, given, c.in_ok-names.ensures),
+      ),
+    )
 
-pub loop-word-preserved : goal.loop-word-preserved
-loop-word-preserved c =
-    let at = text-at c.args.words.now c.loop-word.word-index c.loop-word-test.true in
-    let P : Text → Type 0 = λ w. is_header_name w ≡ true in
-    let word = c.as_bytes.ensures.value ∙ at.1 in
-    let made : c.in-Ok.name ≡ lowercase c.as_bytes.result.now =
-    rw c.in-Ok.is at c.in-Some.ensures.1 in
-    record {
-      are_names = names-more (texts c.args.words.now) c.loop-word.word-index [] at.0
-          c.loop-word.invariant.are_names (subst P word c.in-Some.ensures.0);
-      names = c.in-Ok-push.ensures.items
-          ∙ ap₂ (λ prefix name. prefix ++ name ∷ []) c.loop-word.invariant.names
-          (made ∙ ap lowercase word)
-          ∙ sym (lowercase-more (texts c.args.words.now) c.loop-word.word-index [] at.0);
-    }
+pub returns-in-None : goal.returns-in-None
+returns-in-None c =
+    let f = found_of c.args.given.now in
+    let given : all_of (codes "name") (rows_of f) ≡ Some (texts c.in-Some.words) =
+    sym (raw_values-rows f (codes "name")) ∙ sym c.get_strs.ensures
+    ∙ ap (option_map texts) c.in-Some.is in (
+      refl,
+      (
+        rw c.in-None.is at c.in_ok-fallback.ensures,
+        (texts c.in-Some.words, given, c.in_ok-names.ensures),
+      ),
+    )

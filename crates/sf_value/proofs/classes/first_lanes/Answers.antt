@@ -1,13 +1,12 @@
-use Rattle.std.proofs.Common.{arith}
-use Rattle.sf_value.proofs.Vectors.{first_within, first_lanes}
+use Rattle.std.proofs.Common.{◌∙◌, ap, sym, subst, take}
+use Rattle.std.specs.List.{prefix_len}
+use Rattle.sf_value.specs.Grammar.Words.{Every}
+use Rattle.sf_value.proofs.Vectors.{every_before}
 use Rattle.sf_value.proofs.classes.first_lanes.Goals as goal
 
-pub returns-else-outside-eq0-clause-within : goal.returns-else-outside-eq0-clause-within
-returns-else-outside-eq0-clause-within g c =
-    first_within g.C.ByteClass.test c.args.text.now 16 _ c.requires (omega arith)
-    c.outside-outside.ensures (let h = c.if-outside-eq0.false in omega arith)
-
-pub returns-else-outside-eq0-clause-every : goal.returns-else-outside-eq0-clause-every
-returns-else-outside-eq0-clause-every g c =
-    first_lanes g.C.ByteClass.test c.args.text.now 16 _ c.requires (omega arith)
-    c.outside-outside.ensures (let h = c.if-outside-eq0.false in omega arith)
+pub returns-clause-every : goal.returns-clause-every
+returns-clause-every g c =
+    let test = g.C.ByteClass.test in
+    let t = c.args.text.now in
+    let run = c.prefix_of_16.ensures ∙ ap (prefix_len test) c.in-Some.ensures.cases.0 in
+    subst (λ n. Every test (take n t)) (sym run) (every_before test 16 t)

@@ -49,7 +49,7 @@ returns-in-Err c =
     let d = c.args.source.dialect in
     let s = c.args.source.text.now in
     let h = c.in-Some.ensures.hop in
-    subst (λ y. Reads (AreEntries d s) c.args.nodes.now (Err y)) (sym c.behind.ensures)
+    subst (λ y. Reads (AreEntries d s) c.args.nodes.now (Err y)) (sym c.after.ensures)
     (part_wrong s (Entry d s) (ValidEntry d) (HasDistinctKeys {V = Member}) NoMore SameKey
     (entry_laws d s) (AreEntries d s) (whole_dict d s) (IsMember d s) c.args.nodes.now
     c.loop-source.rest.now c.loop-source.all c.in-Some.bytes.now c.in-Some.prefix.now

@@ -9,6 +9,6 @@ returns-in-Err c =
     let s = c.args.source.text.now in
     let nodes = c.args.nodes.now in
     let fault = c.in-Err.fault in
-    let w = subst (λ y. Reads (IsInside d s) y (Err fault)) c.behind_first.ensures c.in-Err.ensures in
-    subst (λ y. Reads (IsInner d s) nodes (Err y)) (sym c.behind.ensures)
+    let w = subst (λ y. Reads (IsInside d s) y (Err fault)) c.after_first.ensures c.in-Err.ensures in
+    subst (λ y. Reads (IsInner d s) nodes (Err y)) (sym c.after.ensures)
     (inner_wrong d s nodes fault c.in-Some.ensures.some.1 w)

@@ -50,7 +50,7 @@ returns-in-Err c =
     let key = c.in-Some.key.now in
     let prefix = c.in-Some.prefix.now in
     let later = c.in-Some.later.now in
-    subst (λ y. Reads (IsInside d s) c.args.nodes.now (Err y)) (sym c.behind.ensures)
+    subst (λ y. Reads (IsInside d s) c.args.nodes.now (Err y)) (sym c.after.ensures)
     (part_wrong s (InnerItem d s) (ValidItem d) AnyList (ParamsEnd d s) AnyTwo (inside_laws d s)
     (IsInside d s) (whole_inside d s) (IsItem d s role_is.InnerItem) c.args.nodes.now rest
     c.loop-at.items key prefix later c.in-Err.fault c.loop-at.invariant.so h
@@ -84,6 +84,6 @@ returns-in-Err-params c =
     let f = c.loop-at-test.false in
     let none : StartsItem c.loop-at.rest.now → ⊥ =
     λ k. (let a = c.starts_item.ensures.all k in absurd cc) in
-    subst (λ y. Reads (IsInside d s) c.args.nodes.now (Err y)) (sym c.behind-in-Err-params.ensures)
+    subst (λ y. Reads (IsInside d s) c.args.nodes.now (Err y)) (sym c.after-in-Err-params.ensures)
     (inside_end d s c.args.nodes.now c.loop-at.rest.now c.loop-at.items c.in-Err-params.fault
     c.loop-at.invariant.so none c.in-Err-params.ensures)

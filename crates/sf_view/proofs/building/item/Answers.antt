@@ -11,6 +11,6 @@ returns-in-Err c =
     let nodes = c.args.nodes.now in
     let fault = c.in-Err.fault in
     let w = subst (λ y. Reads (AreParams d s role_is.Parameter) y (Err fault))
-    c.behind_first.ensures c.in-Err.ensures in
-    subst (λ y. Reads (IsItem d s c.args.role) nodes (Err y)) (sym c.behind.ensures)
+    c.after_first.ensures c.in-Err.ensures in
+    subst (λ y. Reads (IsItem d s c.args.role) nodes (Err y)) (sym c.after.ensures)
     (item_wrong d s c.args.role nodes fault c.in-Some.ensures.some.1 w)

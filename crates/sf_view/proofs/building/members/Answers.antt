@@ -39,7 +39,7 @@ returns-in-Err c =
     let d = c.args.source.dialect in
     let s = c.args.source.text.now in
     let h = c.in-Some.ensures.hop in
-    subst (λ y. Reads (AreMembers d s) c.args.nodes.now (Err y)) (sym c.behind.ensures)
+    subst (λ y. Reads (AreMembers d s) c.args.nodes.now (Err y)) (sym c.after.ensures)
     (part_wrong s (DescribesMember d s []) (ValidMember d) AnyList NoMore AnyTwo (member_laws d s)
     (AreMembers d s) (whole_list d s) (IsMember d s) c.args.nodes.now c.loop-rest.rest.now
     c.loop-rest.all c.in-Some.key.now c.in-Some.prefix.now c.in-Some.later.now c.in-Err.fault

@@ -1,9 +1,9 @@
 use Rattle.sf_view.proofs.CountedParts.{entry_member, entry_flag}
 use Rattle.sf_view.proofs.counting.count_entry.Goals as goal
 
-pub returns-in-Some-behind : goal.returns-in-Some-behind
-returns-in-Some-behind c =
-    entry_member _ _ _ _ _ _ _ _ c.in-Some.ensures.0 c.in-Some.ensures.1 c.in-Some-behind.ensures
+pub returns-in-Some-strip_byte : goal.returns-in-Some-strip_byte
+returns-in-Some-strip_byte c =
+    entry_member _ _ _ _ _ _ _ _ c.in-Some.ensures.0 c.in-Some.ensures.1 c.in-Some-strip_byte.ensures
     c.in_ok-member.ensures
 
 pub returns : goal.returns

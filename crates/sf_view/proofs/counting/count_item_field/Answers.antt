@@ -3,5 +3,5 @@ use Rattle.sf_view.proofs.counting.count_item_field.Goals as goal
 
 pub returns : goal.returns
 returns c =
-    item_field _ _ _ _ _ _ c.behind_spaces.ensures c.in_ok-counts.ensures c.behind_spaces-2.ensures
+    item_field _ _ _ _ _ _ c.after_spaces.ensures c.in_ok-counts.ensures c.after_spaces-2.ensures
     (c.ends.ensures.all c.if-not-ends.false)

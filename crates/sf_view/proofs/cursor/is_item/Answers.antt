@@ -3,5 +3,5 @@ use Rattle.sf_view.proofs.cursor.is_item.Goals as goal
 
 pub returns-in-Some : goal.returns-in-Some
 returns-in-Some c = λ t.
-    item_only _ _ _ _ _ c.behind_spaces.ensures c.in-Some.ensures
-    c.behind_spaces-in-Some.ensures (c.ends.ensures.all t)
+    item_only _ _ _ _ _ c.after_spaces.ensures c.in-Some.ensures
+    c.after_spaces-in-Some.ensures (c.ends.ensures.all t)

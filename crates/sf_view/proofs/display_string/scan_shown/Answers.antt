@@ -3,7 +3,7 @@ use Rattle.sf_view.proofs.Quoted.{inside_opens, inside_plain, inside_escape, ste
 use Rattle.sf_view.proofs.display_string.scan_shown.Goals as goal
 
 pub loop-left-init : goal.loop-left-init
-loop-left-init c = inside_opens _ _ _ c.in_ok-behind.ensures c.in_ok-rest.ensures
+loop-left-init c = inside_opens _ _ _ c.in_ok-strip_byte.ensures c.in_ok-rest.ensures
 
 pub returns-in-Some : goal.returns-in-Some
 returns-in-Some c =

@@ -4,21 +4,21 @@ use Rattle.sf_view.proofs.growing.list_from.Goals as goal
 
 pub returns-in_default-clause-stopped : goal.returns-in_default-clause-stopped
 returns-in_default-clause-stopped c =
-    so_far_kept _ _ _ _ _ _ c.loop-scan.invariant c.member_behind.ensures.kept
-    c.member_behind.ensures.same
+    so_far_kept _ _ _ _ _ _ c.loop-scan.invariant c.member_after.ensures.kept
+    c.member_after.ensures.same
 
 pub returns-then-ends-clause-accepts : goal.returns-then-ends-clause-accepts
 returns-then-ends-clause-accepts c =
     list_last _ _ _ _ _ _ _ _ _ _ _ c.loop-scan.invariant c.in-Some.ensures.scans refl refl
-    c.behind_white-white.ensures (c.ends.ensures.all c.if-ends.true)
+    c.after_white-white.ensures (c.ends.ensures.all c.if-ends.true)
 
-pub returns-in_default-behind-clause-stopped : goal.returns-in_default-behind-clause-stopped
-returns-in_default-behind-clause-stopped c =
-    so_far_kept _ _ _ _ _ _ c.loop-scan.invariant c.member_behind.ensures.kept
-    c.member_behind.ensures.same
+pub returns-in_default-strip_byte-clause-stopped : goal.returns-in_default-strip_byte-clause-stopped
+returns-in_default-strip_byte-clause-stopped c =
+    so_far_kept _ _ _ _ _ _ c.loop-scan.invariant c.member_after.ensures.kept
+    c.member_after.ensures.same
 
 pub loop-scan-preserved : goal.loop-scan-preserved
 loop-scan-preserved c =
     so_far_same _ _ _ _ _
     (list_more _ _ _ _ _ _ _ _ _ _ _ _ _ c.loop-scan.invariant c.in-Some.ensures.scans refl refl
-    c.behind_white-white.ensures c.in-Some-behind.ensures c.behind_white-rest.ensures)
+    c.after_white-white.ensures c.in-Some-strip_byte.ensures c.after_white-rest.ensures)

@@ -6,19 +6,19 @@ use Rattle.sf_view.proofs.series.whole_list.Goals as goal
 
 pub returns-then-ends-clause-accepts : goal.returns-then-ends-clause-accepts
 returns-then-ends-clause-accepts c =
-    empty_list _ _ _ _ c.behind_spaces-rest.ensures (c.ends.ensures.all c.if-ends.true)
+    empty_list _ _ _ _ c.after_spaces-rest.ensures (c.ends.ensures.all c.if-ends.true)
 
 pub loop-scan-init : goal.loop-scan-init
 loop-scan-init c =
     so_far_none (SpellsMember c.args.dialect) (DescribesMembers c.args.dialect c.args.text.now) _ _ _
-    c.behind_spaces-rest.ensures refl
+    c.after_spaces-rest.ensures refl
 
 pub returns-then-ends-2-clause-accepts : goal.returns-then-ends-2-clause-accepts
 returns-then-ends-2-clause-accepts c =
     list_last _ _ _ _ _ _ _ _ _ _ _ c.loop-scan.invariant c.in_ok-scan.ensures.scans refl refl
-    c.behind_white-white.ensures (c.ends-in-loop-scan.ensures.all c.if-ends-2.true)
+    c.after_white-white.ensures (c.ends-in-loop-scan.ensures.all c.if-ends-2.true)
 
 pub loop-scan-preserved : goal.loop-scan-preserved
 loop-scan-preserved c =
     list_more _ _ _ _ _ _ _ _ _ _ _ _ _ c.loop-scan.invariant c.in_ok-scan.ensures.scans refl
-    refl c.behind_white-white.ensures c.in_ok-behind.ensures c.behind_white-rest.ensures
+    refl c.after_white-white.ensures c.in_ok-strip_byte.ensures c.after_white-rest.ensures

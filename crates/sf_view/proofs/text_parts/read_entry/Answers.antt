@@ -9,4 +9,4 @@ returns-in-Some c =
 pub returns : goal.returns
 returns c =
     entry_flag _ _ _ _ _ c.in_ok-key.ensures.0 c.in_ok-key.ensures.1
-    c.in_ok-behind_params.ensures
+    c.in_ok-after_params.ensures

@@ -2,4 +2,4 @@ use Rattle.sf_write.proofs.Following.{then}
 use Rattle.sf_write.proofs.dicts.put_entry.Goals as goal
 
 pub returns-clause-text : goal.returns-clause-text
-returns-clause-text g c = then c.put-sent.ensures c.put_behind.ensures.text
+returns-clause-text g c = then c.put-sent.ensures c.put_after.ensures.text

@@ -1,11 +1,16 @@
-use Rattle.std.proofs.Common.{◌+◌, length, ap, ◌∙◌}
 use Rattle.sf_value.specs.Grammar.DisplayStrings.{is_unencoded}
-use Rattle.sf_write.proofs.Runs.{prefix_behind}
+use Rattle.sf_write.proofs.Runs.{first_split, run_near, run_far}
 use Rattle.sf_write.proofs.display_string.unencoded_len.Goals as goal
+
+pub returns-then-run-lt-LONG-clause-len : goal.returns-then-run-lt-LONG-clause-len
+returns-then-run-lt-LONG-clause-len c =
+    let s = c.args.bytes.now in
+    run_near is_unencoded s c.in-Some.near.now c.in-Some.far.now 16 _
+    (first_split s _ _ 16 c.in-Some.ensures.cases) c.prefix_of_16-run.ensures c.if-run-lt-LONG.true
 
 pub returns-clause-len : goal.returns-clause-len
 returns-clause-len c =
-    let unencoded = c.long_prefix.result.0.now in
-    ap (λ n. length unencoded + n) c.unencoded_len_by_byte-more.ensures.len
-    ∙ prefix_behind is_unencoded c.args.bytes.now unencoded c.long_prefix.result.1.now
-    c.long_prefix.ensures.whole c.long_prefix.ensures.every
+    let s = c.args.bytes.now in
+    run_far is_unencoded s c.in-Some.near.now c.in-Some.far.now 16 _ _
+    (first_split s _ _ 16 c.in-Some.ensures.cases) c.prefix_of_16-run.ensures c.if-run-lt-LONG.false
+    c.unencoded_len_after_run.ensures.len

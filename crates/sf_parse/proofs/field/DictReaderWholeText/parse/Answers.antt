@@ -25,7 +25,7 @@ returns-then-are_all-clause-parses c =
     let with : Pairs Member → Entry → Pairs Member = λ ps e. put ps e.key e.member in
     let all = c.are_all.ensures.all c.if-are_all.true in
     members_parsed entry_start (entry_step d) with_entry [] with d kind_is.Dict InDict refl
-    (dict_steps d) _ _ _ _ _ (InKey []) _ c.behind_spaces.ensures
+    (dict_steps d) _ _ _ _ _ (InKey []) _ c.after_spaces.ensures
     (c.in_ok-rest.ensures.goes _) c.in_ok-rest.ensures.none_open all.1 all.0
     (λ t e. ap (option_map dict_of)
     (sym (end_is entry_finish [] (λ ps p. put ps p.0 p.1) with_entry (λ s given. refl) t) ∙ e))
@@ -36,7 +36,7 @@ overflow_sub-place c =
     let with : Pairs Member → Entry → Pairs Member = λ ps e. put ps e.key e.member in
     left_within _ _ _ _ _
     (members_before entry_start (entry_step d) with_entry [] with d kind_is.Dict InDict refl
-    (dict_steps d) _ _ _ _ _ (InKey []) _ c.behind_spaces.ensures
+    (dict_steps d) _ _ _ _ _ (InKey []) _ c.after_spaces.ensures
     (c.in_ok-rest.ensures.goes (InKey [])) refl
     (c.are_all.ensures.some c.if-are_all.false))
 
@@ -47,7 +47,7 @@ returns-in-Some-clause-parses c =
     refused_at entry_start (entry_step d) with_entry [] with d kind_is.Dict InDict refl
     (dict_steps d) _ _ _ _ dict_ends
     (members_before entry_start (entry_step d) with_entry [] with d kind_is.Dict InDict refl
-    (dict_steps d) _ _ _ _ _ (InKey []) _ c.behind_spaces.ensures
+    (dict_steps d) _ _ _ _ _ (InKey []) _ c.after_spaces.ensures
     (c.in_ok-rest.ensures.goes (InKey [])) refl
     (c.are_all.ensures.some c.if-are_all.false))
     (c.in-Some.ensures _ (InKey [])
@@ -67,7 +67,7 @@ refuse_member-requires-clause-whole c =
     let with : Pairs Member → Entry → Pairs Member = λ ps e. put ps e.key e.member in
     left_within _ _ _ _ _
     (members_before entry_start (entry_step d) with_entry [] with d kind_is.Dict InDict refl
-    (dict_steps d) _ _ _ _ _ (InKey []) _ c.behind_spaces.ensures
+    (dict_steps d) _ _ _ _ _ (InKey []) _ c.after_spaces.ensures
     (c.in_ok-rest.ensures.goes (InKey [])) refl (c.are_all.ensures.some c.if-are_all.false))
 
 pub returns-in-Some-refuse_member-clause-parses :
@@ -78,7 +78,7 @@ returns-in-Some-refuse_member-clause-parses c =
     refused_after entry_start (entry_step d) with_entry [] with d kind_is.Dict InDict refl
     (dict_steps d) _ _ _ _ dict_ends
     (members_before entry_start (entry_step d) with_entry [] with d kind_is.Dict InDict refl
-    (dict_steps d) _ _ _ _ _ (InKey []) _ c.behind_spaces.ensures
+    (dict_steps d) _ _ _ _ _ (InKey []) _ c.after_spaces.ensures
     (c.in_ok-rest.ensures.goes (InKey [])) refl (c.are_all.ensures.some c.if-are_all.false))
     (c.in-Some-refuse_member.ensures _ (InKey []) c.in_ok-rest.ensures.none_open)
 
@@ -94,12 +94,12 @@ read_dict-requires-clause-goes c =
     let d = c.args.context.now.dialect in
     let with : Pairs Member → Entry → Pairs Member = λ ps e. put ps e.key e.member in
     λ s. members_before entry_start (entry_step d) with_entry [] with d kind_is.Dict InDict refl
-    (dict_steps d) _ _ _ _ _ s _ c.behind_spaces.ensures
+    (dict_steps d) _ _ _ _ _ s _ c.after_spaces.ensures
     (c.in_ok-rest.ensures.goes s) refl
     (c.are_all.ensures.some c.if-are_all.false)
 
 pub returns-in_err-rest-clause-allocation_free : goal.returns-in_err-rest-clause-allocation_free
 returns-in_err-rest-clause-allocation_free c =
     λ w. never (c.in_err-rest.ensures.allocation_free (InKey [])
-    (every_split is_sp c.behind_spaces.ensures.prefix _
-    (subst (Every is_sp) c.behind_spaces.ensures.split w)).1)
+    (every_split is_sp c.after_spaces.ensures.prefix _
+    (subst (Every is_sp) c.after_spaces.ensures.split w)).1)

@@ -23,7 +23,7 @@ returns-then-are_all-clause-parses c =
     let d = c.args.context.now.dialect in
     let all = c.are_all.ensures.all c.if-are_all.true in
     members_parsed (member_start d) (member_step d) with_member [] (λ ms m. ms ++ m ∷ []) d kind_is.List InList refl
-    (list_steps d) _ _ _ _ _ (InOne (InBare (InBoolean QuestionMark))) _ c.behind_spaces.ensures
+    (list_steps d) _ _ _ _ _ (InOne (InBare (InBoolean QuestionMark))) _ c.after_spaces.ensures
     (c.in_ok-rest.ensures.goes _) c.in_ok-rest.ensures.none_open all.1 all.0
     (λ t e. ap (option_map list_of)
     (sym (end_is member_finish [] (λ ms m. ms ++ m ∷ []) with_member (λ s given. refl) t) ∙ e))
@@ -33,7 +33,7 @@ overflow_sub-place c =
     let d = c.args.context.now.dialect in
     left_within _ _ _ _ _
     (members_before (member_start d) (member_step d) with_member [] (λ ms m. ms ++ m ∷ []) d kind_is.List InList refl
-    (list_steps d) _ _ _ _ _ (InOne (InBare (InBoolean QuestionMark))) _ c.behind_spaces.ensures
+    (list_steps d) _ _ _ _ _ (InOne (InBare (InBoolean QuestionMark))) _ c.after_spaces.ensures
     (c.in_ok-rest.ensures.goes (InOne (InBare (InBoolean QuestionMark)))) refl
     (c.are_all.ensures.some c.if-are_all.false))
 
@@ -43,7 +43,7 @@ returns-in-Some-clause-parses c =
     refused_at (member_start d) (member_step d) with_member [] (λ ms m. ms ++ m ∷ []) d kind_is.List InList refl
     (list_steps d) _ _ _ _ list_ends
     (members_before (member_start d) (member_step d) with_member [] (λ ms m. ms ++ m ∷ []) d kind_is.List InList refl
-    (list_steps d) _ _ _ _ _ (InOne (InBare (InBoolean QuestionMark))) _ c.behind_spaces.ensures
+    (list_steps d) _ _ _ _ _ (InOne (InBare (InBoolean QuestionMark))) _ c.after_spaces.ensures
     (c.in_ok-rest.ensures.goes (InOne (InBare (InBoolean QuestionMark)))) refl
     (c.are_all.ensures.some c.if-are_all.false))
     (c.in-Some.ensures _ (InOne (InBare (InBoolean QuestionMark)))
@@ -61,7 +61,7 @@ refuse_member-requires-clause-whole c =
     let d = c.args.context.now.dialect in
     left_within _ _ _ _ _
     (members_before (member_start d) (member_step d) with_member [] (λ ms m. ms ++ m ∷ []) d kind_is.List InList refl
-    (list_steps d) _ _ _ _ _ (InOne (InBare (InBoolean QuestionMark))) _ c.behind_spaces.ensures
+    (list_steps d) _ _ _ _ _ (InOne (InBare (InBoolean QuestionMark))) _ c.after_spaces.ensures
     (c.in_ok-rest.ensures.goes (InOne (InBare (InBoolean QuestionMark)))) refl
     (c.are_all.ensures.some c.if-are_all.false))
 
@@ -72,7 +72,7 @@ returns-in-Some-refuse_member-clause-parses c =
     refused_after (member_start d) (member_step d) with_member [] (λ ms m. ms ++ m ∷ []) d kind_is.List InList refl
     (list_steps d) _ _ _ _ list_ends
     (members_before (member_start d) (member_step d) with_member [] (λ ms m. ms ++ m ∷ []) d kind_is.List InList refl
-    (list_steps d) _ _ _ _ _ (InOne (InBare (InBoolean QuestionMark))) _ c.behind_spaces.ensures
+    (list_steps d) _ _ _ _ _ (InOne (InBare (InBoolean QuestionMark))) _ c.after_spaces.ensures
     (c.in_ok-rest.ensures.goes (InOne (InBare (InBoolean QuestionMark)))) refl
     (c.are_all.ensures.some c.if-are_all.false))
     (c.in-Some-refuse_member.ensures _ (InOne (InBare (InBoolean QuestionMark)))
@@ -89,12 +89,12 @@ pub read_list-requires-clause-goes : goal.read_list-requires-clause-goes
 read_list-requires-clause-goes c =
     let d = c.args.context.now.dialect in
     λ s. members_before (member_start d) (member_step d) with_member [] (λ ms m. ms ++ m ∷ []) d kind_is.List InList refl
-    (list_steps d) _ _ _ _ _ s _ c.behind_spaces.ensures
+    (list_steps d) _ _ _ _ _ s _ c.after_spaces.ensures
     (c.in_ok-rest.ensures.goes s) refl
     (c.are_all.ensures.some c.if-are_all.false)
 
 pub returns-in_err-rest-clause-allocation_free : goal.returns-in_err-rest-clause-allocation_free
 returns-in_err-rest-clause-allocation_free c =
     λ w. never (c.in_err-rest.ensures.allocation_free (InOne (InBare (InBoolean QuestionMark)))
-    (every_split is_sp c.behind_spaces.ensures.prefix _
-    (subst (Every is_sp) c.behind_spaces.ensures.split w)).1)
+    (every_split is_sp c.after_spaces.ensures.prefix _
+    (subst (Every is_sp) c.after_spaces.ensures.split w)).1)

@@ -6,7 +6,7 @@ use Rattle.sf_parse.specs.Machine.Fields.{step}
 use Rattle.sf_parse.specs.ItemFieldView.{after_of}
 use Rattle.sf_parse.proofs.Prefixes.{part_above}
 use Rattle.sf_parse.proofs.ByteRuns.{stay_goes}
-use Rattle.sf_parse.proofs.OpenParts.{space_before, space_behind, item_in_field}
+use Rattle.sf_parse.proofs.OpenParts.{space_before, space_after, item_in_field}
 use Rattle.sf_parse.proofs.item_field.ItemFieldReaderLevel.take_part.Goals as goal
 
 pub returns-in-Before-clause-goes : goal.returns-in-Before-clause-goes
@@ -22,7 +22,7 @@ returns-in-Behind-clause-goes c =
     let fits = rw c.in-Behind.is at c.self.invariant in
     rw (← c.self.view_is, c.in-Behind.is)
     (stay_goes (step d) is_sp (after_of c.self.inside.whole) _ _ _
-    (space_behind d c.self.inside.whole fits)
+    (space_after d c.self.inside.whole fits)
     c.short_prefix-in-Behind.ensures.whole c.short_prefix-in-Behind.ensures.every)
 
 pub returns-in-Inside-clause-goes : goal.returns-in-Inside-clause-goes

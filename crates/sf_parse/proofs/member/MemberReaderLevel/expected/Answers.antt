@@ -1,6 +1,6 @@
 use Rattle.std.proofs.Common.{refl, ◌∷◌, [], ◌++◌}
 use Rattle.sf_parse.specs.Machine.Items.{item_step, item_finish}
-use Rattle.sf_parse.specs.Machine.Inners.{InItem, behind_step}
+use Rattle.sf_parse.specs.Machine.Inners.{InItem, after_step}
 use Rattle.sf_parse.specs.Machine.Members.{InOne, InMany}
 use Rattle.sf_parse.proofs.Marks.{marks_map, marks_onward, marks_steps}
 use Rattle.sf_parse.proofs.LevelMarks.{marks_closing, marks_items}
@@ -29,5 +29,5 @@ returns-in-InItem c =
     let is = c.self.inside.items in
     rw (← c.self.view_is, c.in-InItem.is, c.set_if.ensures, c.may_end.ensures)
     (marks_map InMany _ _ (marks_onward (InItem is) _ _ (item_step c.args.dialect item)
-    (item_finish item) (λ i. behind_step (is ++ i ∷ [])) c.expected-in-InItem.ensures
-    (λ i. marks_steps _ (behind_step (is ++ i ∷ [])) refl)))
+    (item_finish item) (λ i. after_step (is ++ i ∷ [])) c.expected-in-InItem.ensures
+    (λ i. marks_steps _ (after_step (is ++ i ∷ [])) refl)))

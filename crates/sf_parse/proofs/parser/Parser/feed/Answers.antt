@@ -1,6 +1,6 @@
 use Rattle.std.proofs.Common.{◌++◌}
 use Rattle.std.proofs.lemmas.Result.{err_from_is_err_and}
-use Rattle.sf_parse.proofs.Feeding.{refused_before, refused_behind, prefix_split, suffix_split}
+use Rattle.sf_parse.proofs.Feeding.{refused_before, refused_after, prefix_split, suffix_split}
 use Rattle.sf_parse.proofs.Feeding.{free_split, free_taken}
 use Rattle.sf_parse.proofs.parser.Parser.feed.Goals as goal
 
@@ -21,14 +21,14 @@ returns-in_err-rest-clause-allocation_free c =
 pub returns-in-Some-split_first-clause-fed : goal.returns-in-Some-split_first-clause-fed
 returns-in-Some-split_first-clause-fed c =
     let fed = c.in_ok-rest.ensures.fed in
-    refused_behind _ _ _ fed.0 _ _ _ _ fed.2 c.refuse.ensures.fed
+    refused_after _ _ _ fed.0 _ _ _ _ fed.2 c.refuse.ensures.fed
     (prefix_split _ _ _ fed.0 _ _ _ c.split_at.ensures.by_index.0 fed.1
     c.in-Some-split_first.ensures.cases.0)
 
 pub returns-in-Some-split_first-2-clause-fed : goal.returns-in-Some-split_first-2-clause-fed
 returns-in-Some-split_first-2-clause-fed c =
     let fed = c.in_ok-rest.ensures.fed in
-    refused_behind _ _ _ fed.0 _ _ _ _ fed.2 c.refuse-in-Some-split_first-2.ensures.fed
+    refused_after _ _ _ fed.0 _ _ _ _ fed.2 c.refuse-in-Some-split_first-2.ensures.fed
     (suffix_split _ _ _ fed.0 _ _ _ c.split_at.ensures.by_index.0 fed.1
     c.in_default-split_first.ensures.cases c.in-Some-split_first-2.ensures.cases.0)
 

@@ -1,6 +1,6 @@
 use Rattle.std.proofs.Common.{ap, sym, ◌∙◌}
 use Rattle.std.proofs.lemmas.Result.{err_from_is_err_and}
-use Rattle.sf_parse.proofs.FedLines.{comma_refused, line_behind, line_first, fed_line}
+use Rattle.sf_parse.proofs.FedLines.{comma_refused, line_after, line_first, fed_line}
 use Rattle.sf_parse.proofs.parser.Parser.feed_line.Goals as goal
 
 pub returns-in_err-feed-clause-fed : goal.returns-in_err-feed-clause-fed
@@ -12,7 +12,7 @@ returns-in_err-feed-clause-fed c =
 pub returns-then-self-clause-fed : goal.returns-then-self-clause-fed
 returns-then-self-clause-fed c =
     let after = sym (ap (λ q. q.after_line) c.self.view_is) ∙ c.if-self.true in
-    line_behind _ c.feed.new.self _ _ _ c.args.line.now after c.in_ok-feed.ensures.fed
+    line_after _ c.feed.new.self _ _ _ c.args.line.now after c.in_ok-feed.ensures.fed
     c.feed-then-self.ensures.fed
 
 pub returns-in_err-feed-2-clause-fed : goal.returns-in_err-feed-2-clause-fed

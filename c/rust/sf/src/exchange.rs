@@ -1,0 +1,618 @@
+//! What a cache decides about a response by its whole head.
+
+use crate::line::is_of;
+#[cfg(feature = "std")]
+use crate::Dialect;
+use crate::{
+    age, field_text, trim, Cache, CacheRules, Cause, Decision, Error, Fallback, FieldDate,
+    FieldLine, Parser, Refusal, Response, Reuse, Seconds,
+};
+use alloc::vec::Vec;
+use core::fmt;
+
+/// What a cache knows of a response beside its head. Times are in seconds since 1970.
+/// [`Exchange::decide`] is one call for all that the cache decides.
+///
+/// ```
+/// use sf::{Cache, Exchange, Reuse};
+/// let targets = ["ExampleCDN-Cache-Control", "CDN-Cache-Control"];
+/// let head = [
+///     ("ExampleCDN-Cache-Control", "max-age=60,"),
+///     ("CDN-Cache-Control", "max-age=600"),
+///     ("Cache-Control", "no-store"),
+///     ("Age", "20"),
+/// ];
+/// let exchange = Exchange::at(Cache::Shared, 784_111_777).with_status(200);
+/// let verdict = exchange.decide(&targets, &head).unwrap();
+/// assert_eq!(verdict.field, "CDN-Cache-Control");
+/// assert_eq!(verdict.decision.reuse, Reuse::Fresh { seconds: 580 });
+/// assert!(verdict.may_store());
+/// assert_eq!(
+///     verdict.malformed[0].to_string(),
+///     "ExampleCDN-Cache-Control: the text ended at place 11, expected a lower-case letter, `*`, a \
+///      tab or a space"
+/// );
+/// ```
+#[derive(Clone, Copy, Debug, PartialEq, Eq, Hash)]
+pub struct Exchange {
+    /// Who uses what the cache stores.
+    pub cache: Cache,
+    /// The status code. `None` if it is not known: it is taken for a final one that is not
+    /// heuristically cacheable.
+    pub status: Option<u16>,
+    /// Whether the cache understands the status code and implements its requirements, which counts
+    /// for 206, 304 and `must-understand` (RFC 9111 sections 3 and 5.2.2.3).
+    pub is_understood: bool,
+    /// Whether the request had `Authorization` (section 3.5).
+    pub is_authorized: bool,
+    /// When the request was sent: `request_time` (section 4.2.3).
+    pub requested: u64,
+    /// When the response was received: `response_time`.
+    pub received: u64,
+    /// When the response would be used.
+    pub now: u64,
+}
+
+impl Exchange {
+    /// A response that is received and used at this time, and the request was sent then. Its status
+    /// code is not known, nor understood, and the request had no `Authorization`.
+    ///
+    /// ```
+    /// use sf::{Cache, Exchange};
+    /// let exchange = Exchange::at(Cache::Shared, 784_111_777);
+    /// assert_eq!((exchange.status, exchange.received), (None, 784_111_777));
+    /// let slow = Exchange { requested: 784_111_775, ..exchange };
+    /// let verdict = slow.decide(&[], [("Age", "20")]).unwrap();
+    /// assert_eq!(verdict.response.age, 22);
+    /// ```
+    #[must_use]
+    pub const fn at(cache: Cache, now: u64) -> Exchange {
+        Exchange {
+            cache,
+            status: None,
+            is_understood: false,
+            is_authorized: false,
+            requested: now,
+            received: now,
+            now,
+        }
+    }
+
+    /// The same by the system's clock.
+    ///
+    /// ```
+    /// use sf::{Cache, Exchange};
+    /// assert!(Exchange::now(Cache::Shared).received > 784_111_777);
+    /// ```
+    #[cfg(feature = "std")]
+    #[must_use]
+    pub fn now(cache: Cache) -> Exchange {
+        let since = std::time::SystemTime::UNIX_EPOCH.elapsed();
+        Exchange::at(cache, since.map_or(0, |passed| passed.as_secs()))
+    }
+
+    /// The same with this status code.
+    ///
+    /// ```
+    /// use sf::{Cache, Exchange};
+    /// assert_eq!(Exchange::at(Cache::Shared, 0).with_status(404).status, Some(404));
+    /// ```
+    #[must_use]
+    pub const fn with_status(self, code: u16) -> Exchange {
+        Exchange {
+            status: Some(code),
+            ..self
+        }
+    }
+
+    /// The same with whether the cache understands the status code.
+    ///
+    /// ```
+    /// use sf::{Cache, Exchange};
+    /// let exchange = Exchange::at(Cache::Shared, 784_111_777).with_status(206);
+    /// let decide = |exchange: Exchange| exchange.decide(&[], [("Cache-Control", "public")]).unwrap();
+    /// assert!(!decide(exchange).may_store() && decide(exchange.with_understood(true)).may_store());
+    /// ```
+    #[must_use]
+    pub const fn with_understood(self, is_understood: bool) -> Exchange {
+        Exchange {
+            is_understood,
+            ..self
+        }
+    }
+
+    /// The same with whether the request had `Authorization`.
+    ///
+    /// ```
+    /// use sf::{Cache, Exchange, Obstacle};
+    /// let exchange = Exchange::at(Cache::Shared, 784_111_777).with_authorization(true);
+    /// let verdict = exchange.decide(&[], [("Cache-Control", "max-age=60")]).unwrap();
+    /// assert_eq!(verdict.obstacle, Some(Obstacle::Authorization));
+    /// ```
+    #[must_use]
+    pub const fn with_authorization(self, is_authorized: bool) -> Exchange {
+        Exchange {
+            is_authorized,
+            ..self
+        }
+    }
+
+    /// Decides what the cache does with the response, by RFC 9651: see [`Exchange::decide_in`].
+    ///
+    /// # Errors
+    ///
+    /// Those of [`Exchange::decide_in`].
+    ///
+    /// ```
+    /// use sf::{Cache, Cause, Exchange};
+    /// let head = [("Cache-Control", "max-age=60"), ("cache-control", "Private")];
+    /// let decide = |cache| Exchange::at(cache, 784_111_777).decide(&[], &head).unwrap();
+    /// let shared = decide(Cache::Shared);
+    /// assert_eq!((shared.may_store(), shared.decision.cause), (false, Some(Cause::Private)));
+    /// let private = decide(Cache::Private);
+    /// assert_eq!((private.may_store(), private.decision.cause), (true, Some(Cause::MaxAge)));
+    /// ```
+    ///
+    /// A `&HeaderMap` of the crate `http` is a head, too:
+    ///
+    /// ```
+    /// # #[cfg(feature = "http")] {
+    /// use sf::{Cache, Exchange};
+    /// let response = http::Response::builder().header("Cache-Control", "max-age=60").body(());
+    /// let response = response.unwrap();
+    /// let exchange = Exchange::now(Cache::Shared).with_status(response.status().as_u16());
+    /// let verdict = exchange.decide(&["CDN-Cache-Control"], response.headers()).unwrap();
+    /// assert_eq!(verdict.to_string(), "Cache-Control: fresh for 60 s (max-age)");
+    /// # }
+    /// ```
+    #[cfg(feature = "std")]
+    pub fn decide<'a, H>(&self, targets: &[&'a str], head: H) -> Result<Verdict<'a>, Error>
+    where
+        H: IntoIterator + Clone,
+        H::Item: FieldLine,
+    {
+        Parser::new().decide(self, targets, head)
+    }
+
+    /// Decides what the cache does with the response, with its targeted fields by a dialect. The
+    /// head is its field lines, each a name and a value, as in a slice of pairs or a `&HeaderMap` of
+    /// the crate `http`; lines of other fields may be among them. The target list has the names of
+    /// the fields, in order (RFC 9213 section 2.2); without one, `Cache-Control` decides.
+    ///
+    /// The first field of the target list that is there, well-formed and not empty is obeyed,
+    /// otherwise `Cache-Control` with `Expires` and `Date`, as a [`Fallback`] reads them. The age of
+    /// the response is the number in `Age` plus the seconds since the request, without the
+    /// `apparent_age` by `Date` (RFC 9111 section 4.2.3).
+    ///
+    /// # Errors
+    ///
+    /// [`Error::OutOfMemory`], and [`Error::TooLong`] if a targeted field is. Malformed fields are no
+    /// error: [`Verdict::malformed`] has them.
+    ///
+    /// ```
+    /// use sf::{Cache, Dialect, Exchange};
+    /// // By RFC 8941, which RFC 9213 cites, `@1` is malformed.
+    /// let head = [("CDN-Cache-Control", "max-age=60, x=@1"), ("Cache-Control", "no-store")];
+    /// let exchange = Exchange::at(Cache::Shared, 784_111_777);
+    /// let field = |dialect| {
+    ///     exchange.decide_in(dialect, &["CDN-Cache-Control"], &head).unwrap().field
+    /// };
+    /// assert_eq!(field(Dialect::Rfc8941), "Cache-Control");
+    /// assert_eq!(field(Dialect::Rfc9651), "CDN-Cache-Control");
+    /// ```
+    #[cfg(feature = "std")]
+    pub fn decide_in<'a, H>(
+        &self,
+        dialect: Dialect,
+        targets: &[&'a str],
+        head: H,
+    ) -> Result<Verdict<'a>, Error>
+    where
+        H: IntoIterator + Clone,
+        H::Item: FieldLine,
+    {
+        Parser::new()
+            .with_dialect(dialect)
+            .decide(self, targets, head)
+    }
+
+    /// The seconds from the request to the use.
+    fn since_request(&self) -> u64 {
+        self.now.saturating_sub(self.requested)
+    }
+
+    /// Whether the status code may be that of a stored response (RFC 9111 section 3).
+    fn is_storable(&self) -> bool {
+        match self.status {
+            None => true,
+            Some(206 | 304) => self.is_understood,
+            Some(code) => code >= 200,
+        }
+    }
+
+    /// Whether the status code is heuristically cacheable (RFC 9110 section 15.1).
+    fn is_heuristically_cacheable(&self) -> bool {
+        const CODES: [u16; 12] = [200, 203, 204, 206, 300, 301, 308, 404, 405, 410, 414, 501];
+        self.status.map_or(false, |code| CODES.contains(&code))
+    }
+
+    /// Why the response may not be stored, by all but the method (RFC 9111 section 3).
+    fn obstacle(&self, decision: &Decision, has_expires: bool) -> Option<Obstacle> {
+        if decision.reuse == Reuse::NotStored {
+            return Some(Obstacle::Directive);
+        }
+        if !self.is_storable() {
+            return Some(Obstacle::Status);
+        }
+        let is_for_one = self.is_authorized && self.cache == Cache::Shared;
+        if is_for_one && !decision.allows_authorized {
+            return Some(Obstacle::Authorization);
+        }
+        let is_permitted =
+            decision.allows_storing || has_expires || self.is_heuristically_cacheable();
+        (!is_permitted).then_some(Obstacle::Unpermitted)
+    }
+}
+
+/// What a cache does with a response, by the whole of its head: see [`Exchange::decide`]. Its
+/// `Display` is the field that decides, and the decision.
+///
+/// ```
+/// use sf::{Cache, Exchange};
+/// let head = [
+///     ("Expires", "Sun, 06 Nov 1994 08:50:37 GMT"),
+///     ("Date", "Sun, 06 Nov 1994 08:49:37 GMT"),
+/// ];
+/// let verdict = Exchange::at(Cache::Shared, 784_111_777).decide(&[], &head).unwrap();
+/// assert_eq!(verdict.to_string(), "Expires: fresh for 60 s (expires)");
+/// assert_eq!(verdict.fresh_for().map(u64::from), Some(60));
+/// ```
+#[derive(Clone, Debug, PartialEq, Eq)]
+#[non_exhaustive]
+pub struct Verdict<'a> {
+    /// Why the response may not be stored; `None` if it may: see [`Verdict::may_store`].
+    pub obstacle: Option<Obstacle>,
+    /// How it may be used, for how long it is fresh, and the directive that is the cause. If the
+    /// response may not be stored, this is what the directives alone say.
+    pub decision: Decision,
+    /// The name of the field that decides: one of the target list, otherwise `Expires` or
+    /// `Cache-Control`; `Cache-Control`, too, if the head has none of them.
+    pub field: &'a str,
+    /// The index of that field in the target list; `None` if none of it decides.
+    pub target: Option<usize>,
+    /// The directives of that field.
+    pub rules: CacheRules,
+    /// What else counted: the age when the response is used, to be sent in `Age` (RFC 9111 section
+    /// 4), and the lifetime by `Expires`.
+    pub response: Response,
+    /// Whether a heuristic lifetime may be used, since no field sets one (section 4.2.2): give it to
+    /// [`CacheRules::decide`] as [`Response::lifetime`].
+    ///
+    /// ```
+    /// use sf::{Cache, Exchange, Response, Reuse};
+    /// let exchange = Exchange::at(Cache::Shared, 784_111_777).with_status(200);
+    /// let verdict = exchange.decide(&[], [("Age", "20")]).unwrap();
+    /// assert!(verdict.allows_heuristic);
+    /// let response = Response { lifetime: Some(60), ..verdict.response };
+    /// let decision = verdict.rules.decide(exchange.cache, response);
+    /// assert_eq!(decision.reuse, Reuse::Fresh { seconds: 40 });
+    /// ```
+    pub allows_heuristic: bool,
+    /// The fields that were read and are malformed: targeted fields, which are ignored;
+    /// `Cache-Control`, which counts as `no-store` then; `Age`, which counts as 0; `Expires`, which
+    /// is in the past then; and `Date`, for which [`Exchange::received`] counts. Those of the target
+    /// list after the one that decides are not read, nor `Cache-Control`, `Expires` and `Date` then.
+    pub malformed: Vec<Malformed<'a>>,
+}
+
+/// Why a response may not be stored (RFC 9111 section 3).
+#[derive(Clone, Copy, Debug, PartialEq, Eq, Hash)]
+#[non_exhaustive]
+pub enum Obstacle {
+    /// The directive forbids it that is the cause of the decision.
+    Directive,
+    /// The status code is not final, or is 206 or 304 and not understood.
+    Status,
+    /// The request had `Authorization`, the cache is shared, and no directive permits it (section
+    /// 3.5).
+    Authorization,
+    /// Nothing permits it: no directive, no `Expires`, and the status code is not heuristically
+    /// cacheable (RFC 9110 section 15.1).
+    Unpermitted,
+}
+
+impl Obstacle {
+    /// The obstacle in words: those of `sf_obstacle_name`.
+    ///
+    /// ```
+    /// assert_eq!(sf::Obstacle::Status.as_str(), "the status code");
+    /// ```
+    #[must_use]
+    pub fn as_str(self) -> &'static str {
+        match self {
+            Obstacle::Directive => "a directive",
+            Obstacle::Status => "the status code",
+            Obstacle::Authorization => "Authorization",
+            Obstacle::Unpermitted => "nothing permits it",
+        }
+    }
+}
+
+impl fmt::Display for Obstacle {
+    fn fmt(&self, f: &mut fmt::Formatter<'_>) -> fmt::Result {
+        f.pad(self.as_str())
+    }
+}
+
+/// A field that is malformed. Its `Display` is one line, such as for a log; [`Refusal::excerpt`] of
+/// the line's value shows the place of a refusal in it.
+///
+/// ```
+/// use sf::{Cache, Exchange, Fault};
+/// let head = [("Server", "x"), ("Cache-Control", "max-age=60"), ("Cache-Control", "a b")];
+/// let verdict = Exchange::at(Cache::Shared, 784_111_777).decide(&[], &head).unwrap();
+/// let malformed = verdict.malformed[0];
+/// assert_eq!((malformed.field, malformed.line), ("Cache-Control", 2));
+/// assert!(matches!(malformed.fault, Fault::Refused(refusal) if refusal.offset == 2));
+/// ```
+#[derive(Clone, Copy, Debug, PartialEq, Eq)]
+pub struct Malformed<'a> {
+    /// The name of the field.
+    pub field: &'a str,
+    /// The index of the line among those of the head, from 0.
+    pub line: usize,
+    /// What is wrong.
+    pub fault: Fault,
+}
+
+/// What is wrong with a field.
+///
+/// ```
+/// assert_eq!(sf::Fault::Repeated.to_string(), "there are several lines");
+/// ```
+#[derive(Clone, Copy, Debug, PartialEq, Eq)]
+#[non_exhaustive]
+pub enum Fault {
+    /// A targeted field that is no Dictionary, or a line of `Cache-Control` that is no list of
+    /// directives. The offset is one in the value of the line.
+    Refused(Refusal),
+    /// The only line of `Expires` or of `Date` is no HTTP-date.
+    NotADate,
+    /// There is one more line of `Expires` or of `Date`.
+    Repeated,
+    /// `Age` does not begin with a number of seconds.
+    NotAnAge,
+}
+
+impl fmt::Display for Fault {
+    fn fmt(&self, f: &mut fmt::Formatter<'_>) -> fmt::Result {
+        match self {
+            Fault::Refused(refusal) => refusal.fmt(f),
+            Fault::NotADate => f.pad("not an HTTP-date"),
+            Fault::Repeated => f.pad("there are several lines"),
+            Fault::NotAnAge => f.pad("not a number of seconds"),
+        }
+    }
+}
+
+impl fmt::Display for Malformed<'_> {
+    fn fmt(&self, f: &mut fmt::Formatter<'_>) -> fmt::Result {
+        write!(f, "{}: {}", self.field, self.fault)
+    }
+}
+
+impl Verdict<'_> {
+    /// Whether the response may be stored (RFC 9111 section 3): by the directives, `Expires`, the
+    /// status code and `Authorization`. Whether the cache understands the method is the caller's to
+    /// know.
+    ///
+    /// ```
+    /// use sf::{Cache, Exchange};
+    /// let may_store = |code, head: &[(&str, &str)]| {
+    ///     let exchange = Exchange::at(Cache::Shared, 784_111_777).with_status(code);
+    ///     exchange.decide(&[], head).unwrap().may_store()
+    /// };
+    /// assert!(may_store(404, &[]) && !may_store(500, &[]));
+    /// assert!(may_store(500, &[("Cache-Control", "max-age=60")]));
+    /// assert!(!may_store(404, &[("Cache-Control", "no-store")]));
+    /// ```
+    #[must_use]
+    pub fn may_store(&self) -> bool {
+        self.obstacle.is_none()
+    }
+
+    /// For how many seconds the response stays fresh, if it is fresh: the `ttl` of a hop (RFC 9211
+    /// section 2.4).
+    ///
+    /// ```
+    /// use sf::{Cache, Exchange};
+    /// let head = [("Cache-Control", "max-age=60"), ("Age", "20")];
+    /// let verdict = Exchange::at(Cache::Shared, 784_111_777).decide(&[], &head).unwrap();
+    /// assert_eq!(verdict.fresh_for().map(u64::from), Some(40));
+    /// ```
+    #[must_use]
+    pub fn fresh_for(&self) -> Option<Seconds> {
+        self.decision.fresh_for()
+    }
+}
+
+impl fmt::Display for Verdict<'_> {
+    fn fmt(&self, f: &mut fmt::Formatter<'_>) -> fmt::Result {
+        write!(f, "{}: {}", self.field, self.decision)
+    }
+}
+
+impl Parser {
+    /// Decides what a cache does with a response, with its targeted fields by the dialect of the
+    /// parser: see [`Exchange::decide_in`].
+    ///
+    /// # Errors
+    ///
+    /// Those of [`Exchange::decide_in`].
+    ///
+    /// ```
+    /// use sf::{Cache, Exchange, Parser};
+    /// let exchange = Exchange::at(Cache::Shared, 784_111_777);
+    /// let head = [("CDN-Cache-Control", "max-age=60")];
+    /// let verdict = Parser::new().decide(&exchange, &["CDN-Cache-Control"], &head).unwrap();
+    /// assert_eq!(verdict.target, Some(0));
+    /// ```
+    pub fn decide<'a, H>(
+        &self,
+        exchange: &Exchange,
+        targets: &[&'a str],
+        head: H,
+    ) -> Result<Verdict<'a>, Error>
+    where
+        H: IntoIterator + Clone,
+        H::Item: FieldLine,
+    {
+        let mut malformed = Vec::new();
+        let age = age_of(head.clone(), &mut malformed)?;
+        let mut response = Response {
+            age: age.saturating_add(exchange.since_request()),
+            lifetime: None,
+            is_understood: exchange.is_understood,
+        };
+        let obeyed = self.obeyed(targets, &head, &mut malformed)?;
+        let rules = if let Some((_, rules)) = obeyed {
+            rules
+        } else {
+            let fallback = Fallback::read(head, &mut malformed)?;
+            response.lifetime = fallback.lifetime(exchange.received);
+            fallback.rules()
+        };
+        let decision = rules.decide(exchange.cache, response);
+        let field = match (obeyed, decision.cause) {
+            (Some((index, _)), _) => targets[index],
+            (None, Some(Cause::Expires)) => "Expires",
+            (None, _) => "Cache-Control",
+        };
+        Ok(Verdict {
+            obstacle: exchange.obstacle(&decision, response.lifetime.is_some()),
+            decision,
+            field,
+            target: obeyed.map(|(index, _)| index),
+            rules,
+            response,
+            allows_heuristic: decision.reuse == Reuse::Unspecified
+                && (rules.is_public || exchange.is_heuristically_cacheable()),
+            malformed,
+        })
+    }
+
+    /// The first field of a target list that is not ignored: its index, and its directives.
+    fn obeyed<'a, H>(
+        &self,
+        targets: &[&'a str],
+        head: &H,
+        malformed: &mut Vec<Malformed<'a>>,
+    ) -> Result<Option<(usize, CacheRules)>, Error>
+    where
+        H: IntoIterator + Clone,
+        H::Item: FieldLine,
+    {
+        for (index, &name) in targets.iter().enumerate() {
+            let text = field_text(head.clone(), name)?;
+            match self.cache_rules(text) {
+                Ok(None) => {}
+                Ok(Some(rules)) => return Ok(Some((index, rules))),
+                Err(Error::Refused(refusal)) => {
+                    note(malformed, place_of(head.clone(), name, refusal))?;
+                }
+                Err(error) => return Err(error),
+            }
+        }
+        Ok(None)
+    }
+}
+
+impl Fallback {
+    /// Reads the lines of a head that count.
+    fn read<H>(head: H, malformed: &mut Vec<Malformed<'_>>) -> Result<Fallback, Error>
+    where
+        H: IntoIterator,
+        H::Item: FieldLine,
+    {
+        let mut fallback = Fallback::new();
+        for (line, of_head) in head.into_iter().enumerate() {
+            let value = of_head.value();
+            let (field, fault) = if is_of(&of_head, "Cache-Control") {
+                let was_refused = fallback.is_refused();
+                fallback.add_cache_control(value);
+                let refused = fallback.refusal().filter(|_| !was_refused);
+                let fault = refused.map(|refused| Fault::Refused(refused.refusal));
+                ("Cache-Control", fault)
+            } else if is_of(&of_head, "Expires") {
+                fallback.add_expires(value);
+                ("Expires", fault_of(fallback.expires()))
+            } else if is_of(&of_head, "Date") {
+                fallback.add_date(value);
+                ("Date", fault_of(fallback.date()))
+            } else {
+                continue;
+            };
+            if let Some(fault) = fault {
+                note(malformed, Malformed { field, line, fault })?;
+            }
+        }
+        Ok(fallback)
+    }
+}
+
+/// What is wrong with a field of one date after its last line.
+fn fault_of(date: FieldDate) -> Option<Fault> {
+    match date {
+        FieldDate::Absent | FieldDate::At(_) => None,
+        FieldDate::Malformed => Some(Fault::NotADate),
+        FieldDate::Repeated => Some(Fault::Repeated),
+    }
+}
+
+/// The number in `Age`, 0 without one that counts.
+fn age_of<H>(head: H, malformed: &mut Vec<Malformed<'_>>) -> Result<u64, Error>
+where
+    H: IntoIterator,
+    H::Item: FieldLine,
+{
+    let mut lines = head.into_iter().enumerate();
+    let first = lines.find(|(_, line)| is_of(line, "Age"));
+    let (line, read) = match first {
+        None => return Ok(0),
+        Some((line, first)) => (line, age(first.value())),
+    };
+    if read.is_none() {
+        let (field, fault) = ("Age", Fault::NotAnAge);
+        note(malformed, Malformed { field, line, fault })?;
+    }
+    Ok(read.unwrap_or(0))
+}
+
+/// The line of the head that a refusal of a field's text is in, with its place in that line.
+fn place_of<H>(head: H, field: &str, refusal: Refusal) -> Malformed<'_>
+where
+    H: IntoIterator + Clone,
+    H::Item: FieldLine,
+{
+    let lengths = head.clone().into_iter().filter(|line| is_of(line, field));
+    let place = refusal.place_in(lengths.map(|line| trim(line.value()).len()));
+    let lines = head.into_iter().enumerate();
+    let mut of_field = lines.filter(|(_, line)| is_of(line, field));
+    let (line, before) = match of_field.nth(place.line) {
+        None => (0, 0), // a field without a line is not refused
+        Some((line, of_head)) => (line, spaces_before(of_head.value())),
+    };
+    let offset = (before + place.offset) as u64;
+    let fault = Fault::Refused(Refusal { offset, ..refusal });
+    Malformed { field, line, fault }
+}
+
+/// The number of spaces and tabs at the beginning of a value.
+fn spaces_before(value: &[u8]) -> usize {
+    let spaces = value.iter().take_while(|byte| matches!(byte, b' ' | b'\t'));
+    spaces.count()
+}
+
+fn note<'a>(malformed: &mut Vec<Malformed<'a>>, one: Malformed<'a>) -> Result<(), Error> {
+    crate::buffer::append(malformed, &[one])
+}

@@ -1,0 +1,14 @@
+use Rattle.std.proofs.Common.{refl, subst}
+use Rattle.sf_value.specs.declared.value.Field.TheVariants as field
+use Rattle.sf_use.specs.TargetedRules.{MayOfferRules}
+use Rattle.sf_c.proofs.ScannedTexts.{gives_rules}
+use Rattle.sf_c.proofs.cache_rules.offered.Goals as goal
+
+pub returns-in-Some : goal.returns-in-Some
+returns-in-Some c = λ d may.
+    gives_rules c.args.rules.now _ d _ (subst (MayOfferRules (field.Dict d)) c.in-Some.is may)
+    c.of.ensures
+
+pub returns-in-None : goal.returns-in-None
+returns-in-None c = λ d may.
+    (subst (MayOfferRules (field.Dict d)) c.in-None.is may d refl, refl)

@@ -1,0 +1,233 @@
+//! A Priority field with another priority, written member by member from its nodes. It does not
+//! allocate.
+ghost use Rattle.std.specs.Prelude.{◌≡◌, ℕ, List, [], true, Ok, codes};
+ghost use Rattle.std.specs.Str.{bytes_eq};
+ghost use Rattle.sf_value.specs.declared.dialect.Dialect.TheVariants.{Rfc9651};
+ghost use Rattle.sf_value.specs.declared.value.Member.{Member};
+ghost use Rattle.sf_value.specs.Grammar.Canonical.{canon_entry};
+ghost use Rattle.sf_value.specs.Grammar.Pairs.{Pairs};
+ghost use Rattle.sf_write.specs.Writing.{Follows};
+ghost use Rattle.sf_view.specs.View.{DescribesEntries, DescribesMember};
+ghost use Rattle.sf_c.specs.PriorityParts.{SpellsChange, changed, incremental_member, inserted};
+ghost use Rattle.sf_c.specs.PriorityParts.{separator, series_text, set_i, set_u, urgency_member};
+ghost use Rattle.sf_c.specs.PriorityParts.{unless, with_i};
+
+use crate::filling::Parts;
+use crate::priority_text::digit;
+use sf_use::{Asked, Urgency};
+use sf_value::{Kind, Sink};
+use sf_view::{View, put_view};
+use sf_write::{Sent, put};
+
+/// The nodes of a Priority field, and what is put into it.
+#[derive(Clone, Copy)]
+pub(crate) struct ChangedPriority<'a> {
+    /// The field.
+    pub(crate) view: View<'a>,
+    /// What is put into it.
+    pub(crate) asked: Asked,
+    /// The length of the text that the nodes are of.
+    pub(crate) text_length: usize,
+}
+
+impl<'a> Parts for ChangedPriority<'a> {
+    ghost spells = { SpellsChange };
+
+    /// Whether eight fifths of the length of the field, which canonical text has at most, and the
+    /// 11 bytes of `u` and `i` are short.
+    fn is_short(&self) -> bool {
+        self.text_length <= 112
+    }
+
+    fn put<W: Sink>(&self, out: &mut W) -> Sent {
+        put_members(self.view, &self.asked, out)
+    }
+}
+
+/// Writes the members, with what is set in the place of those with its keys, or last.
+fn put_members<W: Sink>(view: View, asked: &Asked, out: &mut W) -> Sent
+    ensures { (ps : Pairs Member) → DescribesEntries Rfc9651 view.entry.text.now view.entry.nodes.now ps
+        → Follows W.state W.send_gives out.old out.new (Ok 0) result
+        (series_text true (inserted asked.now.urgency asked.now.incremental ps)) }
+{
+    let mut sent = Ok(0);
+    let mut first = true;
+    let mut has_urgency = false;
+    let mut has_incremental = false;
+    let mut rest = view;
+    loop {
+        let Some((member, others)) = rest.split_first() else {
+            let last_urgency = urgency_left(has_urgency, asked);
+            let last_incremental = incremental_left(has_incremental, asked);
+            return put_new(last_urgency, last_incremental, first, sent, out);
+        };
+        let new_urgency = urgency_left(has_urgency, asked);
+        let new_incremental = incremental_left(has_incremental, asked);
+        sent = put_separator(first, sent, out);
+        sent = put_member(member, new_urgency, new_incremental, sent, out);
+        let key = member.key();
+        let is_urgency = is_named(b"u", key);
+        let is_incremental = is_named(b"i", key);
+        has_urgency = is_urgency | has_urgency;
+        has_incremental = is_incremental | has_incremental;
+        first = false;
+        rest = others;
+    }
+}
+
+/// The urgency that is set, unless a member took it.
+fn urgency_left(is_taken: bool, asked: &Asked) -> Option<Urgency>
+    ensures { result ≡ unless is_taken asked.now.urgency }
+{
+    if is_taken {
+        return None;
+    }
+    asked.urgency
+}
+
+/// The flag that is set, unless a member took it.
+fn incremental_left(is_taken: bool, asked: &Asked) -> Option<bool>
+    ensures { result ≡ unless is_taken asked.now.incremental }
+{
+    if is_taken {
+        return None;
+    }
+    asked.incremental
+}
+
+/// Whether a key has this name.
+fn is_named(name: &[u8], key: &[u8]) -> bool
+    ensures { result ≡ bytes_eq name.now key.now }
+{
+    name == key
+}
+
+/// Writes what is between two members.
+#[inline]
+fn put_separator<W: Sink>(first: bool, before: Sent, out: &mut W) -> Sent
+    ensures { Follows W.state W.send_gives out.old out.new before result (separator first) }
+{
+    if first {
+        return before;
+    }
+    put(b", ", before, out)
+}
+
+/// Writes a member, or what is set at its key.
+fn put_member<W: Sink>(
+    member: View,
+    urgency: Option<Urgency>,
+    incremental: Option<bool>,
+    before: Sent,
+    out: &mut W,
+) -> Sent
+    ensures { (k : List ℕ) (m : Member)
+        → DescribesMember Rfc9651 member.entry.text.now k member.entry.nodes.now m
+        → Follows W.state W.send_gives out.old out.new before result
+        (canon_entry (changed urgency incremental (k, m))) }
+{
+    let key = member.key();
+    if is_named(b"u", key) {
+        return put_at_u(member, urgency, before, out);
+    }
+    if is_named(b"i", key) {
+        return put_at_i(member, incremental, before, out);
+    }
+    put_entry(member, before, out)
+}
+
+/// Writes the member `u`, or the urgency that is set.
+fn put_at_u<W: Sink>(member: View, urgency: Option<Urgency>, before: Sent, out: &mut W) -> Sent
+    ensures { (k : List ℕ) (m : Member)
+        → DescribesMember Rfc9651 member.entry.text.now k member.entry.nodes.now m
+        → bytes_eq (codes "u") k ≡ true
+        → Follows W.state W.send_gives out.old out.new before result
+        (canon_entry (set_u urgency (k, m))) }
+{
+    match urgency {
+        Some(urgency) => return put_urgency(urgency, before, out),
+        None => return put_entry(member, before, out),
+    }
+}
+
+/// Writes the member `i`, or the flag that is set.
+fn put_at_i<W: Sink>(member: View, incremental: Option<bool>, before: Sent, out: &mut W) -> Sent
+    ensures { (k : List ℕ) (m : Member)
+        → DescribesMember Rfc9651 member.entry.text.now k member.entry.nodes.now m
+        → bytes_eq (codes "i") k ≡ true
+        → Follows W.state W.send_gives out.old out.new before result
+        (canon_entry (set_i incremental (k, m))) }
+{
+    match incremental {
+        Some(incremental) => return put_incremental(incremental, before, out),
+        None => return put_entry(member, before, out),
+    }
+}
+
+/// Writes a member as it is.
+fn put_entry<W: Sink>(member: View, before: Sent, out: &mut W) -> Sent
+    ensures { (k : List ℕ) (m : Member)
+        → DescribesMember Rfc9651 member.entry.text.now k member.entry.nodes.now m
+        → Follows W.state W.send_gives out.old out.new before result (canon_entry (k, m)) }
+{
+    put_view(&member, Kind::Dict, before, out)
+}
+
+/// Writes the member `u`.
+fn put_urgency<W: Sink>(urgency: Urgency, before: Sent, out: &mut W) -> Sent
+    ensures { Follows W.state W.send_gives out.old out.new before result
+        (canon_entry (codes "u", urgency_member urgency)) }
+{
+    put(&[b'u', b'=', digit(urgency)], before, out)
+}
+
+/// Writes the member `i`.
+fn put_incremental<W: Sink>(incremental: bool, before: Sent, out: &mut W) -> Sent
+    ensures { Follows W.state W.send_gives out.old out.new before result
+        (canon_entry (codes "i", incremental_member incremental)) }
+{
+    if incremental {
+        return put(b"i", before, out);
+    }
+    put(b"i=?0", before, out)
+}
+
+/// Writes the members that no member had the keys of.
+fn put_new<W: Sink>(
+    urgency: Option<Urgency>,
+    incremental: Option<bool>,
+    first: bool,
+    before: Sent,
+    out: &mut W,
+) -> Sent
+    ensures { Follows W.state W.send_gives out.old out.new before result
+        (series_text first (inserted urgency incremental [])) }
+{
+    match urgency {
+        Some(urgency) => {
+            let sent = put_separator(first, before, out);
+            let sent = put_urgency(urgency, sent, out);
+            return put_new_incremental(incremental, false, sent, out);
+        }
+        None => return put_new_incremental(incremental, first, before, out),
+    }
+}
+
+/// The same of `i` alone.
+fn put_new_incremental<W: Sink>(
+    incremental: Option<bool>,
+    first: bool,
+    before: Sent,
+    out: &mut W,
+) -> Sent
+    ensures { Follows W.state W.send_gives out.old out.new before result
+        (series_text first (with_i incremental [])) }
+{
+    match incremental {
+        Some(incremental) => {
+            let sent = put_separator(first, before, out);
+            return put_incremental(incremental, sent, out);
+        }
+        None => return before,
+    }
+}

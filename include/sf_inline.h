@@ -1,0 +1,1189 @@
+/* The bodies of the inline functions, a part of sf.h, which declares and documents them. */
+
+#ifndef SF_INLINE_H
+#define SF_INLINE_H
+
+#ifndef SF_H
+#error "include <sf.h>, of which this is a part"
+#endif
+
+static inline const char *sf_status_name(uint32_t status) {
+  switch (status) {
+  case SF_OK:
+    return "SF_OK";
+  case SF_REFUSED:
+    return "SF_REFUSED";
+  case SF_SECOND_REFUSED:
+    return "SF_SECOND_REFUSED";
+  case SF_SHORT:
+    return "SF_SHORT";
+  case SF_NO_MEMORY:
+    return "SF_NO_MEMORY";
+  case SF_EMPTY:
+    return "SF_EMPTY";
+  case SF_BAD_CALL:
+    return "SF_BAD_CALL";
+  case SF_NOT_A_CACHE:
+    return "SF_NOT_A_CACHE";
+  case SF_INVALID:
+    return "SF_INVALID";
+  case SF_ABSENT:
+    return "SF_ABSENT";
+  case SF_TOO_LONG:
+    return "SF_TOO_LONG";
+  case SF_TOO_MANY:
+    return "SF_TOO_MANY";
+  default:
+    return "SF_?";
+  }
+}
+
+static inline const char *sf_kind_name(uint32_t kind) {
+  switch (kind) {
+  case SF_ITEM:
+    return "Item";
+  case SF_LIST:
+    return "List";
+  case SF_DICT:
+    return "Dictionary";
+  default:
+    return "?";
+  }
+}
+
+static inline uint32_t sf_kind_of(const char *word) {
+  return strcmp(word, "item") == 0   ? (uint32_t)SF_ITEM
+         : strcmp(word, "list") == 0 ? (uint32_t)SF_LIST
+         : strcmp(word, "dict") == 0 ? (uint32_t)SF_DICT
+                                     : 0;
+}
+
+static inline sf_text sf_trim(const void *text, size_t length) {
+  sf_text rest;
+  rest.at = (const char *)text;
+  rest.length = length;
+  while (rest.length > 0 && (rest.at[0] == ' ' || rest.at[0] == '\t')) {
+    ++rest.at;
+    --rest.length;
+  }
+  while (rest.length > 0 &&
+         (rest.at[rest.length - 1] == ' ' || rest.at[rest.length - 1] == '\t'))
+    --rest.length;
+  return rest;
+}
+
+static inline const char *sf_role_name(uint32_t role) {
+  switch (role) {
+  case SF_MEMBER:
+    return "member";
+  case SF_INNER_ITEM:
+    return "Item of an Inner List";
+  case SF_PARAMETER:
+    return "parameter";
+  case SF_INNER_PARAMETER:
+    return "parameter of an Inner List";
+  default:
+    return "?";
+  }
+}
+
+static inline const char *sf_type_name(uint32_t type) {
+  switch (type) {
+  case SF_INNER_LIST:
+    return "Inner List";
+  case SF_INTEGER:
+    return "Integer";
+  case SF_DECIMAL:
+    return "Decimal";
+  case SF_STRING:
+    return "String";
+  case SF_TOKEN:
+    return "Token";
+  case SF_BYTE_SEQUENCE:
+    return "Byte Sequence";
+  case SF_BOOLEAN:
+    return "Boolean";
+  case SF_DATE:
+    return "Date";
+  case SF_DISPLAY_STRING:
+    return "Display String";
+  default:
+    return "?";
+  }
+}
+
+static inline const char *sf_reuse_name(uint32_t reuse) {
+  switch (reuse) {
+  case SF_REUSE_NOT_STORED:
+    return "not stored";
+  case SF_REUSE_FRESH:
+    return "fresh";
+  case SF_REUSE_STALE:
+    return "stale";
+  case SF_REUSE_REVALIDATE:
+    return "revalidate";
+  case SF_REUSE_UNSPECIFIED:
+    return "unspecified";
+  default:
+    return "?";
+  }
+}
+
+static inline const char *sf_cause_name(uint32_t cause) {
+  switch (cause) {
+  case SF_BY_NO_STORE:
+    return "no-store";
+  case SF_BY_PRIVATE:
+    return "private";
+  case SF_BY_MUST_UNDERSTAND:
+    return "must-understand";
+  case SF_BY_NO_CACHE:
+    return "no-cache";
+  case SF_BY_MAX_AGE:
+    return "max-age";
+  case SF_BY_S_MAXAGE:
+    return "s-maxage";
+  case SF_BY_INVALID_MAX_AGE:
+    return "invalid max-age";
+  case SF_BY_INVALID_S_MAXAGE:
+    return "invalid s-maxage";
+  case SF_BY_EXPIRES:
+    return "expires";
+  case SF_BY_MUST_REVALIDATE:
+    return "must-revalidate";
+  case SF_BY_PROXY_REVALIDATE:
+    return "proxy-revalidate";
+  default:
+    return "";
+  }
+}
+
+static inline const char *sf_outcome_name(uint32_t outcome) {
+  switch (outcome) {
+  case SF_UNSAID:
+    return "unsaid";
+  case SF_HIT:
+    return "hit";
+  case SF_FORWARDED:
+    return "forwarded";
+  case SF_CONFLICT:
+    return "hit and forwarded";
+  default:
+    return "?";
+  }
+}
+
+static inline const char *sf_forward_name(uint32_t why) {
+  switch (why) {
+  case SF_BYPASS:
+    return "bypass";
+  case SF_METHOD:
+    return "method";
+  case SF_URI_MISS:
+    return "uri-miss";
+  case SF_VARY_MISS:
+    return "vary-miss";
+  case SF_MISS:
+    return "miss";
+  case SF_REQUEST:
+    return "request";
+  case SF_STALE:
+    return "stale";
+  case SF_PARTIAL:
+    return "partial";
+  default:
+    return "";
+  }
+}
+
+static inline sf_text sf_text_of(const void *at, size_t length) {
+  sf_text text;
+  text.at = (const char *)at;
+  text.length = length;
+  return text;
+}
+
+static inline sf_text sf_cstr(const char *string) {
+  return sf_text_of(string, string == NULL ? 0 : strlen(string));
+}
+
+static inline sf_context sf_context_of(sf_seed seed, sf_dialect dialect) {
+  sf_context context;
+  memset(&context, 0, sizeof context);
+  context.seed = seed;
+  context.dialect = (uint32_t)dialect;
+  return context;
+}
+
+static inline sf_buffer sf_buffer_of(void *at, size_t capacity) {
+  sf_buffer buffer;
+  buffer.at = (char *)at;
+  buffer.capacity = capacity;
+  buffer.length = 0;
+  buffer.required = 0;
+  return buffer;
+}
+
+static inline sf_nodes sf_nodes_of(sf_node *at, size_t capacity) {
+  sf_nodes nodes;
+  nodes.at = at;
+  nodes.capacity = capacity;
+  nodes.length = 0;
+  nodes.required = 0;
+  return nodes;
+}
+
+static inline sf_hops sf_hops_of(sf_hop *at, size_t capacity) {
+  sf_hops hops;
+  hops.at = at;
+  hops.capacity = capacity;
+  hops.length = 0;
+  hops.required = 0;
+  return hops;
+}
+
+static inline sf_text sf_written(const sf_buffer *buffer) {
+  return sf_text_of(buffer->at, buffer->length);
+}
+
+/* Sets what the struct of a buffer says after a call with this status: for the functions below. */
+static inline sf_status sf_wrote(sf_buffer *buffer, uint32_t status, size_t required) {
+  buffer->length = status == SF_OK ? required : 0;
+  buffer->required = status == SF_SHORT ? required : 0;
+  return (sf_status)status;
+}
+
+static inline sf_lines sf_lines_in(sf_buffer buffer) {
+  sf_lines lines;
+  lines.buffer = buffer;
+  lines.buffer.length = 0;
+  lines.begun = 0;
+  return lines;
+}
+
+static inline sf_status sf_add_line(sf_lines *lines, sf_text line) {
+  uint32_t status;
+  sf_joined joined;
+  joined.length = lines->buffer.length;
+  joined.required = 0;
+  joined.begun = lines->begun;
+  status = sf_join(line.at, line.length, lines->buffer.at, lines->buffer.capacity, &joined);
+  lines->buffer.length = joined.length;
+  lines->buffer.required = joined.required;
+  lines->begun = joined.begun;
+  return (sf_status)status;
+}
+
+static inline sf_text sf_joined_text(const sf_lines *lines) {
+  return sf_text_of(lines->buffer.at, lines->buffer.length);
+}
+
+static inline sf_status sf_check_text(sf_context *context, sf_kind kind, sf_text text) {
+  uint32_t status = sf_check(&context->seed, context->dialect, (uint32_t)kind, text.at, text.length,
+                             &context->refusal);
+  return (sf_status)status;
+}
+
+static inline sf_status sf_write_refusal(const sf_refusal *refusal, sf_buffer *out) {
+  size_t required = 0;
+  uint32_t status = sf_refusal_text(refusal, out->at, out->capacity, &required);
+  return sf_wrote(out, status, required);
+}
+
+static inline sf_status sf_show_refusal(const sf_refusal *refusal, sf_text text, sf_buffer *out) {
+  size_t required = 0;
+  uint32_t status =
+      sf_refusal_in_text(refusal, text.at, text.length, out->at, out->capacity, &required);
+  return sf_wrote(out, status, required);
+}
+
+/* Writes the error message of a refusal of this text, then these bytes, then the lines of
+ * sf_show_excerpt: for the functions below. */
+SF_USE_RESULT
+static inline sf_status sf_show_excerpt_below(const sf_refusal *refusal, sf_text head, sf_text text,
+                                             size_t most, sf_buffer *out) {
+  size_t at = refusal->offset < text.length ? (size_t)refusal->offset : text.length;
+  size_t from = at > most / 2 ? at - most / 2 : 0, length, message = 0, required, i;
+  uint32_t status;
+  char *to;
+  if (text.length - from < most)
+    from = text.length > most ? text.length - most : 0;
+  length = text.length - from < most ? text.length - from : most;
+  status = sf_refusal_text(refusal, NULL, 0, &message);
+  if (status != SF_SHORT)
+    return sf_wrote(out, status, 0);
+  required = message + head.length + length + (at - from) + 3;
+  if (required > out->capacity)
+    return sf_wrote(out, SF_SHORT, required);
+  status = sf_refusal_text(refusal, out->at, out->capacity, &message);
+  if (status != SF_OK)
+    return sf_wrote(out, status, 0);
+  to = out->at + message;
+  memcpy(to, head.at, head.length);
+  to += head.length;
+  *to++ = '\n';
+  for (i = 0; i < length; ++i) {
+    char byte = text.at[from + i];
+    *to++ = byte >= ' ' && byte <= '~' ? byte : '?';
+  }
+  *to++ = '\n';
+  memset(to, ' ', at - from);
+  to[at - from] = '^';
+  return sf_wrote(out, SF_OK, required);
+}
+
+static inline sf_status sf_show_excerpt(const sf_refusal *refusal, sf_text text, size_t most,
+                                       sf_buffer *out) {
+  return sf_show_excerpt_below(refusal, sf_text_of("", 0), text, most, out);
+}
+
+/* Writes these bytes and a number, and returns the place after them: for the function below. */
+static inline char *sf_put_number(char *to, const char *before, uint64_t number) {
+  size_t length = strlen(before);
+  uint64_t unit = 1;
+  memcpy(to, before, length);
+  to += length;
+  while (number / unit >= 10)
+    unit *= 10;
+  for (; unit > 0; unit /= 10)
+    *to++ = (char)('0' + number / unit % 10);
+  return to;
+}
+
+/* Moves a location to the next line of a field, with this offset from its beginning, and returns
+ * whether the offset is in it: for the functions below. */
+static inline int sf_locate_in_line(sf_location *location, uint64_t *offset, sf_text line,
+                                    size_t index, uint64_t number) {
+  location->index = index;
+  location->number = number;
+  location->line = line;
+  location->refusal.offset = *offset < line.length ? *offset : line.length;
+  if (*offset < line.length + 2)
+    return 1;
+  *offset -= line.length + 2;
+  return 0;
+}
+
+static inline sf_location sf_locate_in_lines(const sf_refusal *refusal, const sf_text *lines,
+                                             size_t lines_length) {
+  sf_location location;
+  uint64_t offset = refusal->offset;
+  size_t i;
+  location.refusal = *refusal;
+  (void)sf_locate_in_line(&location, &offset, sf_text_of("", 0), 0, 1);
+  offset = refusal->offset;
+  for (i = 0; i < lines_length; ++i)
+    if (sf_locate_in_line(&location, &offset, lines[i], i, (uint64_t)i + 1))
+      break;
+  return location;
+}
+
+static inline sf_status sf_show_excerpt_of_line(const sf_location *location, size_t most,
+                                               sf_buffer *out) {
+  char head[64], *end;
+  end = sf_put_number(head, "\nline ", location->number);
+  end = sf_put_number(end, ", place ", location->refusal.offset);
+  *end++ = ':';
+  return sf_show_excerpt_below(&location->refusal, sf_text_of(head, (size_t)(end - head)),
+                               location->line, most, out);
+}
+
+static inline sf_status sf_write_canonical(sf_context *context, sf_kind kind, sf_text text,
+                                          sf_buffer *out) {
+  size_t required = 0;
+  uint32_t status = sf_normalise(&context->seed, context->dialect, (uint32_t)kind, text.at,
+                                 text.length, out->at, out->capacity, &required, &context->refusal);
+  return sf_wrote(out, status, required);
+}
+
+static inline sf_status sf_equal_texts(sf_context *context, sf_kind kind, sf_text first,
+                                      sf_text second, uint32_t *are_equal) {
+  uint32_t equal = 0;
+  uint32_t status = sf_equal(&context->seed, context->dialect, (uint32_t)kind, first.at,
+                             first.length, second.at, second.length, &equal, &context->refusal);
+  *are_equal = equal;
+  return (sf_status)status;
+}
+
+static inline sf_tree sf_tree_in(sf_nodes nodes, sf_buffer bytes) {
+  sf_tree tree;
+  tree.text = sf_text_of(NULL, 0);
+  tree.nodes = nodes;
+  tree.nodes.length = 0;
+  tree.bytes = bytes;
+  tree.bytes.length = 0;
+  tree.kind = 0;
+  return tree;
+}
+
+static inline sf_status sf_read_tree(sf_context *context, sf_kind kind, sf_text text,
+                                    sf_tree *tree) {
+  sf_sizes sizes = {0, 0};
+  uint32_t status = sf_parse(&context->seed, context->dialect, (uint32_t)kind, text.at,
+                             text.length, tree->nodes.at, tree->nodes.capacity, tree->bytes.at,
+                             tree->bytes.capacity, &sizes, &context->refusal);
+  int is_read = status == SF_OK;
+  tree->text = is_read ? text : sf_text_of(NULL, 0);
+  tree->kind = is_read ? (uint32_t)kind : 0;
+  tree->nodes.length = is_read ? sizes.nodes : 0;
+  tree->nodes.required = is_read ? 0 : sizes.nodes;
+  tree->bytes.length = is_read ? sizes.bytes : 0;
+  tree->bytes.required = is_read ? 0 : sizes.bytes;
+  return (sf_status)status;
+}
+
+static inline const sf_node *sf_tree_end(const sf_tree *tree) {
+  return tree->nodes.length == 0 ? tree->nodes.at : tree->nodes.at + tree->nodes.length;
+}
+
+/* Returns the text at an offset of a node: for the functions below. */
+static inline sf_text sf_text_at(const sf_tree *tree, uint32_t at, uint32_t length) {
+  if (length == 0)
+    return sf_text_of("", 0);
+  return sf_text_of(at < tree->text.length ? tree->text.at + at
+                                           : tree->bytes.at + (at - tree->text.length),
+                    length);
+}
+
+static inline sf_text sf_node_key(const sf_tree *tree, const sf_node *node) {
+  return sf_text_at(tree, node->key_at, node->key_length);
+}
+
+static inline sf_text sf_node_text(const sf_tree *tree, const sf_node *node) {
+  return sf_text_at(tree, node->text_at, node->text_length);
+}
+
+/* Returns the first of so many nodes from an index on that has this role and this key, or NULL: for
+ * the functions below. */
+static inline sf_node *sf_find_node(const sf_tree *tree, size_t from, size_t length, sf_role role,
+                                    sf_text key) {
+  size_t index = 0;
+  if (length == 0 || sf_find(tree->nodes.at + from, length, tree->text.at, tree->text.length,
+                             tree->bytes.at, tree->bytes.length, (uint32_t)role, key.at, key.length,
+                             &index) != SF_OK)
+    return NULL;
+  return tree->nodes.at + from + index;
+}
+
+static inline sf_node *sf_find_member(const sf_tree *tree, const char *key) {
+  return sf_find_node(tree, 0, tree->nodes.length, SF_MEMBER, sf_cstr(key));
+}
+
+static inline sf_node *sf_find_parameter(const sf_tree *tree, const sf_node *node,
+                                         const char *key) {
+  return sf_find_node(tree, (size_t)(node - tree->nodes.at), node->size,
+                      node->type == SF_INNER_LIST ? SF_INNER_PARAMETER : SF_PARAMETER,
+                      sf_cstr(key));
+}
+
+static inline void sf_set_number(sf_node *node, sf_type type, int64_t number) {
+  node->number = number;
+  node->text_length = 0;
+  node->type = (uint8_t)type;
+  node->coded = 0;
+}
+
+static inline sf_status sf_set_text(sf_tree *tree, sf_node *node, sf_type type, sf_text value) {
+  size_t at = tree->bytes.length;
+  tree->bytes.required = 0;
+  if (at > tree->bytes.capacity || value.length > tree->bytes.capacity - at) {
+    tree->bytes.required = at + value.length;
+    return SF_SHORT;
+  }
+  if (tree->text.length > UINT32_MAX || at > UINT32_MAX - tree->text.length ||
+      value.length > UINT32_MAX)
+    return SF_TOO_LONG;
+  if (value.length > 0)
+    memcpy(tree->bytes.at + at, value.at, value.length);
+  node->number = 0;
+  node->text_at = (uint32_t)(tree->text.length + at);
+  node->text_length = (uint32_t)value.length;
+  node->type = (uint8_t)type;
+  node->coded = 0;
+  tree->bytes.length = at + value.length;
+  return SF_OK;
+}
+
+static inline sf_status sf_write_tree(sf_context *context, const sf_tree *tree, sf_buffer *out) {
+  size_t required = 0;
+  uint32_t status =
+      sf_write(&context->seed, context->dialect, tree->kind, tree->nodes.at, tree->nodes.length,
+               tree->text.at, tree->text.length, tree->bytes.at, tree->bytes.length, out->at,
+               out->capacity, &required, &context->invalid);
+  return sf_wrote(out, status, required);
+}
+
+static inline sf_builder sf_build(sf_nodes nodes, sf_buffer bytes) {
+  sf_builder builder;
+  builder.nodes = nodes;
+  builder.nodes.length = 0;
+  builder.bytes = bytes;
+  builder.bytes.length = 0;
+  builder.last = 0;
+  builder.inner_list = 0;
+  builder.is_open = 0;
+  builder.status = SF_OK;
+  return builder;
+}
+
+/* Puts one node: for the functions below. */
+static inline void sf_put_node(sf_builder *builder, sf_role role, sf_type type, int64_t number,
+                               sf_text key, sf_text text) {
+  size_t at = builder->bytes.length, left = builder->bytes.capacity - at;
+  sf_node *node;
+  if (builder->status != SF_OK)
+    return;
+  if (builder->nodes.length >= builder->nodes.capacity || key.length > left ||
+      text.length > left - key.length) {
+    builder->status = SF_SHORT;
+    return;
+  }
+  if (builder->nodes.length >= UINT32_MAX || at + key.length + text.length > UINT32_MAX) {
+    builder->status = SF_TOO_LONG;
+    return;
+  }
+  node = builder->nodes.at + builder->nodes.length;
+  memset(node, 0, sizeof *node);
+  node->number = number;
+  node->key_at = (uint32_t)at;
+  node->key_length = (uint32_t)key.length;
+  node->text_at = (uint32_t)(at + key.length);
+  node->text_length = (uint32_t)text.length;
+  node->size = 1;
+  node->type = (uint8_t)type;
+  node->role = (uint8_t)role;
+  if (key.length > 0)
+    memcpy(builder->bytes.at + at, key.at, key.length);
+  if (text.length > 0)
+    memcpy(builder->bytes.at + at + key.length, text.at, text.length);
+  if (role == SF_PARAMETER || role == SF_INNER_PARAMETER)
+    ++builder->nodes.at[builder->last].size;
+  else
+    builder->last = builder->nodes.length;
+  if (builder->is_open)
+    ++builder->nodes.at[builder->inner_list].size;
+  ++builder->nodes.length;
+  builder->bytes.length = at + key.length + text.length;
+}
+
+static inline void sf_put(sf_builder *builder, sf_text key, sf_type type, int64_t number,
+                          sf_text text) {
+  sf_put_node(builder, builder->is_open ? SF_INNER_ITEM : SF_MEMBER, type, number, key, text);
+}
+
+static inline void sf_param(sf_builder *builder, sf_text key, sf_type type, int64_t number,
+                            sf_text text) {
+  sf_role role = SF_PARAMETER;
+  if (builder->status != SF_OK)
+    return;
+  if (builder->nodes.length == 0 || (builder->is_open && builder->last == builder->inner_list)) {
+    builder->status = SF_BAD_CALL;
+    return;
+  }
+  if (builder->nodes.at[builder->last].type == SF_INNER_LIST)
+    role = SF_INNER_PARAMETER;
+  sf_put_node(builder, role, type, number, key, text);
+}
+
+static inline void sf_begin(sf_builder *builder, sf_text key) {
+  if (builder->status != SF_OK)
+    return;
+  if (builder->is_open) {
+    builder->status = SF_BAD_CALL;
+    return;
+  }
+  sf_put(builder, key, SF_INNER_LIST, 0, sf_cstr(NULL));
+  builder->inner_list = builder->last;
+  builder->is_open = builder->status == SF_OK;
+}
+
+static inline void sf_begin_inner_list(sf_builder *builder, const char *key) {
+  sf_begin(builder, sf_cstr(key));
+}
+
+static inline void sf_end_inner_list(sf_builder *builder) {
+  if (builder->status != SF_OK)
+    return;
+  if (!builder->is_open)
+    builder->status = SF_BAD_CALL;
+  builder->last = builder->inner_list;
+  builder->is_open = 0;
+}
+
+static inline void sf_put_integer(sf_builder *builder, const char *key, int64_t number) {
+  sf_put(builder, sf_cstr(key), SF_INTEGER, number, sf_cstr(NULL));
+}
+
+static inline void sf_put_decimal(sf_builder *builder, const char *key, int64_t thousandths) {
+  sf_put(builder, sf_cstr(key), SF_DECIMAL, thousandths, sf_cstr(NULL));
+}
+
+static inline void sf_put_string(sf_builder *builder, const char *key, const char *text) {
+  sf_put(builder, sf_cstr(key), SF_STRING, 0, sf_cstr(text));
+}
+
+static inline void sf_put_token(sf_builder *builder, const char *key, const char *text) {
+  sf_put(builder, sf_cstr(key), SF_TOKEN, 0, sf_cstr(text));
+}
+
+static inline void sf_put_byte_sequence(sf_builder *builder, const char *key, sf_text bytes) {
+  sf_put(builder, sf_cstr(key), SF_BYTE_SEQUENCE, 0, bytes);
+}
+
+static inline void sf_put_boolean(sf_builder *builder, const char *key, int is_true) {
+  sf_put(builder, sf_cstr(key), SF_BOOLEAN, is_true != 0, sf_cstr(NULL));
+}
+
+static inline void sf_put_date(sf_builder *builder, const char *key, int64_t seconds) {
+  sf_put(builder, sf_cstr(key), SF_DATE, seconds, sf_cstr(NULL));
+}
+
+static inline void sf_put_display_string(sf_builder *builder, const char *key, const char *text) {
+  sf_put(builder, sf_cstr(key), SF_DISPLAY_STRING, 0, sf_cstr(text));
+}
+
+static inline void sf_param_integer(sf_builder *builder, const char *key, int64_t number) {
+  sf_param(builder, sf_cstr(key), SF_INTEGER, number, sf_cstr(NULL));
+}
+
+static inline void sf_param_decimal(sf_builder *builder, const char *key, int64_t thousandths) {
+  sf_param(builder, sf_cstr(key), SF_DECIMAL, thousandths, sf_cstr(NULL));
+}
+
+static inline void sf_param_string(sf_builder *builder, const char *key, const char *text) {
+  sf_param(builder, sf_cstr(key), SF_STRING, 0, sf_cstr(text));
+}
+
+static inline void sf_param_token(sf_builder *builder, const char *key, const char *text) {
+  sf_param(builder, sf_cstr(key), SF_TOKEN, 0, sf_cstr(text));
+}
+
+static inline void sf_param_byte_sequence(sf_builder *builder, const char *key, sf_text bytes) {
+  sf_param(builder, sf_cstr(key), SF_BYTE_SEQUENCE, 0, bytes);
+}
+
+static inline void sf_param_boolean(sf_builder *builder, const char *key, int is_true) {
+  sf_param(builder, sf_cstr(key), SF_BOOLEAN, is_true != 0, sf_cstr(NULL));
+}
+
+static inline void sf_param_date(sf_builder *builder, const char *key, int64_t seconds) {
+  sf_param(builder, sf_cstr(key), SF_DATE, seconds, sf_cstr(NULL));
+}
+
+static inline void sf_param_display_string(sf_builder *builder, const char *key,
+                                           const char *text) {
+  sf_param(builder, sf_cstr(key), SF_DISPLAY_STRING, 0, sf_cstr(text));
+}
+
+static inline void sf_put_copy(sf_builder *builder, const sf_tree *tree, const sf_node *node) {
+  uint32_t was_open = builder->is_open, i;
+  for (i = 0; i < node->size && builder->status == SF_OK; ++i) {
+    const sf_node *one = node + i;
+    sf_text key = sf_node_key(tree, one), text = sf_node_text(tree, one);
+    sf_type type = (sf_type)one->type;
+    int is_param = one->role == SF_PARAMETER || one->role == SF_INNER_PARAMETER;
+    if (was_open && !is_param)
+      key = sf_cstr(NULL);
+    if (one->role == SF_INNER_PARAMETER && builder->is_open && !was_open)
+      sf_end_inner_list(builder);
+    if (is_param)
+      sf_param(builder, key, type, one->number, text);
+    else if (type == SF_INNER_LIST)
+      sf_begin(builder, key);
+    else
+      sf_put(builder, key, type, one->number, text);
+    if (builder->status == SF_OK)
+      builder->nodes.at[builder->nodes.length - 1].coded = one->coded;
+  }
+  if (builder->is_open && !was_open)
+    sf_end_inner_list(builder);
+}
+
+static inline sf_status sf_write_built(sf_context *context, sf_kind kind,
+                                      const sf_builder *builder, sf_buffer *out) {
+  size_t required = 0;
+  uint32_t status = SF_BAD_CALL;
+  if (builder->status == SF_OK)
+    status = sf_write(&context->seed, context->dialect, (uint32_t)kind, builder->nodes.at,
+                      builder->nodes.length, NULL, 0, builder->bytes.at, builder->bytes.length,
+                      out->at, out->capacity, &required, &context->invalid);
+  return sf_wrote(out, status, required);
+}
+
+static inline sf_status sf_read_priority(sf_context *context, sf_text text,
+                                        sf_priority_flags *client) {
+  uint32_t status = sf_priority_in(&context->seed, context->dialect, text.at, text.length, client,
+                                   &context->refusal);
+  return (sf_status)status;
+}
+
+static inline sf_status sf_read_response_priority(sf_context *context, sf_text text,
+                                                 sf_response_priority_flags *server) {
+  uint32_t status = sf_response_priority(&context->seed, context->dialect, text.at, text.length,
+                                         server, &context->refusal);
+  return (sf_status)status;
+}
+
+static inline sf_priority_flags sf_merge_priority(sf_priority_flags client,
+                                                  sf_response_priority_flags server) {
+  return sf_priority_merge(&client, &server);
+}
+
+static inline sf_status sf_write_priority(sf_priority_flags client, sf_buffer *out) {
+  size_t required = 0;
+  uint32_t status = sf_priority_text(&client, out->at, out->capacity, &required);
+  return sf_wrote(out, status, required);
+}
+
+static inline sf_status sf_write_response_priority(sf_response_priority_flags server,
+                                                  sf_buffer *out) {
+  size_t required = 0;
+  uint32_t status = sf_response_priority_text(&server, out->at, out->capacity, &required);
+  return sf_wrote(out, status, required);
+}
+
+static inline sf_status sf_change_priority(sf_context *context, sf_text text,
+                                          sf_priority_flags client, sf_buffer *out) {
+  size_t required = 0;
+  uint32_t status = sf_priority_change(&context->seed, text.at, text.length, &client, out->at,
+                                       out->capacity, &required, &context->refusal);
+  return sf_wrote(out, status, required);
+}
+
+static inline sf_status sf_read_rules(sf_context *context, sf_text text, sf_rules *rules) {
+  uint32_t status = sf_cache_rules(&context->seed, context->dialect, text.at, text.length, rules,
+                                   &context->refusal);
+  return (sf_status)status;
+}
+
+static inline sf_status sf_choose_rules(sf_context *context, const sf_text *fields,
+                                       size_t fields_length, sf_choice *choice) {
+  size_t i;
+  if (context->dialect != SF_RFC9651 && context->dialect != SF_RFC8941)
+    return SF_BAD_CALL;
+  for (i = 0; i < fields_length; ++i) {
+    uint32_t status = sf_read_rules(context, fields[i], &choice->rules);
+    if (status == SF_OK)
+      choice->index = i;
+    if (status != SF_EMPTY && status != SF_REFUSED)
+      return (sf_status)status;
+  }
+  return SF_EMPTY;
+}
+
+static inline sf_fallback sf_fallback_begin(void) {
+  sf_fallback fallback;
+  memset(&fallback, 0, sizeof fallback);
+  return fallback;
+}
+
+static inline sf_status sf_add_fallback_line(sf_fallback *fallback, sf_fallback_field field,
+                                             sf_text line) {
+  sf_text value = sf_trim(line.at, line.length);
+  uint32_t status = sf_fallback_line((uint32_t)field, value.at, value.length, fallback);
+  return (sf_status)status;
+}
+
+static inline int sf_may_store(const sf_decision *decision) {
+  switch (decision->reuse) {
+  case SF_REUSE_FRESH:
+  case SF_REUSE_STALE:
+    return 1;
+  case SF_REUSE_REVALIDATE:
+    return decision->allows_storing != 0 || decision->cause != SF_BY_NO_CACHE;
+  case SF_REUSE_UNSPECIFIED:
+    return decision->allows_storing != 0;
+  default:
+    return 0;
+  }
+}
+
+static inline sf_status sf_read_age(sf_text text, uint64_t *seconds) {
+  const uint64_t most = UINT64_C(2147483648);
+  uint64_t age = 0;
+  size_t length = 0, i;
+  text = sf_trim(text.at, text.length);
+  if (text.length == 0)
+    return SF_EMPTY;
+  while (length < text.length && text.at[length] != ',')
+    ++length;
+  text = sf_trim(text.at, length);
+  for (i = 0; i < text.length; ++i) {
+    if (text.at[i] < '0' || text.at[i] > '9')
+      return SF_REFUSED;
+    age = 10 * age + (uint64_t)(text.at[i] - '0');
+    age = age < most ? age : most;
+  }
+  if (text.length == 0)
+    return SF_REFUSED;
+  *seconds = age;
+  return SF_OK;
+}
+
+static inline sf_hop_list sf_hop_list_in(sf_hops hops, sf_buffer bytes) {
+  sf_hop_list list;
+  list.hops = hops;
+  list.hops.length = 0;
+  list.bytes = bytes;
+  list.bytes.length = 0;
+  list.served = NULL;
+  list.nameless = 0;
+  return list;
+}
+
+static inline sf_status sf_read_hops(sf_context *context, sf_text text, sf_hop_list *list) {
+  sf_path path = {0, 0, 0, 0, 0};
+  uint32_t status = sf_cache_status_in(&context->seed, context->dialect, text.at, text.length,
+                                       list->hops.at, list->hops.capacity, list->bytes.at,
+                                       list->bytes.capacity, &path, &context->refusal);
+  int is_read = status == SF_OK;
+  list->hops.length = is_read ? path.hops : 0;
+  list->hops.required = is_read ? 0 : path.hops;
+  list->bytes.length = is_read ? path.bytes : 0;
+  list->bytes.required = is_read ? 0 : path.bytes;
+  list->served = is_read && path.is_served ? list->hops.at + path.served : NULL;
+  list->nameless = status == SF_NOT_A_CACHE ? path.nameless : 0;
+  return (sf_status)status;
+}
+
+static inline sf_text sf_hop_part(const sf_hop_list *list, sf_span part) {
+  return part.length == 0 ? sf_text_of("", 0)
+                          : sf_text_of(list->bytes.at + part.at, part.length);
+}
+
+static inline sf_own_hop sf_hop_named(const char *name, sf_type type) {
+  sf_own_hop own;
+  memset(&own, 0, sizeof own);
+  own.bytes = sf_cstr(name);
+  own.hop.name.length = own.bytes.length;
+  own.hop.name_is_token = type == SF_TOKEN;
+  return own;
+}
+
+static inline sf_status sf_write_hop(sf_context *context, const sf_own_hop *own, sf_buffer *out) {
+  size_t required = 0;
+  uint32_t status = sf_hop_text(&context->seed, &own->hop, own->bytes.at, own->bytes.length,
+                                out->at, out->capacity, &required);
+  return sf_wrote(out, status, required);
+}
+
+static inline sf_status sf_append_hop(sf_context *context, sf_text text, const sf_own_hop *own,
+                                     sf_buffer *out) {
+  size_t required = 0;
+  uint32_t status = sf_cache_status_append(
+      &context->seed, context->dialect, text.at, text.length, &own->hop, own->bytes.at,
+      own->bytes.length, out->at, out->capacity, &required, &context->refusal);
+  return sf_wrote(out, status, required);
+}
+
+static inline sf_status sf_append_or_write_hop(sf_context *context, sf_text text,
+                                              const sf_own_hop *own, sf_buffer *out,
+                                              uint32_t *is_appended) {
+  sf_status status = sf_append_hop(context, text, own, out);
+  uint32_t appended = status != SF_REFUSED;
+  if (!appended)
+    status = sf_write_hop(context, own, out);
+  if (status == SF_OK)
+    *is_appended = appended;
+  return status;
+}
+
+static inline sf_head_lines sf_head_lines_of(sf_head_line *at, size_t capacity) {
+  sf_head_lines lines;
+  lines.at = at;
+  lines.capacity = capacity;
+  lines.length = 0;
+  lines.required = 0;
+  return lines;
+}
+
+static inline sf_head sf_head_in(sf_head_lines lines, sf_buffer joined) {
+  sf_head head;
+  head.lines = lines;
+  head.lines.length = 0;
+  head.joined = joined;
+  head.joined.length = 0;
+  head.number = 1;
+  return head;
+}
+
+static inline sf_status sf_add_field_line(sf_head *head, sf_text name, sf_text value) {
+  sf_head_line *line;
+  head->lines.required = 0;
+  if (head->lines.length >= head->lines.capacity) {
+    head->lines.required = head->lines.length + 1;
+    return SF_SHORT;
+  }
+  line = head->lines.at + head->lines.length++;
+  line->name = sf_trim(name.at, name.length);
+  line->value = sf_trim(value.at, value.length);
+  line->number = head->number++;
+  return SF_OK;
+}
+
+static inline sf_text sf_take_line(sf_text *rest) {
+  sf_text line = *rest;
+  const char *end = rest->length == 0 ? NULL : (const char *)memchr(rest->at, '\n', rest->length);
+  if (end != NULL)
+    line.length = (size_t)(end - rest->at) + 1;
+  rest->at = rest->length == 0 ? rest->at : rest->at + line.length;
+  rest->length -= line.length;
+  return line;
+}
+
+static inline int sf_is_field_name(sf_text name) {
+  size_t i;
+  for (i = 0; i < name.length; ++i) {
+    char c = name.at[i];
+    if (!((c >= 'a' && c <= 'z') || (c >= 'A' && c <= 'Z') || (c >= '0' && c <= '9') ||
+          (c != 0 && strchr("!#$%&'*+-.^_`|~", c) != NULL)))
+      return 0;
+  }
+  return name.length > 0;
+}
+
+static inline int sf_is_field_value(sf_text value) {
+  size_t i;
+  for (i = 0; i < value.length; ++i)
+    if (value.at[i] == 0 || value.at[i] == '\r' || value.at[i] == '\n')
+      return 0;
+  return 1;
+}
+
+static inline sf_status sf_add_head_line(sf_head *head, sf_text line) {
+  size_t colon = 0, length = line.length;
+  sf_text name, value;
+  length -= length > 0 && line.at[length - 1] == '\n';
+  length -= length > 0 && line.at[length - 1] == '\r';
+  while (colon < length && line.at[colon] != ':')
+    ++colon;
+  name = sf_text_of(line.at, colon);
+  value = colon == length ? name : sf_text_of(line.at + colon + 1, length - colon - 1);
+  if (length == 0 || colon == length || line.at[0] == ' ' || line.at[0] == '\t' ||
+      !sf_is_field_name(sf_trim(name.at, name.length)) || !sf_is_field_value(value)) {
+    ++head->number;
+    return length == 0 ? SF_EMPTY : SF_REFUSED;
+  }
+  return sf_add_field_line(head, name, value);
+}
+
+static inline int sf_is_named(const sf_head_line *line, const char *name) {
+  size_t i, length = strlen(name);
+  if (line->name.length != length)
+    return 0;
+  for (i = 0; i < length; ++i) {
+    char a = line->name.at[i], b = name[i];
+    a = a >= 'A' && a <= 'Z' ? (char)(a + ('a' - 'A')) : a;
+    b = b >= 'A' && b <= 'Z' ? (char)(b + ('a' - 'A')) : b;
+    if (a != b)
+      return 0;
+  }
+  return 1;
+}
+
+static inline sf_status sf_find_field(sf_head *head, const char *name, sf_text *text) {
+  size_t i, begin = head->joined.length, length = 0, count = 0;
+  sf_text only = sf_text_of("", 0);
+  sf_lines lines;
+  for (i = 0; i < head->lines.length; ++i)
+    if (sf_is_named(&head->lines.at[i], name)) {
+      only = head->lines.at[i].value;
+      length += only.length + (count++ == 0 ? 0 : 2);
+    }
+  head->joined.required = 0;
+  if (count > 1) {
+    if (begin > head->joined.capacity || length > head->joined.capacity - begin) {
+      head->joined.required = begin + length;
+      return SF_SHORT;
+    }
+    lines = sf_lines_in(sf_buffer_of(head->joined.at + begin, length));
+    for (i = 0; i < head->lines.length; ++i)
+      if (sf_is_named(&head->lines.at[i], name) &&
+          sf_add_line(&lines, head->lines.at[i].value) != SF_OK)
+        return SF_SHORT;
+    only = sf_joined_text(&lines);
+    head->joined.length = begin + length;
+  }
+  *text = only;
+  return SF_OK;
+}
+
+static inline sf_location sf_locate_in_head(const sf_refusal *refusal, const sf_head *head,
+                                            const char *name) {
+  sf_location location = sf_locate_in_lines(refusal, NULL, 0);
+  uint64_t offset = refusal->offset;
+  size_t i;
+  for (i = 0; i < head->lines.length; ++i) {
+    const sf_head_line *line = &head->lines.at[i];
+    if (sf_is_named(line, name) &&
+        sf_locate_in_line(&location, &offset, line->value, i, line->number))
+      break;
+  }
+  return location;
+}
+
+static inline sf_target sf_target_of(const char *name) {
+  sf_target target;
+  memset(&target, 0, sizeof target);
+  target.name = name;
+  target.status = SF_ABSENT;
+  return target;
+}
+
+static inline sf_exchange sf_exchange_of(sf_cache cache, uint64_t now) {
+  sf_exchange exchange;
+  memset(&exchange, 0, sizeof exchange);
+  exchange.cache = (uint32_t)cache;
+  exchange.requested = now;
+  exchange.received = now;
+  exchange.now = now;
+  return exchange;
+}
+
+static inline const char *sf_obstacle_name(uint32_t obstacle) {
+  switch (obstacle) {
+  case SF_BARRED_DIRECTIVE:
+    return "a directive";
+  case SF_BARRED_STATUS:
+    return "the status code";
+  case SF_BARRED_REQUEST:
+    return "Authorization";
+  case SF_BARRED_UNPERMITTED:
+    return "nothing permits it";
+  default:
+    return "";
+  }
+}
+
+/* Returns why a response may not be stored: for the function below. */
+static inline uint32_t sf_obstacle_of(const sf_decision *decision, const sf_exchange *exchange,
+                                      int has_expires) {
+  if (decision->reuse == SF_REUSE_NOT_STORED)
+    return SF_BARRED_DIRECTIVE;
+  if (exchange->status != 0 && exchange->status < 200)
+    return SF_BARRED_STATUS;
+  if ((exchange->status == 206 || exchange->status == 304) && !exchange->is_understood)
+    return SF_BARRED_STATUS;
+  if (exchange->cache == SF_SHARED_CACHE && exchange->is_authorized && !decision->allows_authorized)
+    return SF_BARRED_REQUEST;
+  if (decision->allows_storing || has_expires)
+    return SF_NO_OBSTACLE;
+  switch (exchange->status) {
+  case 200:
+  case 203:
+  case 204:
+  case 206:
+  case 300:
+  case 301:
+  case 308:
+  case 404:
+  case 405:
+  case 410:
+  case 414:
+  case 501:
+    return SF_NO_OBSTACLE;
+  default:
+    return SF_BARRED_UNPERMITTED;
+  }
+}
+
+/* Returns the age of a response whose Age field has this number: the seconds since the request are
+ * added (RFC 9111 section 4.2.3, current_age by corrected_age_value). For the function below. */
+static inline uint64_t sf_current_age(uint64_t age, const sf_exchange *exchange) {
+  const uint64_t most = UINT64_C(2147483648);
+  uint64_t since = exchange->now > exchange->requested ? exchange->now - exchange->requested : 0;
+  return since < most - age ? age + since : most;
+}
+
+/* Reads the targets up to the first that is well-formed and not empty, and returns SF_EMPTY if
+ * there is none. For the function below. */
+static inline sf_status sf_choose_target(sf_context *context, sf_head *head, sf_target *targets,
+                                         size_t targets_length, sf_choice *choice) {
+  size_t i, begin = head->joined.length;
+  for (i = 0; i < targets_length; ++i)
+    targets[i].status = SF_ABSENT;
+  for (i = 0; i < targets_length; ++i) {
+    sf_text text;
+    sf_status status = sf_find_field(head, targets[i].name, &text);
+    if (status == SF_OK)
+      status = sf_read_rules(context, text, &choice->rules);
+    head->joined.length = begin;
+    targets[i].status = (uint32_t)status;
+    choice->index = i;
+    if (status == SF_REFUSED)
+      targets[i].refusal = context->refusal;
+    else if (status != SF_EMPTY)
+      return status;
+  }
+  choice->index = targets_length;
+  return SF_EMPTY;
+}
+
+/* Returns what Cache-Control, Expires and Date of a head say, and which line is the first that is
+ * refused. For the function below. */
+static inline sf_fallback sf_fallback_of(const sf_head *head, size_t *refused_line) {
+  static const char *const names[] = {"Cache-Control", "Expires", "Date"};
+  sf_fallback fallback = sf_fallback_begin();
+  size_t i, k;
+  for (i = 0; i < head->lines.length; ++i)
+    for (k = 0; k < 3; ++k)
+      if (sf_is_named(&head->lines.at[i], names[k])) {
+        uint32_t was_refused = fallback.is_refused;
+        sf_add_fallback_line(&fallback, (sf_fallback_field)(SF_FALLBACK_CACHE_CONTROL + k),
+                             head->lines.at[i].value);
+        if (fallback.is_refused && !was_refused)
+          *refused_line = i;
+      }
+  return fallback;
+}
+
+/* Returns the number of the first line of Age of a head, whose first member counts; 0 without one.
+ * For the function below. */
+static inline uint64_t sf_age_of(const sf_head *head) {
+  uint64_t age = 0;
+  size_t i = 0;
+  while (i < head->lines.length && !sf_is_named(&head->lines.at[i], "Age"))
+    ++i;
+  if (i < head->lines.length && sf_read_age(head->lines.at[i].value, &age) != SF_OK)
+    return 0;
+  return age;
+}
+
+static inline sf_status sf_decide_response(sf_context *context, sf_head *head, sf_target *targets,
+                                          size_t targets_length, const sf_exchange *exchange,
+                                          sf_verdict *verdict) {
+  sf_response response = {0, 0, 0, 0};
+  sf_fallback fallback = sf_fallback_begin();
+  sf_choice choice;
+  sf_decision decision;
+  sf_status status;
+  size_t refused_line = 0;
+  if (context->dialect != SF_RFC9651 && context->dialect != SF_RFC8941)
+    return SF_BAD_CALL;
+  status = sf_choose_target(context, head, targets, targets_length, &choice);
+  if (status != SF_OK && status != SF_EMPTY)
+    return status;
+  if (status == SF_EMPTY) {
+    fallback = sf_fallback_of(head, &refused_line);
+    choice.rules = fallback.rules;
+    sf_fallback_lifetime(&fallback, exchange->received, &response);
+  }
+  response.age = sf_current_age(sf_age_of(head), exchange);
+  response.is_understood = exchange->is_understood != 0;
+  status = (sf_status)sf_decide(&choice.rules, exchange->cache, &response, &decision);
+  if (status != SF_OK)
+    return status;
+  verdict->obstacle = sf_obstacle_of(&decision, exchange, response.has_lifetime);
+  verdict->may_store = verdict->obstacle == SF_NO_OBSTACLE;
+  verdict->decision = decision;
+  verdict->age = response.age;
+  verdict->field = choice.index < targets_length       ? targets[choice.index].name
+                   : decision.cause == SF_BY_EXPIRES ? "Expires"
+                                                     : "Cache-Control";
+  verdict->target = choice.index;
+  verdict->is_refused = fallback.is_refused;
+  verdict->refused_line = refused_line;
+  return SF_OK;
+}
+
+#endif
