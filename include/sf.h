@@ -350,7 +350,8 @@ typedef struct sf_location {
   size_t index;       /* of the line among those that were passed, from 0 */
   uint64_t number;    /* of the line, as messages have it */
   sf_text line;       /* the line */
-  sf_refusal refusal; /* with its offset in the line, from 0: the line's length if it is after it */
+  sf_refusal refusal; /* with its offset in the line, from 0. Where the line ends too early, that is
+                         its length, and found is -1, also if another line follows */
 } sf_location;
 
 /* Returns the line that a refusal is in, and the refusal in it, if the refused text is these lines,
@@ -943,7 +944,8 @@ static inline sf_hop_list sf_hop_list_in(sf_hops hops, sf_buffer bytes);
  *   SF_OK           the list is the path
  *   SF_SHORT        it requires list->hops.required hops and list->bytes.required bytes, and one of
  *                   the two buffers is smaller
- *   SF_NOT_A_CACHE  member list->nameless is the first that is not an Item of a String or a Token
+ *   SF_NOT_A_CACHE  member list->nameless is the first that is not an Item of a String or a Token;
+ *                   context->refusal has its place, and the bytes that a String or Token begins with
  *   SF_REFUSED      the text is not a well-formed List; context->refusal says where and why
  *   SF_NO_MEMORY, SF_BAD_CALL
  *
@@ -1102,6 +1104,10 @@ static inline sf_status sf_add_field_line(sf_head *head, sf_text name, sf_text v
 /* Returns whether a field line has this name, in any case (RFC 9110 section 5.1). */
 static inline int sf_is_named(const sf_head_line *line, const char *name);
 
+/* Returns whether a head has a field of this name, in any case: an absent field and an empty one
+ * have the same text. */
+static inline int sf_has_field(const sf_head *head, const char *name);
+
 /*
  * Looks up a field of a head by its name, in any case, and joins its lines, as the functions that
  * read a text take them. A field of one line is not copied; several are joined in head->joined,
@@ -1249,12 +1255,20 @@ typedef struct sf_verdict {
                            the cause; of a response that may not be stored, what the directives
                            alone say */
   uint64_t age;         /* its age in seconds: that of the Age field when it is used (4) */
+  int64_t ttl;          /* the lifetime that decided, less the age, for sf_hop.ttl: if negative, for
+                           how long the response has been stale; 0 if has_ttl is 0 */
+  uint32_t has_ttl;     /* 1 if a lifetime decided, otherwise 0, as by no-cache */
   const char *field;    /* the name of the field that decides: that of a target, otherwise Expires
                            or Cache-Control; Cache-Control, too, if the head has none of them */
   size_t target;        /* index of that target; the length of the target list if none decides */
   uint32_t is_refused;  /* 1 if no target decides and a line of Cache-Control is malformed, so that
                            it counts as no-store; otherwise 0 */
   size_t refused_line;  /* index in head->lines of the first such line; 0 if there is none */
+  uint32_t is_age_malformed;     /* 1 if Age does not begin with a number, so that it counts as 0;
+                                    otherwise 0 */
+  uint32_t is_expires_malformed; /* 1 if no target decides and Expires is no HTTP-date or has several
+                                    lines, so that it is in the past; otherwise 0 */
+  uint32_t is_date_malformed;    /* the same for Date, for which exchange->received counts */
 } sf_verdict;
 
 /*

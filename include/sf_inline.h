@@ -358,10 +358,16 @@ static inline int sf_locate_in_line(sf_location *location, uint64_t *offset, sf_
   location->number = number;
   location->line = line;
   location->refusal.offset = *offset < line.length ? *offset : line.length;
-  if (*offset < line.length + 2)
-    return 1;
-  *offset -= line.length + 2;
-  return 0;
+  if (*offset >= line.length + 2) {
+    *offset -= line.length + 2;
+    return 0;
+  }
+  /* The comma after the line is no byte of it. */
+  if (*offset >= line.length) {
+    location->refusal.found = -1;
+    location->refusal.may_end = 0;
+  }
+  return 1;
 }
 
 static inline sf_location sf_locate_in_lines(const sf_refusal *refusal, const sf_text *lines,
@@ -831,6 +837,34 @@ static inline sf_hop_list sf_hop_list_in(sf_hops hops, sf_buffer bytes) {
   return list;
 }
 
+/* Returns the refusal of a member of a well-formed List that is no Item of a String or a Token: for
+ * the function below. */
+static inline sf_refusal sf_refusal_of_nameless(sf_text list, size_t index) {
+  const uint64_t letters = UINT64_C(0x07fffffe07fffffe); /* the bytes from 64 on */
+  sf_refusal refusal;
+  int is_quoted = 0, is_display = 0;
+  size_t i;
+  for (i = 0; i < list.length && index > 0; ++i) {
+    char c = list.at[i];
+    if (c == '"') {
+      is_display = !is_quoted && i > 0 && list.at[i - 1] == '%';
+      is_quoted = !is_quoted;
+    } else if (c == '\\' && is_quoted && !is_display) {
+      ++i;
+    } else if (c == ',' && !is_quoted) {
+      --index;
+    }
+  }
+  while (i < list.length && (list.at[i] == ' ' || list.at[i] == '\t'))
+    ++i;
+  memset(&refusal, 0, sizeof refusal);
+  refusal.offset = i;
+  refusal.expected_low = UINT64_C(1) << '"' | UINT64_C(1) << '*';
+  refusal.expected_high = letters;
+  refusal.found = i < list.length ? (unsigned char)list.at[i] : -1;
+  return refusal;
+}
+
 static inline sf_status sf_read_hops(sf_context *context, sf_text text, sf_hop_list *list) {
   sf_path path = {0, 0, 0, 0, 0};
   uint32_t status = sf_cache_status_in(&context->seed, context->dialect, text.at, text.length,
@@ -843,6 +877,8 @@ static inline sf_status sf_read_hops(sf_context *context, sf_text text, sf_hop_l
   list->bytes.required = is_read ? 0 : path.bytes;
   list->served = is_read && path.is_served ? list->hops.at + path.served : NULL;
   list->nameless = status == SF_NOT_A_CACHE ? path.nameless : 0;
+  if (status == SF_NOT_A_CACHE)
+    context->refusal = sf_refusal_of_nameless(text, path.nameless);
   return (sf_status)status;
 }
 
@@ -979,6 +1015,14 @@ static inline int sf_is_named(const sf_head_line *line, const char *name) {
       return 0;
   }
   return 1;
+}
+
+static inline int sf_has_field(const sf_head *head, const char *name) {
+  size_t i;
+  for (i = 0; i < head->lines.length; ++i)
+    if (sf_is_named(&head->lines.at[i], name))
+      return 1;
+  return 0;
 }
 
 static inline sf_status sf_find_field(sf_head *head, const char *name, sf_text *text) {
@@ -1137,16 +1181,35 @@ static inline sf_fallback sf_fallback_of(const sf_head *head, size_t *refused_li
   return fallback;
 }
 
-/* Returns the number of the first line of Age of a head, whose first member counts; 0 without one.
- * For the function below. */
-static inline uint64_t sf_age_of(const sf_head *head) {
+/* Returns the number of the first line of Age of a head, whose first member counts; 0 without one,
+ * and says whether it is malformed. For the function below. */
+static inline uint64_t sf_age_of(const sf_head *head, uint32_t *is_malformed) {
   uint64_t age = 0;
   size_t i = 0;
   while (i < head->lines.length && !sf_is_named(&head->lines.at[i], "Age"))
     ++i;
-  if (i < head->lines.length && sf_read_age(head->lines.at[i].value, &age) != SF_OK)
-    return 0;
+  *is_malformed = i < head->lines.length && sf_read_age(head->lines.at[i].value, &age) != SF_OK;
   return age;
+}
+
+/* Returns whether a directive of the cause decided by a lifetime. For the function below. */
+static inline int sf_is_by_lifetime(uint32_t cause) {
+  return cause == SF_BY_MAX_AGE || cause == SF_BY_S_MAXAGE || cause == SF_BY_EXPIRES ||
+         cause == SF_BY_MUST_REVALIDATE || cause == SF_BY_PROXY_REVALIDATE;
+}
+
+/* Sets what is left of the lifetime by which was decided, if it was. For the function below. */
+static inline void sf_set_ttl(sf_verdict *verdict, const sf_rules *rules,
+                              const sf_response *response, uint32_t shared) {
+  const uint64_t most = UINT64_C(2147483648);
+  uint64_t lifetime = response->lifetime;
+  int is_invalid = shared && (rules->invalid_s_maxage || rules->policy.has_s_maxage)
+                       ? rules->invalid_s_maxage
+                       : rules->invalid_max_age;
+  int is_set = sf_lifetime(&rules->policy, shared, &lifetime) == 1 || response->has_lifetime;
+  verdict->has_ttl = is_set && !is_invalid && sf_is_by_lifetime(verdict->decision.cause);
+  lifetime = lifetime < most ? lifetime : most;
+  verdict->ttl = verdict->has_ttl ? (int64_t)lifetime - (int64_t)response->age : 0;
 }
 
 static inline sf_status sf_decide_response(sf_context *context, sf_head *head, sf_target *targets,
@@ -1158,6 +1221,7 @@ static inline sf_status sf_decide_response(sf_context *context, sf_head *head, s
   sf_decision decision;
   sf_status status;
   size_t refused_line = 0;
+  uint32_t is_age_malformed = 0;
   if (context->dialect != SF_RFC9651 && context->dialect != SF_RFC8941)
     return SF_BAD_CALL;
   status = sf_choose_target(context, head, targets, targets_length, &choice);
@@ -1168,7 +1232,7 @@ static inline sf_status sf_decide_response(sf_context *context, sf_head *head, s
     choice.rules = fallback.rules;
     sf_fallback_lifetime(&fallback, exchange->received, &response);
   }
-  response.age = sf_current_age(sf_age_of(head), exchange);
+  response.age = sf_current_age(sf_age_of(head, &is_age_malformed), exchange);
   response.is_understood = exchange->is_understood != 0;
   status = (sf_status)sf_decide(&choice.rules, exchange->cache, &response, &decision);
   if (status != SF_OK)
@@ -1177,12 +1241,16 @@ static inline sf_status sf_decide_response(sf_context *context, sf_head *head, s
   verdict->may_store = verdict->obstacle == SF_NO_OBSTACLE;
   verdict->decision = decision;
   verdict->age = response.age;
+  sf_set_ttl(verdict, &choice.rules, &response, exchange->cache == SF_SHARED_CACHE);
   verdict->field = choice.index < targets_length       ? targets[choice.index].name
                    : decision.cause == SF_BY_EXPIRES ? "Expires"
                                                      : "Cache-Control";
   verdict->target = choice.index;
   verdict->is_refused = fallback.is_refused;
   verdict->refused_line = refused_line;
+  verdict->is_age_malformed = is_age_malformed;
+  verdict->is_expires_malformed = fallback.expires.lines > 1;
+  verdict->is_date_malformed = fallback.date.lines > 1;
   return SF_OK;
 }
 

@@ -107,8 +107,7 @@ int main(int count, char **words) {
   sf_own_hop own = sf_hop_named("ExampleCDN", SF_TOKEN);
   own.hop.outcome = SF_FORWARDED, own.hop.why = SF_URI_MISS;
   own.hop.has_stored = 1, own.hop.stored = verdict.may_store != 0;
-  own.hop.has_ttl = verdict.decision.reuse == SF_REUSE_FRESH;
-  own.hop.ttl = (int64_t)verdict.decision.seconds;
+  own.hop.has_ttl = verdict.has_ttl != 0, own.hop.ttl = verdict.ttl;
   sf_buffer out = SF_BUFFER(path);
   uint32_t is_appended = 1;
   sf_text came = field(&answered, "Cache-Status");

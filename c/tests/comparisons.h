@@ -855,6 +855,8 @@ static void heads(uint32_t dialect, const uint8_t *text, size_t length) {
     CHECK(location.refusal.offset <= location.line.length);
     if (location.refusal.offset < location.line.length)
       CHECK((uint8_t)location.line.at[location.refusal.offset] == location.refusal.found);
+    else
+      CHECK(location.refusal.found == -1 && location.refusal.may_end == 0);
   }
   give_buffer(buffer);
   free(lines);

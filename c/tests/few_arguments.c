@@ -546,6 +546,9 @@ static void heads(void) {
   CHECK(strict.lines.length == 0 && sf_add_head_line(&strict, wrong[15]) == SF_OK);
   CHECK(is(one[0].name, "Age") && is(one[0].value, ""));
 
+  CHECK(sf_has_field(&head, "pRIORITY") == 1 && sf_has_field(&head, "Via") == 0);
+  CHECK(sf_has_field(&strict, "age") == 1 && sf_has_field(&strict, "") == 0);
+
   sf_text text = sf_cstr("before");
   CHECK(sf_find_field(&head, "Via", &text) == SF_OK && text.length == 0);
   CHECK(sf_find_field(&head, "server", &text) == SF_OK && text.at == few[1].value.at);
@@ -577,7 +580,8 @@ static void heads(void) {
     refusal.found = 'x';
     sf_location location = sf_locate_in_head(&refusal, &head, "priority");
     CHECK(location.refusal.offset == rows[i].at && location.number == rows[i].number);
-    CHECK(location.index == rows[i].index && location.refusal.found == 'x');
+    CHECK(location.index == rows[i].index);
+    CHECK(location.refusal.found == (rows[i].at < location.line.length ? 'x' : -1));
     CHECK(location.line.at == few[location.index].value.at);
     location = sf_locate_in_head(&refusal, &head, "Via");
     CHECK(location.line.length == 0 && location.number == 1 && location.refusal.offset == 0);
@@ -627,6 +631,10 @@ static void responses(void) {
       CHECK(verdict.decision.reuse == row->decision.reuse);
       CHECK(verdict.decision.cause == row->decision.cause);
       CHECK(verdict.decision.seconds == row->decision.seconds);
+      if (row->decision.reuse == SF_REUSE_FRESH)
+        CHECK(verdict.has_ttl == 1 && verdict.ttl == (int64_t)row->decision.seconds);
+      else
+        CHECK(verdict.ttl <= 0 && verdict.has_ttl <= (row->decision.reuse != SF_REUSE_NOT_STORED));
       CHECK(verdict.target == (is_fallback ? 2 : (size_t)row->index));
       const char *fallback = row->decision.cause == SF_BY_EXPIRES ? "Expires" : "Cache-Control";
       CHECK(strcmp(verdict.field, is_fallback ? fallback : targets[row->index].name) == 0);
@@ -704,6 +712,85 @@ static void responses(void) {
   CHECK(sf_add_head_line(&head, sf_cstr("Cache-Control: c d")) == SF_OK);
   CHECK(sf_decide_response(&context, &head, NULL, 0, &exchange, &verdict) == SF_OK);
   CHECK(verdict.refused_line == 2); /* the first */
+}
+
+/* What is left of the lifetime that decided (RFC 9211 section 2.4: "May be negative, to indicate
+ * staleness"; RFC 9111 section 4.2.1: s-maxage in a shared cache, max-age, Expires less Date; section
+ * 1.2.2: 2147483648 at most), and what counts as malformed. */
+static void lifetimes(void) {
+  enum { NONE = -99 };
+  static const struct {
+    const char *lines[2];
+    uint32_t cache;
+    uint64_t age;
+    int64_t ttl;
+  } rows[] = {
+      {{"Cache-Control: max-age=60"}, SF_SHARED_CACHE, 100, -40},
+      {{"Cache-Control: max-age=60"}, SF_SHARED_CACHE, 60, 0},
+      {{"Cache-Control: max-age=60, s-maxage=10"}, SF_SHARED_CACHE, 30, -20},
+      {{"Cache-Control: max-age=60, s-maxage=10"}, SF_PRIVATE_CACHE, 30, 30},
+      {{"T: s-maxage=10, max-age=60", "Expires: 0"}, SF_SHARED_CACHE, 9, 1},
+      {{"Cache-Control: max-age=60, must-revalidate"}, SF_SHARED_CACHE, 61, -1},
+      {{"Cache-Control: max-age=60, proxy-revalidate"}, SF_SHARED_CACHE, 62, -2},
+      {{"Cache-Control: max-age=60, proxy-revalidate"}, SF_PRIVATE_CACHE, 62, -2},
+      {{"Cache-Control: s-maxage=60"}, SF_SHARED_CACHE, 62, -2},
+      {{"Cache-Control: s-maxage=60"}, SF_PRIVATE_CACHE, 62, NONE},
+      {{"Cache-Control: max-age=60, no-cache"}, SF_SHARED_CACHE, 5, NONE},
+      {{"Cache-Control: max-age=60, no-store"}, SF_SHARED_CACHE, 5, NONE},
+      {{"Cache-Control: max-age=60, private"}, SF_SHARED_CACHE, 5, NONE},
+      {{"Cache-Control: max-age=60, private"}, SF_PRIVATE_CACHE, 5, 55},
+      {{"Cache-Control: max-age=60, must-understand"}, SF_SHARED_CACHE, 5, NONE},
+      {{"Cache-Control: max-age=-1"}, SF_SHARED_CACHE, 5, NONE},
+      {{"Cache-Control: max-age=-1, must-revalidate"}, SF_SHARED_CACHE, 5, NONE},
+      {{"Cache-Control: max-age=60, s-maxage=1.5"}, SF_SHARED_CACHE, 5, NONE},
+      {{"Cache-Control: max-age=60, s-maxage=1.5"}, SF_PRIVATE_CACHE, 5, 55},
+      {{"Cache-Control: s-maxage=60, max-age=x"}, SF_SHARED_CACHE, 5, 55},
+      {{"Cache-Control: max-age=99999999999"}, SF_SHARED_CACHE, 8, 2147483640},
+      {{"Cache-Control: max-age=99999999999"}, SF_SHARED_CACHE, 99999999999, 0},
+      {{"Cache-Control: public"}, SF_SHARED_CACHE, 5, NONE},
+      {{"Expires: 0"}, SF_SHARED_CACHE, 5, -5},
+      {{"Expires: Sun, 06 Nov 1994 08:50:37 GMT", "Date: Sun, 06 Nov 1994 08:49:37 GMT"},
+       SF_SHARED_CACHE, 70, -10},
+      {{"Server: x"}, SF_SHARED_CACHE, 5, NONE},
+  };
+  sf_context context = sf_context_of(seed, SF_RFC8941);
+  sf_target target = sf_target_of("T");
+  sf_head_line lines[4];
+  sf_verdict verdict;
+  for (size_t i = 0; i < sizeof rows / sizeof *rows; ++i) {
+    sf_head head = sf_head_in(SF_HEAD_LINES(lines), sf_buffer_of(NULL, 0));
+    sf_exchange exchange = sf_exchange_of((sf_cache)rows[i].cache, 784111777);
+    exchange.now += rows[i].age;
+    for (size_t k = 0; k < 2 && rows[i].lines[k] != NULL; ++k)
+      CHECK(sf_add_head_line(&head, sf_cstr(rows[i].lines[k])) == SF_OK);
+    CHECK(sf_decide_response(&context, &head, &target, 1, &exchange, &verdict) == SF_OK);
+    CHECK(verdict.has_ttl == (rows[i].ttl != NONE));
+    CHECK(verdict.ttl == (rows[i].ttl == NONE ? 0 : rows[i].ttl));
+    CHECK(verdict.is_age_malformed == 0 && verdict.is_date_malformed == 0);
+    CHECK(verdict.is_expires_malformed == (strcmp(rows[i].lines[0], "Expires: 0") == 0));
+  }
+  /* "If an Expires field is invalid or has several lines, it is in the past"; Date, Age likewise */
+  static const struct {
+    const char *lines[3];
+    uint32_t age, expires, date;
+  } malformed[] = {
+      {{"Age: 5", "Age: x", "T:"}, 0, 0, 0},
+      {{"Age: x", "Age: 5", "T:"}, 1, 0, 0},
+      {{"Age:", "Expires: x", "Date: x"}, 1, 1, 1},
+      {{"Expires: Sun, 06 Nov 1994 08:50:37 GMT", "Expires: Sun, 06 Nov 1994 08:50:37 GMT",
+        "Date: Sun, 06 Nov 1994 08:49:37 GMT"}, 0, 1, 0},
+      {{"Age: -5", "Expires: 0", "T: max-age=1"}, 1, 0, 0}, /* Expires is not read */
+  };
+  for (size_t i = 0; i < sizeof malformed / sizeof *malformed; ++i) {
+    sf_head head = sf_head_in(SF_HEAD_LINES(lines), sf_buffer_of(NULL, 0));
+    sf_exchange exchange = sf_exchange_of(SF_SHARED_CACHE, 784111777);
+    for (size_t k = 0; k < 3; ++k)
+      CHECK(sf_add_head_line(&head, sf_cstr(malformed[i].lines[k])) == SF_OK);
+    CHECK(sf_decide_response(&context, &head, &target, 1, &exchange, &verdict) == SF_OK);
+    CHECK(verdict.is_age_malformed == malformed[i].age);
+    CHECK(verdict.is_expires_malformed == malformed[i].expires);
+    CHECK(verdict.is_date_malformed == malformed[i].date);
+  }
 }
 
 /* What RFC 9111 section 3 asks for beside the directives: "the response status code is final", "if
@@ -867,6 +954,29 @@ static void paths(void) {
   CHECK(small.bytes.required == 27 && small.hops.length == 0 && small.served == NULL);
   CHECK(sf_read_hops(&context, sf_cstr("a, (b)"), &list) == SF_NOT_A_CACHE);
   CHECK(list.nameless == 1 && list.hops.length == 0);
+  CHECK(context.refusal.offset == 3 && context.refusal.found == '(' && !context.refusal.may_end);
+  for (unsigned char byte = 0; byte < 128; ++byte) {
+    int is_letter = (byte >= 'A' && byte <= 'Z') || (byte >= 'a' && byte <= 'z');
+    uint64_t half = byte < 64 ? context.refusal.expected_low : context.refusal.expected_high;
+    CHECK((half >> byte % 64 & 1) == (is_letter || byte == '"' || byte == '*'));
+  }
+  /* the place, after Strings with commas, quotes and escapes, and after a Display String */
+  static const struct {
+    const char *text;
+    uint64_t offset;
+    size_t index;
+  } nameless[] = {{"  7", 2, 0},
+                  {"a;x=\",\\\",\";y=b%, \t?1", 18, 1},
+                  {"\"a\\\\\", 1", 7, 1},
+                  {"a;b=%\",\\\",@1, c, 2", 10, 1},
+                  {"a , b,\t:YQ==:", 7, 2},
+                  {"a;b=c%, %\"d,\"", 8, 1}};
+  sf_context newest = sf_context_of(seed, SF_RFC9651);
+  for (size_t i = 0; i < sizeof nameless / sizeof *nameless; ++i) {
+    CHECK(sf_read_hops(&newest, sf_cstr(nameless[i].text), &list) == SF_NOT_A_CACHE);
+    CHECK(list.nameless == nameless[i].index && newest.refusal.offset == nameless[i].offset);
+    CHECK(newest.refusal.found == nameless[i].text[nameless[i].offset]);
+  }
   CHECK(sf_read_hops(&context, sf_cstr("a,"), &list) == SF_REFUSED && list.nameless == 0);
   CHECK(context.refusal.offset == 2);
   CHECK(sf_read_hops(&none, came, &list) == SF_BAD_CALL && list.hops.length == 0);
@@ -945,6 +1055,7 @@ int main(void) {
   ages();
   heads();
   responses();
+  lifetimes();
   storing();
   paths();
   printf("%ld passed, %ld failed\n", passed, failed);

@@ -61,7 +61,7 @@ fn main() -> Result<(), Box<dyn std::error::Error>> {
 
     let forwarded = Forwarded::new(Forward::UriMiss).with_stored(verdict.may_store());
     let mut hop = Hop::new(NAME).with_outcome(forwarded);
-    hop.ttl = verdict.fresh_for().map(Into::into);
+    hop.ttl = verdict.ttl;
     let path = sf::field_text(&response, "Cache-Status")?;
     let sent = hop.append_or_replace_in(DIALECT, [path])?;
     if let Some(refusal) = sent.refusal() {

@@ -306,8 +306,7 @@ impl Decision {
         }
     }
 
-    /// For how many seconds the response stays fresh, if it is fresh: the `ttl` of a hop (RFC 9211
-    /// section 2.4).
+    /// For how many seconds the response stays fresh, if it is fresh.
     ///
     /// ```
     /// use sf::{Cache, CacheRules, Response};

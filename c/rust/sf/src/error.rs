@@ -16,7 +16,7 @@ const MESSAGE_SIZE: usize = 1024;
 /// assert_eq!(refusal.to_string(), "byte 0x32 '2' at place 2, expected a space or the end");
 /// ```
 #[non_exhaustive]
-#[derive(Clone, Copy, Debug, PartialEq, Eq)]
+#[derive(Clone, Copy, PartialEq, Eq)]
 pub struct Refusal {
     /// The length of the text's longest prefix that some well-formed text of the kind begins with.
     pub offset: u64,
@@ -75,6 +75,37 @@ impl Refusal {
     }
 }
 
+/// With the bytes as characters.
+///
+/// ```
+/// let refusal = sf::check(sf::Kind::Item, "1;=").unwrap_err().refusal().unwrap();
+/// let shown = format!("{refusal:?}");
+/// assert!(shown.starts_with("Refusal { offset: 2, found: Some('='), expected: \" *abc"));
+/// ```
+impl fmt::Debug for Refusal {
+    fn fmt(&self, f: &mut fmt::Formatter<'_>) -> fmt::Result {
+        f.debug_struct("Refusal")
+            .field("offset", &self.offset)
+            .field("found", &self.found.map(char::from))
+            .field("expected", &Set(self.expected))
+            .field("may_end", &self.may_end)
+            .finish()
+    }
+}
+
+/// A set of bytes, which its `Debug` shows in order.
+struct Set(u128);
+
+impl fmt::Debug for Set {
+    fn fmt(&self, f: &mut fmt::Formatter<'_>) -> fmt::Result {
+        f.write_str("\"")?;
+        for byte in (0..128).filter(|byte| self.0 >> byte & 1 != 0) {
+            write!(f, "{}", char::from(byte).escape_default())?;
+        }
+        f.write_str("\"")
+    }
+}
+
 /// The line that a refusal is in, of lines that were joined, and the place in it: see
 /// [`Refusal::line`]. Both are counted from 0; in messages, lines are counted from 1.
 #[derive(Clone, Copy, Debug, Default, PartialEq, Eq, Hash)]
@@ -119,6 +150,18 @@ impl Refusal {
         place
     }
 
+    /// The refusal at this place of a line of this length: where the line ends, nothing was found,
+    /// also if another line follows, since the comma between them is no byte of a line.
+    pub(crate) fn at_line(self, offset: usize, length: usize) -> Refusal {
+        let is_within = offset < length;
+        Refusal {
+            offset: offset as u64,
+            found: self.found.filter(|_| is_within),
+            may_end: self.may_end && is_within,
+            ..self
+        }
+    }
+
     /// The error message, then at most so many bytes of the text around the offset, with a caret
     /// below it. So it has a bound, whatever the length of the text. Give the text that was
     /// refused. Bytes that are not printable are question marks there.
@@ -143,7 +186,8 @@ impl Refusal {
 
     /// The same of the line that the refusal is in, of lines that were joined by
     /// [`join`](crate::join()) in this order. Both places in the message are in that line, not in
-    /// the joined text, and from 0; the line is counted from 1.
+    /// the joined text, and from 0; the line is counted from 1. Where a line ends too early, the
+    /// message says that the text ended there, also if another line follows.
     ///
     /// ```
     /// let lines = ["a, b", "c, (d e, f"];
@@ -160,13 +204,11 @@ impl Refusal {
     #[must_use]
     pub fn excerpt_of_line<'a>(&self, lines: &'a [impl AsRef<[u8]>], most: usize) -> Excerpt<'a> {
         let place = self.line(lines);
+        let text = lines.get(place.line).map_or(&[][..], AsRef::as_ref);
         Excerpt {
-            refusal: Refusal {
-                offset: place.offset as u64,
-                ..*self
-            },
+            refusal: self.at_line(place.offset, text.len()),
             line: Some(place.line + 1),
-            text: lines.get(place.line).map_or(&[], AsRef::as_ref),
+            text,
             most,
         }
     }
@@ -309,8 +351,13 @@ pub enum Error {
     OtherType,
     /// A targeted field without members, which a cache ignores (RFC 9213 section 2.1).
     Empty,
-    /// The index of the first member of a Cache-Status List that does not name a cache.
-    NotACache(usize),
+    /// A Cache-Status List has a member that does not name a cache.
+    NotACache {
+        /// The index of the first one.
+        index: usize,
+        /// Its place, and the bytes that a String or a Token begins with.
+        refusal: Refusal,
+    },
     /// A number is out of range, or the dialect has no such type.
     Invalid,
     /// A text to parse, or the keys and bytes of a value to write, of 4 GiB or more.
@@ -330,7 +377,8 @@ pub enum Error {
 }
 
 impl Error {
-    /// The refusal, if a text was refused, the first or the second.
+    /// The place where a text is wrong: the refusal, if a text was refused, the first or the second;
+    /// and of [`Error::NotACache`] the place of the member.
     ///
     /// ```
     /// let error = sf::List::parse("a, b c").unwrap_err();
@@ -339,7 +387,9 @@ impl Error {
     #[must_use]
     pub fn refusal(&self) -> Option<Refusal> {
         match self {
-            Error::Refused(refusal) | Error::SecondRefused(refusal) => Some(*refusal),
+            Error::Refused(refusal)
+            | Error::SecondRefused(refusal)
+            | Error::NotACache { refusal, .. } => Some(*refusal),
             _ => None,
         }
     }
@@ -361,7 +411,7 @@ impl Error {
     /// ```
     pub fn as_absent<T: Default>(self) -> Result<T, Error> {
         match self {
-            Error::Refused(_) | Error::NotACache(_) => Ok(T::default()),
+            Error::Refused(_) | Error::NotACache { .. } => Ok(T::default()),
             error => Err(error),
         }
     }
@@ -374,7 +424,7 @@ impl fmt::Display for Error {
             Error::SecondRefused(refusal) => write!(f, "the second text: {refusal}"),
             Error::OtherType => f.write_str("the value is of another type"),
             Error::Empty => f.write_str("the field has no members"),
-            Error::NotACache(index) => write!(f, "member {index} does not name a cache"),
+            Error::NotACache { index, .. } => write!(f, "member {index} does not name a cache"),
             Error::Invalid => f.write_str("not a value of a structured field"),
             Error::TooLong => f.write_str("4 GiB or more"),
             Error::TooSmall { nodes, bytes } => {

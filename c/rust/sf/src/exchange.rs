@@ -5,7 +5,7 @@ use crate::line::is_of;
 use crate::Dialect;
 use crate::{
     age, field_text, trim, Cache, CacheRules, Cause, Decision, Error, Fallback, FieldDate,
-    FieldLine, Parser, Refusal, Response, Reuse, Seconds,
+    FieldLine, Integer, Parser, Refusal, Response, Reuse, Seconds,
 };
 use alloc::vec::Vec;
 use core::fmt;
@@ -285,6 +285,17 @@ pub struct Verdict<'a> {
     /// What else counted: the age when the response is used, to be sent in `Age` (RFC 9111 section
     /// 4), and the lifetime by `Expires`.
     pub response: Response,
+    /// The lifetime that decided, less the age: the `ttl` of a hop (RFC 9211 section 2.4). If
+    /// negative, for how long the response has been stale; `None` if no lifetime decided, as by
+    /// `no-cache`.
+    ///
+    /// ```
+    /// use sf::{Cache, Exchange};
+    /// let head = [("Cache-Control", "max-age=60"), ("Age", "100")];
+    /// let verdict = Exchange::at(Cache::Shared, 784_111_777).decide(&[], &head).unwrap();
+    /// assert_eq!(verdict.ttl, Some((-40).into()));
+    /// ```
+    pub ttl: Option<Integer>,
     /// Whether a heuristic lifetime may be used, since no field sets one (section 4.2.2): give it to
     /// [`CacheRules::decide`] as [`Response::lifetime`].
     ///
@@ -421,8 +432,7 @@ impl Verdict<'_> {
         self.obstacle.is_none()
     }
 
-    /// For how many seconds the response stays fresh, if it is fresh: the `ttl` of a hop (RFC 9211
-    /// section 2.4).
+    /// For how many seconds the response stays fresh, if it is fresh.
     ///
     /// ```
     /// use sf::{Cache, Exchange};
@@ -493,6 +503,7 @@ impl Parser {
             decision,
             field,
             target: obeyed.map(|(index, _)| index),
+            ttl: ttl(&decision, &rules, &response, exchange.cache),
             rules,
             response,
             allows_heuristic: decision.reuse == Reuse::Unspecified
@@ -518,13 +529,45 @@ impl Parser {
                 Ok(None) => {}
                 Ok(Some(rules)) => return Ok(Some((index, rules))),
                 Err(Error::Refused(refusal)) => {
-                    note(malformed, place_of(head.clone(), name, refusal))?;
+                    note(malformed, refusal.in_head(head.clone(), name))?;
                 }
                 Err(error) => return Err(error),
             }
         }
         Ok(None)
     }
+}
+
+/// What is left of the lifetime by which was decided, if it was.
+fn ttl(
+    decision: &Decision,
+    rules: &CacheRules,
+    response: &Response,
+    cache: Cache,
+) -> Option<Integer> {
+    /// Ages and lifetimes are at most this (RFC 9111 section 1.2.2).
+    const MOST: u64 = 1 << 31;
+    let is_shared = cache == Cache::Shared;
+    let has_s_maxage = is_shared && (rules.invalid_s_maxage || rules.policy.s_maxage.is_some());
+    let (is_invalid, of_policy) = if has_s_maxage {
+        (rules.invalid_s_maxage, rules.policy.s_maxage)
+    } else {
+        (rules.invalid_max_age, rules.policy.max_age)
+    };
+    let is_by_lifetime = matches!(
+        decision.cause?,
+        Cause::MaxAge
+            | Cause::SMaxage
+            | Cause::Expires
+            | Cause::MustRevalidate
+            | Cause::ProxyRevalidate
+    );
+    if is_invalid || !is_by_lifetime {
+        return None;
+    }
+    let lifetime = of_policy.map(u64::from).or(response.lifetime)?;
+    let left = i128::from(lifetime.min(MOST)) - i128::from(response.age.min(MOST));
+    Integer::try_from(left).ok()
 }
 
 impl Fallback {
@@ -588,23 +631,39 @@ where
     Ok(read.unwrap_or(0))
 }
 
-/// The line of the head that a refusal of a field's text is in, with its place in that line.
-fn place_of<H>(head: H, field: &str, refusal: Refusal) -> Malformed<'_>
-where
-    H: IntoIterator + Clone,
-    H::Item: FieldLine,
-{
-    let lengths = head.clone().into_iter().filter(|line| is_of(line, field));
-    let place = refusal.place_in(lengths.map(|line| trim(line.value()).len()));
-    let lines = head.into_iter().enumerate();
-    let mut of_field = lines.filter(|(_, line)| is_of(line, field));
-    let (line, before) = match of_field.nth(place.line) {
-        None => (0, 0), // a field without a line is not refused
-        Some((line, of_head)) => (line, spaces_before(of_head.value())),
-    };
-    let offset = (before + place.offset) as u64;
-    let fault = Fault::Refused(Refusal { offset, ..refusal });
-    Malformed { field, line, fault }
+impl Refusal {
+    /// The line of a head that this refusal is in, of the text of a field, which is its lines, as
+    /// [`field_text`] joins them. The place in it is one in the value of the line, from 0. Without
+    /// such a line both are 0.
+    ///
+    /// ```
+    /// let head = [("Server", "x"), ("Cache-Status", "a; hit"), ("cache-status", "7, b")];
+    /// let error = sf::Path::from_headers(&head).unwrap_err();
+    /// let malformed = error.refusal().unwrap().in_head(&head, "Cache-Status");
+    /// assert_eq!(malformed.line, 2);
+    /// assert!(matches!(malformed.fault, sf::Fault::Refused(refusal) if refusal.offset == 0));
+    /// ```
+    #[must_use]
+    pub fn in_head<H>(self, head: H, field: &str) -> Malformed<'_>
+    where
+        H: IntoIterator + Clone,
+        H::Item: FieldLine,
+    {
+        let lengths = head.clone().into_iter().filter(|line| is_of(line, field));
+        let place = self.place_in(lengths.map(|line| trim(line.value()).len()));
+        let lines = head.into_iter().enumerate();
+        let mut of_field = lines.filter(|(_, line)| is_of(line, field));
+        let (line, refusal) = match of_field.nth(place.line) {
+            None => (0, self.at_line(0, 0)),
+            Some((line, of_head)) => {
+                let value = of_head.value();
+                let end = spaces_before(value) + trim(value).len();
+                (line, self.at_line(spaces_before(value) + place.offset, end))
+            }
+        };
+        let fault = Fault::Refused(refusal);
+        Malformed { field, line, fault }
+    }
 }
 
 /// The number of spaces and tabs at the beginning of a value.

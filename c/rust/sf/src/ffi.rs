@@ -444,7 +444,7 @@ pub(crate) fn cache_status(
     };
     let is_larger = path.hops > capacities.0 || path.bytes > capacities.1;
     match status {
-        raw::NOT_A_CACHE => Err(Error::NotACache(path.nameless)),
+        raw::NOT_A_CACHE => Err(crate::path::not_a_cache(text, path.nameless)),
         status => fit(status, path, is_larger, &refusal),
     }
 }

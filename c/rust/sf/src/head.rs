@@ -32,6 +32,17 @@ pub fn field_text(
     Ok(text.finish())
 }
 
+/// Whether a head has the field of this name: an absent field and an empty one have the same text.
+///
+/// ```
+/// let head = [("Priority", ""), ("Age", "20")];
+/// assert!(sf::has_field(&head, "priority") && !sf::has_field(&head, "Cache-Status"));
+/// ```
+#[must_use]
+pub fn has_field(head: impl IntoIterator<Item = impl FieldLine>, name: &str) -> bool {
+    head.into_iter().any(|line| is_of(&line, name))
+}
+
 /// Joins the lines of a field, with a comma and a space between two (RFC 9651 section 4.2). The
 /// result of no lines is empty. An empty line is a line: beside others it gives `a, , b`, which is
 /// malformed (RFC 9110 section 5.3).

@@ -1,3 +1,4 @@
+use crate::Error;
 use sf_sys as raw;
 
 /// The kind of a field, which the definition of the field states (RFC 9651 section 3).
@@ -15,6 +16,25 @@ pub enum Kind {
     List = raw::LIST,
     /// A Dictionary (section 3.2).
     Dict = raw::DICT,
+}
+
+/// From the word that the command `sf` takes: `item`, `list` or `dict`.
+///
+/// ```
+/// assert_eq!("list".parse(), Ok(sf::Kind::List));
+/// assert_eq!("List".parse::<sf::Kind>(), Err(sf::Error::Invalid));
+/// ```
+impl core::str::FromStr for Kind {
+    type Err = Error;
+
+    fn from_str(word: &str) -> Result<Kind, Error> {
+        match word {
+            "item" => Ok(Kind::Item),
+            "list" => Ok(Kind::List),
+            "dict" => Ok(Kind::Dict),
+            _ => Err(Error::Invalid),
+        }
+    }
 }
 
 /// The RFC by which a text is parsed. What RFC 8941 accepts has the same value by RFC 9651.

@@ -91,7 +91,7 @@ pub use {
     error::RefusalInText,
     exchange::{Exchange, Fault, Malformed, Obstacle, Verdict},
     field::List,
-    head::{field_text, join},
+    head::{field_text, has_field, join},
     hop_text::Appended,
     item::{InnerList, Item, ListEntry},
     keyed::{Dictionary, Iter, IterMut, Parameters},

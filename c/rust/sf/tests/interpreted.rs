@@ -530,7 +530,16 @@ fn a_path_is_read() {
     assert_eq!(hop.detail, Some(Name::token("d").unwrap()));
     assert_eq!(path.served_by(), None);
     assert_eq!(Path::parse("").unwrap().hops().len(), 0);
-    assert_eq!(Path::parse("a, (b), 7").err(), Some(Error::NotACache(1)));
+    let list = r#"a;x="\",";y=%",\", ("b,"), 7"#;
+    let (index, refusal) = match Path::parse(list) {
+        Err(Error::NotACache { index, refusal }) => (index, refusal),
+        other => panic!("{other:?}"),
+    };
+    assert_eq!((index, refusal.offset, refusal.found), (1, 19, Some(b'(')));
+    assert!(refusal
+        .expected_bytes()
+        .eq((0..128)
+            .filter(|byte: &u8| { byte.is_ascii_alphabetic() || matches!(byte, b'"' | b'*') })));
 }
 
 #[test]

@@ -196,7 +196,7 @@ fn any_text_is_parsed_or_refused() {
             }
             Err(error) => assert_eq!(
                 check(Kind::List, &text).is_ok(),
-                matches!(error, Error::NotACache(_))
+                matches!(error, Error::NotACache { .. })
             ),
         }
     }
