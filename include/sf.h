@@ -100,8 +100,8 @@ enum {
   SF_URGENCY_FIRST = 0,    /* the most urgent (RFC 9218 section 4.1) */
   SF_URGENCY_DEFAULT = 3,  /* the urgency if the field does not set it */
   SF_URGENCY_LAST = 7,     /* the least urgent */
-  SF_FWD_STATUS_MIN = 100, /* the smallest valid fwd-status (RFC 9211 section 2.3) */
-  SF_FWD_STATUS_MAX = 999  /* the largest */
+  SF_FWD_STATUS_MIN = 100, /* the smallest fwd-status that is read (RFC 9211 section 2.3) */
+  SF_FWD_STATUS_MAX = 999  /* the largest; see sf_is_valid_status */
 };
 
 /* Integers, Dates, and Decimals in thousandths are from -SF_NUMBER_MAX to SF_NUMBER_MAX (RFC 9651
@@ -829,11 +829,12 @@ static inline sf_status sf_write_response_priority(sf_response_priority_flags se
 
 /*
  * Writes the Priority field of a request with what *client sets, and keeps its other members (RFC
- * 9218 section 4), by sf_priority_change, so in the dialect SF_RFC9651. A buffer of
+ * 9218 section 4), by sf_priority_change. What is set is written also if it is the default, so this
+ * changes the field of a response (section 8), too: set what the server sets. A buffer of
  * SF_PRIORITY_CHANGE_SIZE(text.length) bytes is always large enough.
  *
  *   SF_REFUSED  the text is not a well-formed Dictionary; context->refusal says where and why
- *   SF_NO_MEMORY
+ *   SF_NO_MEMORY, SF_BAD_CALL
  *
  * The other results are those of sf_write_priority.
  */
@@ -859,6 +860,10 @@ typedef enum sf_outcome {
 
 /* Returns the name of an outcome, for messages; "?" if there is no such outcome. */
 static inline const char *sf_outcome_name(uint32_t outcome);
+
+/* Returns whether a status code is a valid one, from 100 to 599: RFC 9110 section 15 calls all
+ * others invalid, but those up to SF_FWD_STATUS_MAX are read in sf_hop.status all the same. */
+static inline int sf_is_valid_status(uint32_t status);
 
 /* Why a cache forwarded a request (RFC 9211 section 2.2). */
 typedef enum sf_forward {
@@ -945,7 +950,7 @@ static inline sf_hop_list sf_hop_list_in(sf_hops hops, sf_buffer bytes);
  *   SF_SHORT        it requires list->hops.required hops and list->bytes.required bytes, and one of
  *                   the two buffers is smaller
  *   SF_NOT_A_CACHE  member list->nameless is the first that is not an Item of a String or a Token;
- *                   context->refusal has its place, and the bytes that a String or Token begins with
+ *                   context->refusal has its place, and what a String or a Token begins with
  *   SF_REFUSED      the text is not a well-formed List; context->refusal says where and why
  *   SF_NO_MEMORY, SF_BAD_CALL
  *
@@ -1266,8 +1271,8 @@ typedef struct sf_verdict {
   size_t refused_line;  /* index in head->lines of the first such line; 0 if there is none */
   uint32_t is_age_malformed;     /* 1 if Age does not begin with a number, so that it counts as 0;
                                     otherwise 0 */
-  uint32_t is_expires_malformed; /* 1 if no target decides and Expires is no HTTP-date or has several
-                                    lines, so that it is in the past; otherwise 0 */
+  uint32_t is_expires_malformed; /* 1 if no target decides and Expires is no HTTP-date or has
+                                    several lines, so that it is in the past; otherwise 0 */
   uint32_t is_date_malformed;    /* the same for Date, for which exchange->received counts */
 } sf_verdict;
 

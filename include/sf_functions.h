@@ -477,7 +477,8 @@ uint32_t sf_cache_status_in(const sf_seed *seed, uint32_t dialect, const void *t
 
 /*
  * Writes the text of a Cache-Status field (RFC 9211 section 2) whose only member is *hop: a field
- * line that a cache adds after the lines that came from the caches nearer the origin.
+ * line that a cache adds after the lines that came from the caches nearer the origin. If these are
+ * malformed, so is the field with this line, and the hop is lost: sf_cache_status_append tells.
  * The ranges of *hop are in bytes. sf_cache_status reads the text as this hop alone; but if why is
  * SF_OTHER and why_token is one of the tokens that the RFC defines, it reads that token's reason.
  *

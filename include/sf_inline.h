@@ -158,6 +158,10 @@ static inline const char *sf_cause_name(uint32_t cause) {
   }
 }
 
+static inline int sf_is_valid_status(uint32_t status) {
+  return status >= 100 && status <= 599;
+}
+
 static inline const char *sf_outcome_name(uint32_t outcome) {
   switch (outcome) {
   case SF_UNSAID:
@@ -751,8 +755,14 @@ static inline sf_status sf_write_response_priority(sf_response_priority_flags se
 static inline sf_status sf_change_priority(sf_context *context, sf_text text,
                                           sf_priority_flags client, sf_buffer *out) {
   size_t required = 0;
-  uint32_t status = sf_priority_change(&context->seed, text.at, text.length, &client, out->at,
-                                       out->capacity, &required, &context->refusal);
+  uint32_t status = SF_OK;
+  /* What is well-formed in a dialect has the same meaning in SF_RFC9651. */
+  if (context->dialect != SF_RFC9651)
+    status = sf_check(&context->seed, context->dialect, SF_DICT, text.at, text.length,
+                      &context->refusal);
+  if (status == SF_OK)
+    status = sf_priority_change(&context->seed, text.at, text.length, &client, out->at,
+                                out->capacity, &required, &context->refusal);
   return sf_wrote(out, status, required);
 }
 

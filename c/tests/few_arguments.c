@@ -344,6 +344,13 @@ static void priorities(void) {
   CHECK(sf_change_priority(&context, sf_cstr("u="), urgency, &longer) == SF_REFUSED);
   CHECK(context.refusal.offset == 2 && longer.length == 0);
   CHECK(sf_change_priority(&context, sf_cstr("u=5"), forgotten, &longer) == SF_INVALID);
+  /* by the dialect of the context: RFC 8941 has no Date */
+  sf_context newest = sf_context_of(seed, SF_RFC9651);
+  CHECK(sf_change_priority(&context, sf_cstr("x=@1, i"), urgency, &longer) == SF_REFUSED);
+  CHECK(context.refusal.offset == 2 && context.refusal.found == '@' && longer.length == 0);
+  CHECK(sf_change_priority(&newest, sf_cstr("x=@1, i"), urgency, &longer) == SF_OK);
+  CHECK(is(sf_written(&longer), "x=@1, i, u=0"));
+  CHECK(sf_change_priority(&none, sf_cstr("u=5"), urgency, &longer) == SF_BAD_CALL);
 }
 
 static void decisions(void) {
@@ -546,6 +553,8 @@ static void heads(void) {
   CHECK(strict.lines.length == 0 && sf_add_head_line(&strict, wrong[15]) == SF_OK);
   CHECK(is(one[0].name, "Age") && is(one[0].value, ""));
 
+  CHECK(!sf_is_valid_status(99) && sf_is_valid_status(100) && sf_is_valid_status(599));
+  CHECK(!sf_is_valid_status(600) && !sf_is_valid_status(999));
   CHECK(sf_has_field(&head, "pRIORITY") == 1 && sf_has_field(&head, "Via") == 0);
   CHECK(sf_has_field(&strict, "age") == 1 && sf_has_field(&strict, "") == 0);
 

@@ -78,6 +78,11 @@ HasValue name ds n = IsPresent name ds × EachOf (λ d. IsNamed name d → Sets 
 -- directive [..] is present: the cache understands the response status code; the no-store cache
 -- directive is not present in the response [..]; if the cache is shared: the private response
 -- directive is either not present or allows a shared cache to store a modified response"
+-- 5.2.2.5: "The no-store response directive indicates that a cache MUST NOT store any part of
+-- either the immediate request or the response and MUST NOT use the response to satisfy any other
+-- request."
+-- 5.2.2.7: "The unqualified private response directive indicates that a shared cache MUST NOT
+-- store the response"
 -- 5.2.2.3: "When a cache that implements the must-understand directive receives a response that
 -- includes it, the cache SHOULD ignore the no-store directive if it understands and implements the
 -- status code's caching requirements."
@@ -142,7 +147,9 @@ MustValidate ds = IsUnqualified (codes "no-cache") ds
 -- directive (e.g., by a no-cache response directive, a must-revalidate response directive, or an
 -- applicable s-maxage or proxy-revalidate response directive; see Section 5.2.2)."
 -- 5.2.2.2: "once the response has become stale, a cache MUST NOT reuse that response to satisfy
--- another request until it has been successfully validated by the origin"
+-- another request until it has been successfully validated by the origin [..]. In all
+-- circumstances, a cache MUST NOT ignore the must-revalidate directive; in particular, if a cache
+-- is disconnected, the cache MUST generate an error response rather than reuse the stale response."
 -- 5.2.2.8: "once the response has become stale, a shared cache MUST NOT reuse that response [..]
 -- proxy-revalidate does not apply to private caches."
 -- 5.2.2.10: "A shared cache MUST NOT reuse a stale response with s-maxage to satisfy another

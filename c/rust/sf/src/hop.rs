@@ -204,6 +204,18 @@ impl FwdStatus {
     pub const fn get(self) -> u16 {
         self.0
     }
+
+    /// Whether it is a valid status code, from 100 to 599: RFC 9110 section 15 calls the others
+    /// invalid.
+    ///
+    /// ```
+    /// assert!(sf::FwdStatus::new(599).unwrap().is_valid());
+    /// assert!(!sf::FwdStatus::new(600).unwrap().is_valid());
+    /// ```
+    #[must_use]
+    pub const fn is_valid(self) -> bool {
+        self.0 <= 599
+    }
 }
 
 impl TryFrom<u16> for FwdStatus {

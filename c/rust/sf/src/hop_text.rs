@@ -311,7 +311,9 @@ impl Hop<'_> {
     }
 
     /// Writes the text of a Cache-Status field whose only member is this hop: a field line of its
-    /// own, which a cache adds after the lines that came from the caches nearer the origin.
+    /// own, which a cache adds after the lines that came from the caches nearer the origin. If these
+    /// are malformed, so is the field with this line, and the hop is lost:
+    /// [`Hop::append_or_replace_in`] tells.
     ///
     /// # Errors
     ///
