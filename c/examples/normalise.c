@@ -22,7 +22,7 @@ static int fill(sf_seed *seed) {
 
 /* Joins a line to those before, in a buffer that grows as it must. */
 static int add(sf_lines *lines, sf_text line) {
-  uint32_t status = sf_add_line(lines, line);
+  sf_status status = sf_add_line(lines, line);
   if (status != SF_SHORT)
     return status == SF_OK;
   char *longer = realloc(lines->buffer.at, lines->buffer.required);

@@ -56,7 +56,7 @@ static void print_hop(const sf_hop_list *path, const sf_hop *hop) {
 /* The path, once a first call with empty buffers has returned how long it is. */
 static uint32_t print_path(sf_context *context, sf_text text, size_t *nameless) {
   sf_hop_list path = sf_hop_list_in(sf_hops_of(NULL, 0), sf_buffer_of(NULL, 0));
-  uint32_t status = sf_read_hops(context, text, &path);
+  sf_status status = sf_read_hops(context, text, &path);
   *nameless = path.nameless;
   if (status != SF_SHORT)
     return status;

@@ -47,7 +47,7 @@ int main(int argc, char **argv) {
   if (out.at == NULL)
     return 3;
   char *said = out.at;
-  uint32_t status = sf_write_canonical(&context, (sf_kind)kind, text, &out);
+  sf_status status = sf_write_canonical(&context, (sf_kind)kind, text, &out);
   if (status == SF_OK)
     said[out.length] = '\0';
   else {

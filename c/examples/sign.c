@@ -30,7 +30,7 @@ static uint32_t put_others(sf_context *context, sf_text text, const char *label,
   size_t nodes = SF_NODES_SIZE(text.length), bytes = SF_BYTES_SIZE(text.length); /* large enough */
   sf_tree tree = sf_tree_in(sf_nodes_of(allocated(nodes * sizeof(sf_node)), nodes),
                             sf_buffer_of(allocated(bytes), bytes));
-  uint32_t status = sf_read_tree(context, SF_DICT, text, &tree);
+  sf_status status = sf_read_tree(context, SF_DICT, text, &tree);
   if (status == SF_REFUSED)
     printf("refused at %llu\n", (unsigned long long)context->refusal.offset);
   const sf_node *old = sf_find_member(&tree, label); /* NULL if there is none */

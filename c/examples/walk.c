@@ -96,7 +96,7 @@ int main(int argc, char **argv) {
                             sf_buffer_of(malloc(bytes + 1), bytes));
   if (tree.nodes.at == NULL || tree.bytes.at == NULL)
     return 3;
-  uint32_t status = sf_read_tree(&context, (sf_kind)kind, text, &tree);
+  sf_status status = sf_read_tree(&context, (sf_kind)kind, text, &tree);
   if (status == SF_OK)
     walk(&tree, tree.nodes.at, sf_tree_end(&tree), 0);
   else if (status == SF_REFUSED)
