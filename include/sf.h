@@ -189,7 +189,7 @@ typedef struct sf_seed {
 /* Where and why a text is refused (RFC 9651 section 4.2). */
 typedef struct sf_refusal {
   uint64_t offset;        /* length of the text's longest prefix that some well-formed text of the
-                             kind begins with */
+                             kind begins with; of a member that names no cache, its place */
   uint64_t expected_low;  /* bit b: byte b is allowed at that offset, for b from 0 to 63 */
   uint64_t expected_high; /* bit b: byte 64 + b is allowed there */
   int32_t found;          /* the byte at that offset, or SF_ENDED if the text ended */
@@ -203,7 +203,7 @@ typedef struct sf_context {
   sf_seed seed;       /* for the hashes of keys */
   uint32_t dialect;   /* the sf_dialect in which texts are read and written */
   sf_refusal refusal; /* where and why the last text was refused: written with SF_REFUSED and
-                         SF_SECOND_REFUSED alone */
+                         SF_SECOND_REFUSED alone, and by sf_read_hops with SF_NOT_A_CACHE */
   size_t invalid;     /* index of the first node that is wrong: written with SF_INVALID by
                          sf_write_tree and sf_write_built */
 } sf_context;
@@ -351,7 +351,8 @@ typedef struct sf_location {
   uint64_t number;    /* of the line, as messages have it */
   sf_text line;       /* the line */
   sf_refusal refusal; /* with its offset in the line, from 0. Where the line ends too early, that is
-                         its length, and found is -1, also if another line follows */
+                         its length, and found is SF_ENDED, also if another line follows; after an
+                         Item, which has one line, the comma is found */
 } sf_location;
 
 /* Returns the line that a refusal is in, and the refusal in it, if the refused text is these lines,
@@ -1260,8 +1261,9 @@ typedef struct sf_verdict {
                            the cause; of a response that may not be stored, what the directives
                            alone say */
   uint64_t age;         /* its age in seconds: that of the Age field when it is used (4) */
-  int64_t ttl;          /* the lifetime that decided, less the age, for sf_hop.ttl: if negative, for
-                           how long the response has been stale; 0 if has_ttl is 0 */
+  int64_t ttl;          /* the lifetime that decided, less the age, both at most 2^31, for
+                           sf_hop.ttl: if negative, for how long the response has been stale; 0 if
+                           has_ttl is 0 */
   uint32_t has_ttl;     /* 1 if a lifetime decided, otherwise 0, as by no-cache */
   const char *field;    /* the name of the field that decides: that of a target, otherwise Expires
                            or Cache-Control; Cache-Control, too, if the head has none of them */
@@ -1269,8 +1271,8 @@ typedef struct sf_verdict {
   uint32_t is_refused;  /* 1 if no target decides and a line of Cache-Control is malformed, so that
                            it counts as no-store; otherwise 0 */
   size_t refused_line;  /* index in head->lines of the first such line; 0 if there is none */
-  uint32_t is_age_malformed;     /* 1 if Age does not begin with a number, so that it counts as 0;
-                                    otherwise 0 */
+  uint32_t is_age_malformed;     /* 1 if the first member of Age is not one or more digits, so that
+                                    it counts as 0; otherwise 0 */
   uint32_t is_expires_malformed; /* 1 if no target decides and Expires is no HTTP-date or has
                                     several lines, so that it is in the past; otherwise 0 */
   uint32_t is_date_malformed;    /* the same for Date, for which exchange->received counts */

@@ -356,22 +356,24 @@ static inline char *sf_put_number(char *to, const char *before, uint64_t number)
 
 /* Moves a location to the next line of a field, with this offset from its beginning, and returns
  * whether the offset is in it: for the functions below. */
-static inline int sf_locate_in_line(sf_location *location, uint64_t *offset, sf_text line,
-                                    size_t index, uint64_t number) {
+static inline int sf_locate_in_line(sf_location *location, const sf_refusal *refusal,
+                                    uint64_t *offset, sf_text line, size_t index,
+                                    uint64_t number) {
+  int is_within = *offset < line.length;
   location->index = index;
   location->number = number;
   location->line = line;
-  location->refusal.offset = *offset < line.length ? *offset : line.length;
-  if (*offset >= line.length + 2) {
-    *offset -= line.length + 2;
-    return 0;
-  }
-  /* The comma after the line is no byte of it. */
-  if (*offset >= line.length) {
-    location->refusal.found = -1;
+  location->refusal = *refusal;
+  location->refusal.offset = is_within ? *offset : line.length;
+  /* The comma after a line is no byte of it. After a whole Item, which has one line, it is told. */
+  if (!is_within && (!refusal->may_end || line.length == 0)) {
+    location->refusal.found = SF_ENDED;
     location->refusal.may_end = 0;
   }
-  return 1;
+  if (*offset < line.length + 2)
+    return 1;
+  *offset -= line.length + 2;
+  return 0;
 }
 
 static inline sf_location sf_locate_in_lines(const sf_refusal *refusal, const sf_text *lines,
@@ -379,11 +381,10 @@ static inline sf_location sf_locate_in_lines(const sf_refusal *refusal, const sf
   sf_location location;
   uint64_t offset = refusal->offset;
   size_t i;
-  location.refusal = *refusal;
-  (void)sf_locate_in_line(&location, &offset, sf_text_of("", 0), 0, 1);
+  (void)sf_locate_in_line(&location, refusal, &offset, sf_text_of("", 0), 0, 1);
   offset = refusal->offset;
   for (i = 0; i < lines_length; ++i)
-    if (sf_locate_in_line(&location, &offset, lines[i], i, (uint64_t)i + 1))
+    if (sf_locate_in_line(&location, refusal, &offset, lines[i], i, (uint64_t)i + 1))
       break;
   return location;
 }
@@ -756,10 +757,13 @@ static inline sf_status sf_change_priority(sf_context *context, sf_text text,
                                           sf_priority_flags client, sf_buffer *out) {
   size_t required = 0;
   uint32_t status = SF_OK;
-  /* What is well-formed in a dialect has the same meaning in SF_RFC9651. */
-  if (context->dialect != SF_RFC9651)
-    status = sf_check(&context->seed, context->dialect, SF_DICT, text.at, text.length,
-                      &context->refusal);
+  /* What is well-formed in a dialect has the same meaning in SF_RFC9651. SF_INVALID comes first. */
+  if (context->dialect != SF_RFC9651) {
+    status = sf_priority_text(&client, NULL, 0, &required);
+    if (status != SF_INVALID)
+      status = sf_check(&context->seed, context->dialect, SF_DICT, text.at, text.length,
+                        &context->refusal);
+  }
   if (status == SF_OK)
     status = sf_priority_change(&context->seed, text.at, text.length, &client, out->at,
                                 out->capacity, &required, &context->refusal);
@@ -1070,7 +1074,7 @@ static inline sf_location sf_locate_in_head(const sf_refusal *refusal, const sf_
   for (i = 0; i < head->lines.length; ++i) {
     const sf_head_line *line = &head->lines.at[i];
     if (sf_is_named(line, name) &&
-        sf_locate_in_line(&location, &offset, line->value, i, line->number))
+        sf_locate_in_line(&location, refusal, &offset, line->value, i, line->number))
       break;
   }
   return location;

@@ -137,7 +137,18 @@ static void checking(void) {
     refused.offset = 6;
     location = sf_locate_in_lines(&refused, received, 3);
     CHECK(sf_show_excerpt_of_line(&location, 20, &out) == SF_OK);
-    CHECK(is(sf_written(&out), HEAD("0") "line 2, place 0:\n\n^"));
+    CHECK(is(sf_written(&out), "the text ended at place 0, expected a space\nline 2, place 0:\n\n^"));
+    refused.offset = 5; /* a List that can't end there */
+    refused.may_end = 0;
+    location = sf_locate_in_lines(&refused, received, 3);
+    CHECK(sf_show_excerpt_of_line(&location, 20, &out) == SF_OK);
+    CHECK(is(sf_written(&out),
+             "the text ended at place 4, expected a space\nline 1, place 4:\na, b\n    ^"));
+    for (refused.offset = 0; refused.offset < 2; ++refused.offset) {
+      location = sf_locate_in_lines(&refused, received, 3);
+      CHECK(location.refusal.found == '2' && location.refusal.offset == refused.offset);
+    }
+    refused.may_end = 1;
     refused.offset = 15;
     location = sf_locate_in_lines(&refused, received, 3);
     CHECK(sf_show_excerpt_of_line(&location, 4, &out) == SF_OK);
@@ -153,7 +164,7 @@ static void checking(void) {
     CHECK(is(sf_written(&out), HEAD("10") "line 3, place 10:\ne, f\n    ^"));
     location = sf_locate_in_lines(&refused, NULL, 0);
     CHECK(sf_show_excerpt_of_line(&location, 4, &out) == SF_OK);
-    CHECK(is(sf_written(&out), HEAD("0") "line 1, place 0:\n\n^"));
+    CHECK(is(sf_written(&out), "the text ended at place 0, expected a space\nline 1, place 0:\n\n^"));
   }
   /* the refusal stays until another text is refused */
   CHECK(sf_check_text(&context, SF_ITEM, sf_cstr("1")) == SF_OK && context.refusal.offset == 2);
@@ -351,6 +362,7 @@ static void priorities(void) {
   CHECK(sf_change_priority(&newest, sf_cstr("x=@1, i"), urgency, &longer) == SF_OK);
   CHECK(is(sf_written(&longer), "x=@1, i, u=0"));
   CHECK(sf_change_priority(&none, sf_cstr("u=5"), urgency, &longer) == SF_BAD_CALL);
+  CHECK(sf_change_priority(&context, sf_cstr("u="), forgotten, &longer) == SF_INVALID);
 }
 
 static void decisions(void) {
@@ -753,6 +765,11 @@ static void lifetimes(void) {
       {{"Cache-Control: max-age=-1, must-revalidate"}, SF_SHARED_CACHE, 5, NONE},
       {{"Cache-Control: max-age=60, s-maxage=1.5"}, SF_SHARED_CACHE, 5, NONE},
       {{"Cache-Control: max-age=60, s-maxage=1.5"}, SF_PRIVATE_CACHE, 5, 55},
+      {{"Cache-Control: max-age=60, s-maxage=1.5, must-revalidate"}, SF_SHARED_CACHE, 5, NONE},
+      {{"Cache-Control: max-age=60, s-maxage=1.5, must-revalidate"}, SF_PRIVATE_CACHE, 62, -2},
+      {{"Cache-Control: max-age=x, must-revalidate", "Expires: Sun, 06 Nov 1994 08:50:37 GMT"},
+       SF_SHARED_CACHE, 5, NONE},
+      {{"Cache-Control: s-maxage=60, max-age=x, must-revalidate"}, SF_SHARED_CACHE, 62, -2},
       {{"Cache-Control: s-maxage=60, max-age=x"}, SF_SHARED_CACHE, 5, 55},
       {{"Cache-Control: max-age=99999999999"}, SF_SHARED_CACHE, 8, 2147483640},
       {{"Cache-Control: max-age=99999999999"}, SF_SHARED_CACHE, 99999999999, 0},

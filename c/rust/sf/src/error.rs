@@ -18,7 +18,8 @@ const MESSAGE_SIZE: usize = 1024;
 #[non_exhaustive]
 #[derive(Clone, Copy, PartialEq, Eq)]
 pub struct Refusal {
-    /// The length of the text's longest prefix that some well-formed text of the kind begins with.
+    /// The length of the text's longest prefix that some well-formed text of the kind begins with;
+    /// of a member that names no cache, its place.
     pub offset: u64,
     /// The byte at that offset, or `None` if the text ended.
     pub found: Option<u8>,
@@ -150,14 +151,15 @@ impl Refusal {
         place
     }
 
-    /// The refusal at this place of a line of this length: where the line ends, nothing was found,
-    /// also if another line follows, since the comma between them is no byte of a line.
+    /// The refusal at this place of a line of this length: where the line ends too early, nothing was
+    /// found, also if another line follows, since the comma between them is no byte of a line. After
+    /// a whole Item, which has one line, the comma is told.
     pub(crate) fn at_line(self, offset: usize, length: usize) -> Refusal {
-        let is_within = offset < length;
+        let is_told = offset < length || (self.may_end && length > 0);
         Refusal {
             offset: offset as u64,
-            found: self.found.filter(|_| is_within),
-            may_end: self.may_end && is_within,
+            found: self.found.filter(|_| is_told),
+            may_end: self.may_end && is_told,
             ..self
         }
     }
@@ -187,7 +189,8 @@ impl Refusal {
     /// The same of the line that the refusal is in, of lines that were joined by
     /// [`join`](crate::join()) in this order. Both places in the message are in that line, not in
     /// the joined text, and from 0; the line is counted from 1. Where a line ends too early, the
-    /// message says that the text ended there, also if another line follows.
+    /// message says that the text ended there, also if another line follows; after an Item, which has
+    /// one line, the comma is found.
     ///
     /// ```
     /// let lines = ["a, b", "c, (d e, f"];

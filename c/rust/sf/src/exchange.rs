@@ -285,9 +285,9 @@ pub struct Verdict<'a> {
     /// What else counted: the age when the response is used, to be sent in `Age` (RFC 9111 section
     /// 4), and the lifetime by `Expires`.
     pub response: Response,
-    /// The lifetime that decided, less the age: the `ttl` of a hop (RFC 9211 section 2.4). If
-    /// negative, for how long the response has been stale; `None` if no lifetime decided, as by
-    /// `no-cache`.
+    /// The lifetime that decided, less the age, both at most 2^31: the `ttl` of a hop (RFC 9211
+    /// section 2.4). If negative, for how long the response has been stale; `None` if no lifetime
+    /// decided, as by `no-cache`.
     ///
     /// ```
     /// use sf::{Cache, Exchange};
@@ -384,14 +384,15 @@ pub struct Malformed<'a> {
 #[derive(Clone, Copy, Debug, PartialEq, Eq)]
 #[non_exhaustive]
 pub enum Fault {
-    /// A targeted field that is no Dictionary, or a line of `Cache-Control` that is no list of
-    /// directives. The offset is one in the value of the line.
+    /// A targeted field that is no Dictionary, a line of `Cache-Control` that is no list of
+    /// directives, or a field that [`Refusal::in_head`] was asked for. The offset is one in the value
+    /// of the line.
     Refused(Refusal),
     /// The only line of `Expires` or of `Date` is no HTTP-date.
     NotADate,
     /// There is one more line of `Expires` or of `Date`.
     Repeated,
-    /// `Age` does not begin with a number of seconds.
+    /// The first member of `Age` is not one or more digits.
     NotAnAge,
 }
 

@@ -75,6 +75,12 @@ fn rows_of_the_table() {
             let by_expires = want.ends_with(" expires") && from == "Cache-Control";
             let field = if by_expires { "Expires" } else { from.as_str() };
             assert_eq!(verdict.field, field, "{row}");
+            match verdict.decision.reuse {
+                Reuse::Fresh { seconds } => {
+                    assert_eq!(verdict.ttl, seconds.try_into().ok(), "{row}");
+                }
+                _ => assert!(verdict.ttl.map_or(true, |left| left.get() <= 0), "{row}"),
+            }
             assert_eq!(words(&verdict), want, "{row}");
             let [seen, asked] = [verdict.response.age, age].map(|age| age.min(1 << 31));
             assert_eq!(seen, asked, "{row}"); // greater ages count as 2^31
@@ -164,6 +170,61 @@ fn what_may_be_stored() {
         |code, directives| decide(NOW.with_status(code), &control(directives)).allows_heuristic;
     assert!(allows_heuristic(500, "public") && allows_heuristic(200, "x"));
     assert!(!allows_heuristic(200, "max-age=1") && !allows_heuristic(200, "no-store"));
+}
+
+/// `c/tests/few_arguments.c` has these rows, and the sentences of the RFCs.
+#[test]
+fn what_is_left_of_a_lifetime() {
+    const EXPIRES: &str = "Sun, 06 Nov 1994 08:50:37 GMT";
+    let left = |cache, age, head: &[(&str, &str)]| {
+        let exchange = Exchange::at(cache, RECEIVED);
+        let now = exchange.now + age;
+        let verdict = Exchange { now, ..exchange }.decide(&["T"], head);
+        verdict.unwrap().ttl.map(i64::from)
+    };
+    for (directives, age, shared, private) in [
+        ("max-age=60", 100, Some(-40), Some(-40)),
+        ("max-age=60, s-maxage=10", 30, Some(-20), Some(30)),
+        ("s-maxage=60", 62, Some(-2), None),
+        ("max-age=60, must-revalidate", 61, Some(-1), Some(-1)),
+        ("max-age=60, proxy-revalidate", 62, Some(-2), Some(-2)),
+        ("max-age=60, no-cache", 5, None, None),
+        ("max-age=60, private", 5, None, Some(55)),
+        ("max-age=-1, must-revalidate", 5, None, None),
+        ("max-age=60, s-maxage=1.5", 5, None, Some(55)),
+        (
+            "max-age=60, s-maxage=1.5, must-revalidate",
+            62,
+            None,
+            Some(-2),
+        ),
+        (
+            "s-maxage=60, max-age=x, must-revalidate",
+            62,
+            Some(-2),
+            None,
+        ),
+        (
+            "max-age=99999999999",
+            8,
+            Some(2_147_483_640),
+            Some(2_147_483_640),
+        ),
+        ("max-age=99999999999", 99_999_999_999, Some(0), Some(0)),
+        ("public", 5, None, None),
+    ] {
+        let head = [("Cache-Control", directives)];
+        assert_eq!(left(Cache::Shared, age, &head), shared, "{directives}");
+        assert_eq!(left(Cache::Private, age, &head), private, "{directives}");
+    }
+    let expires = ("Expires", EXPIRES);
+    let date = ("Date", "Sun, 06 Nov 1994 08:49:37 GMT");
+    assert_eq!(left(Cache::Shared, 70, &[expires, date]), Some(-10));
+    assert_eq!(left(Cache::Shared, 5, &[("Expires", "0")]), Some(-5));
+    let invalid = ("Cache-Control", "max-age=x, must-revalidate");
+    assert_eq!(left(Cache::Shared, 5, &[invalid, expires]), None);
+    let targeted = [("T", "s-maxage=10"), ("Expires", "0")];
+    assert_eq!(left(Cache::Shared, 9, &targeted), Some(1));
 }
 
 #[test]

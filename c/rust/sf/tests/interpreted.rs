@@ -121,14 +121,19 @@ fn excerpts_of_lines() {
     let head = |place| format!("byte 0x32 '2' at place {place}, expected a space or the end\n");
     assert_eq!(shown(2, 20), head(2) + "line 1, place 2:\na, b\n  ^");
     assert_eq!(shown(5, 20), head(4) + "line 1, place 4:\na, b\n    ^");
-    assert_eq!(shown(6, 20), head(0) + "line 2, place 0:\n\n^");
+    let ended = |place| format!("the text ended at place {place}, expected a space\n");
+    assert_eq!(shown(6, 20), ended(0) + "line 2, place 0:\n\n^");
     assert_eq!(shown(15, 4), head(7) + "line 3, place 7:\n e, \n  ^");
     assert_eq!(shown(99, 4), head(10) + "line 3, place 10:\ne, f\n    ^");
     assert_eq!(shown(u64::MAX, 0), head(10) + "line 3, place 10:\n\n^");
     let none: [&str; 0] = [];
     let shown = refusal.excerpt_of_line(&none, 4).to_string();
-    assert_eq!(shown, head(0) + "line 1, place 0:\n\n^");
+    assert_eq!(shown, ended(0) + "line 1, place 0:\n\n^");
     assert_eq!(refusal.line(none), sf::LinePlace::default());
+    refusal.offset = 5; // a List that can't end there
+    refusal.may_end = false;
+    let shown = refusal.excerpt_of_line(&lines, 20).to_string();
+    assert_eq!(shown, ended(4) + "line 1, place 4:\na, b\n    ^");
 }
 
 #[test]
