@@ -1,7 +1,7 @@
 //! What a cache decides about a response by its whole head: the rows of `tests/decisions.txt`, and
 //! what `Exchange` adds to the directives.
 
-use sf::{Cache, Dialect, Error, Exchange, Fault, FieldDate, Obstacle, Verdict};
+use sf::{Cache, Dialect, Error, Exchange, Fault, FieldDate, Obstacle, Reuse, Verdict};
 use std::fmt::Write;
 
 const TARGETS: [&str; 2] = ["ExampleCDN-Cache-Control", "CDN-Cache-Control"];
