@@ -1,0 +1,5 @@
+pub mod Sets
+pub mod Lists
+pub mod Languages
+pub mod Escapes
+pub mod Bares

@@ -1,0 +1,60 @@
+-- Splits of one text, and runs of bytes in them.
+use Rattle.std.proofs.Common.{◌≡◌, ℕ, Bool, true, false, List, [], ◌∷◌, ◌++◌, refl, sym, ap, ◌∙◌}
+use Rattle.std.proofs.Common.{◌⊎◌, inl, inr, subst}
+use Rattle.sf_value.specs.Grammar.Words.{Every}
+use Rattle.sf_scan.specs.Stops.{FirstIs, Lacks}
+
+-- of two first parts of one text, the second goes on where the first ends
+pub record Longer (a u b v : List ℕ) : Type 0 where
+  pub more : List ℕ
+  pub part : b ≡ a ++ more
+  pub rest : u ≡ more ++ v
+
+-- or it ends before it, at the byte c
+pub record Shorter (a u b v : List ℕ) : Type 0 where
+  pub byte : ℕ
+  pub more : List ℕ
+  pub part : a ≡ b ++ byte ∷ more
+  pub rest : v ≡ byte ∷ (more ++ u)
+
+pub two_parts : (a u b v : List ℕ) → a ++ u ≡ b ++ v → Longer a u b v ⊎ Shorter a u b v
+two_parts [] u b v e = inl (record { more = b; part = refl; rest = e })
+two_parts (x ∷ a) u [] v e = inr (record { byte = x; more = a; part = refl; rest = sym e })
+two_parts (x ∷ a) u (y ∷ b) v e =
+    let tail : a ++ u ≡ b ++ v = cc in
+    let same : x ≡ y = cc in
+    elim (two_parts a u b v tail) [
+      | inl l ↦ inl (record { more = l.more; part = (let p = l.part in cc); rest = l.rest })
+      | inr s ↦ inr (record {
+        byte = s.byte;
+        more = s.more;
+        part = (let p = s.part in cc);
+        rest = s.rest;
+      })
+    ]
+
+-- the longest run of bytes that pass a test is one
+pub record SameSplit (a u b v : List ℕ) : Type 0 where
+  pub part : a ≡ b
+  pub rest : u ≡ v
+
+pub run_once : (p : ℕ → Bool) (a u b v : List ℕ) → Every p a → Lacks p u → Every p b → Lacks p v
+    → a ++ u ≡ b ++ v → SameSplit a u b v
+run_once p [] u [] v h k i j e = record { part = refl; rest = e }
+run_once p [] [] (y ∷ b) v h k i j e = absurd cc
+run_once p [] (x ∷ u) (y ∷ b) v h k i j e =
+    let same : x ≡ y = cc in
+    let fails : p x ≡ false = k in
+    let holds : p y ≡ true = i.0 in
+    absurd cc
+run_once p (x ∷ a) u [] [] h k i j e = absurd cc
+run_once p (x ∷ a) u [] (y ∷ v) h k i j e =
+    let same : x ≡ y = cc in
+    let holds : p x ≡ true = h.0 in
+    let fails : p y ≡ false = j in
+    absurd cc
+run_once p (x ∷ a) u (y ∷ b) v h k i j e =
+    let tail : a ++ u ≡ b ++ v = cc in
+    let same : x ≡ y = cc in
+    let r = run_once p a u b v h.1 k i.1 j tail in
+    record { part = (let q = r.part in cc); rest = r.rest }

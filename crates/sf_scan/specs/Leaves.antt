@@ -1,0 +1,30 @@
+-- Bare items that point into the text.
+use Rattle.std.specs.Prelude.{◌≡◌, ℕ, ◌==◌, if◌then◌else◌, List, [], ◌∷◌}
+use Rattle.sf_value.specs.Ascii.{backslash}
+use Rattle.sf_value.specs.declared.value.Bare.{Bare}
+use Rattle.sf_value.specs.declared.value.Bare.TheVariants as bare
+use Rattle.sf_value.specs.Grammar.Strings.{SpellsString}
+use Rattle.sf_value.specs.Grammar.Tokens.{SpellsToken}
+use Rattle.sf_value.specs.Grammar.Booleans.{SpellsBoolean}
+use Rattle.sf_scan.specs.declared.leaf.Leaf.{Leaf}
+use Rattle.sf_scan.specs.declared.leaf.Leaf.TheVariants as leaf
+
+-- the bytes with each backslash left out that stands before another byte
+abbrev pub unescaped : List ℕ → List ℕ
+unescaped [] = []
+unescaped (b ∷ []) = b ∷ []
+unescaped (b ∷ c ∷ s) = if b == backslash then c ∷ unescaped s else b ∷ unescaped (c ∷ s)
+
+-- the bare item of a leaf
+abbrev pub leaf_bare : Leaf → Bare
+leaf_bare (leaf.Token t) = bare.Token t.now
+leaf_bare (leaf.Text t) = bare.Text t.now
+leaf_bare (leaf.Escaped t) = bare.Text (unescaped t.now)
+leaf_bare (leaf.Boolean b) = bare.Boolean b
+
+-- the bare items that are read so far, as `SpellsBare` defines them
+abbrev pub SpellsLeaf : List ℕ → Bare → Type 0
+SpellsLeaf t (bare.Text s) = SpellsString t s
+SpellsLeaf t (bare.Token s) = SpellsToken t s
+SpellsLeaf t (bare.Boolean b) = SpellsBoolean t b
+SpellsLeaf t x = ⊥

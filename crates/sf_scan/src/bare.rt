@@ -1,0 +1,141 @@
+//! Bare items (RFC 9651 section 4.2.3.1).
+ghost use Rattle.std.specs.Prelude.{◌≡◌, [], ◌∷◌, Ok, MatchResult, MatchOption};
+ghost use Rattle.sf_value.specs.Ascii.{quote, question_mark};
+ghost use Rattle.sf_value.specs.Grammar.Strings.{is_escaped};
+ghost use Rattle.sf_scan.specs.Leaves.{SpellsLeaf};
+ghost use Rattle.sf_scan.specs.Scans.{ScansLeaf, Escapes, StopsEscaped, BeginsToken, BeginsEscaped};
+ghost use Rattle.sf_scan.specs.Stops.{Past, Lacks};
+
+use crate::leaf::Leaf;
+use crate::place::{BarePlace, Stop};
+use crate::runs::{short_run, split, strip};
+use sf_value::can_start_token;
+use sf_value::classes::{InToken, Unescaped};
+
+/// The bare item that the text begins with, and where it stops: the longest one that is there.
+pub fn bare(text: &[u8]) -> Result<(Leaf<'_>, Stop<'_>), Stop<'_>>
+    ensures { ScansLeaf SpellsLeaf text.now result }
+{
+    let Some((first, more)) = split(text) else {
+        return Err(Stop {
+            left: text,
+            place: BarePlace::Start,
+        });
+    };
+    if first == b'"' {
+        return string(more);
+    }
+    if first == b'?' {
+        return boolean(more);
+    }
+    if can_start_token(first) {
+        return Ok(token(text));
+    }
+    Err(Stop {
+        left: text,
+        place: BarePlace::Start,
+    })
+}
+
+/// A Boolean, after its question mark.
+fn boolean(text: &[u8]) -> Result<(Leaf<'_>, Stop<'_>), Stop<'_>>
+    ensures { ScansLeaf (Past (question_mark ∷ []) SpellsLeaf) text.now result }
+{
+    match split(text) {
+        Some((b'0', rest)) => Ok((
+            Leaf::Boolean(false),
+            Stop {
+                left: rest,
+                place: BarePlace::Complete,
+            },
+        )),
+        Some((b'1', rest)) => Ok((
+            Leaf::Boolean(true),
+            Stop {
+                left: rest,
+                place: BarePlace::Complete,
+            },
+        )),
+        _ => Err(Stop {
+            left: text,
+            place: BarePlace::QuestionMark,
+        }),
+    }
+}
+
+/// The Token that the text begins with.
+fn token(text: &[u8]) -> (Leaf<'_>, Stop<'_>)
+    requires { BeginsToken text.now }
+    ensures { ScansLeaf SpellsLeaf text.now (Ok result) }
+{
+    let (run, left) = short_run::<InToken>(&text[1..]);
+    let (token, _) = text.split_at(run.len() + 1);
+    (
+        Leaf::Token(token),
+        Stop {
+            left,
+            place: BarePlace::InToken,
+        },
+    )
+}
+
+/// A String, after its opening quote.
+fn string(text: &[u8]) -> Result<(Leaf<'_>, Stop<'_>), Stop<'_>>
+    ensures { ScansLeaf (Past (quote ∷ []) SpellsLeaf) text.now result }
+{
+    let (run, left) = short_run::<Unescaped>(text);
+    if let Some(rest) = strip(left, b'"') {
+        return Ok((
+            Leaf::Text(run),
+            Stop {
+                left: rest,
+                place: BarePlace::Complete,
+            },
+        ));
+    }
+    let left = after_escapes(text)?;
+    let Some(rest) = strip(left, b'"') else {
+        return Err(Stop {
+            left,
+            place: BarePlace::InString,
+        });
+    };
+    let (inside, _) = text.split_at(text.len() - left.len());
+    Ok((
+        Leaf::Escaped(inside),
+        Stop {
+            left: rest,
+            place: BarePlace::Complete,
+        },
+    ))
+}
+
+/// The rest after the bytes of a String, some of which may be escaped.
+fn after_escapes(text: &[u8]) -> Result<&[u8], Stop<'_>>
+    ensures { MatchResult result (λ rest. Escapes text.now rest.now)
+        (λ stop. StopsEscaped text.now stop) }
+{
+    let (_, mut rest) = short_run::<Unescaped>(text);
+    while let Some(escape) = strip(rest, b'\\') {
+        let Some(more) = after_escaped(escape) else {
+            return Err(Stop {
+                left: escape,
+                place: BarePlace::Backslash,
+            });
+        };
+        let (_, left) = short_run::<Unescaped>(more);
+        rest = left;
+    }
+    Ok(rest)
+}
+
+/// The rest after a byte that may be escaped.
+fn after_escaped(text: &[u8]) -> Option<&[u8]>
+    ensures { MatchOption result (Lacks is_escaped text.now)
+        (λ rest. BeginsEscaped text.now rest.now) }
+{
+    match split(text) {
+        Some((b'"' | b'\\', rest)) => Some(rest),
+        _ => None,
+    }
+}

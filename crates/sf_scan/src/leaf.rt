@@ -1,0 +1,15 @@
+//! Bare items that point into the text.
+
+/// A bare item of a text.
+#[derive(Clone, Copy)]
+pub enum Leaf<'a> {
+    /// The bytes of a Token.
+    Token(&'a [u8]),
+    /// The bytes between the quotes of a String that has no backslash: they are its value.
+    Text(&'a [u8]),
+    /// The bytes between the quotes of a String that has one: its value is these bytes without the
+    /// backslash before each escaped byte.
+    Escaped(&'a [u8]),
+    /// A Boolean.
+    Boolean(bool),
+}

@@ -1,0 +1,8 @@
+//! One pass over a text of structured fields (RFC 9651): each construct has one function, which
+//! gives what it reads to a maker, and where it can't go on returns the exact place.
+#![tactic(auto)]
+
+pub mod bare;
+pub mod leaf;
+pub mod place;
+pub mod runs;

@@ -1,0 +1,72 @@
+//! The places of the grammar where reading may stop, and the bytes that may come there.
+ghost use Rattle.std.specs.Prelude.{◌≡◌};
+ghost use Rattle.sf_scan.specs.Places.{in_bare, ends_bare};
+ghost use Rattle.sf_scan.specs.Sets.{Marks};
+
+/// A place in a bare item.
+#[derive(Clone, Copy, Debug, PartialEq, Eq)]
+pub enum BarePlace {
+    /// Before its first byte.
+    Start,
+    /// After the question mark of a Boolean.
+    QuestionMark,
+    /// After a byte of a Token.
+    InToken,
+    /// Between the quotes of a String.
+    InString,
+    /// After a backslash in a String.
+    Backslash,
+    /// After a bare item that no further byte can belong to.
+    Complete,
+}
+
+const LETTERS: u128 = 0x3ff_ffff << b'a' | 0x3ff_ffff << b'A';
+
+const TOKEN_START: u128 = LETTERS | 1 << b'*';
+
+const TOKEN: u128 = TOKEN_START
+    | 0x3ff << b'0'
+    | 1 << b'!'
+    | 0x1f << b'#'
+    | 1 << b'+'
+    | 7 << b'-'
+    | 1 << b':'
+    | 7 << b'^'
+    | 1 << b'|'
+    | 1 << b'~';
+
+const QUOTE: u128 = 1 << b'"';
+
+const VISIBLE: u128 = (1 << 127) - (1 << b' ');
+
+impl BarePlace {
+    /// The bytes below 128 that may come, a bit for each.
+    pub fn expected(self) -> u128
+        ensures { Marks result (in_bare self) }
+    {
+        match self {
+            BarePlace::Start => TOKEN_START | QUOTE | 1 << b'?',
+            BarePlace::QuestionMark => 3 << b'0',
+            BarePlace::InToken => TOKEN,
+            BarePlace::InString => VISIBLE,
+            BarePlace::Backslash => QUOTE | 1 << b'\\',
+            BarePlace::Complete => 0,
+        }
+    }
+
+    /// Whether the bare item may end here.
+    pub fn may_end(self) -> bool
+        ensures { result ≡ ends_bare self }
+    {
+        matches!(self, BarePlace::InToken | BarePlace::Complete)
+    }
+}
+
+/// Where reading stopped: what is left of the text, and the place before it.
+#[derive(Clone, Copy)]
+pub struct Stop<'a> {
+    /// The rest of the text. Its first byte can't come at the place.
+    pub left: &'a [u8],
+    /// The place.
+    pub place: BarePlace,
+}
