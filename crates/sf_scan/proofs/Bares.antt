@@ -1,1 +1,373 @@
+-- The bare items, each with the places in it.
+use Rattle.std.proofs.Common.{◌≡◌, ◌≢◌, ℕ, Bool, true, false, List, [], ◌∷◌, ◌++◌, refl, sym, ap, ◌∙◌}
+use Rattle.std.proofs.Common.{if◌then◌else◌, Result, Ok, Err, ◌==◌, ◌||◌, subst, append_assoc, append-nil, arith, eqb-true}
+use Rattle.sf_value.specs.Ascii.{quote, backslash, question_mark, digit_zero, digit_one}
+use Rattle.sf_value.specs.declared.dialect.Dialect.{Dialect}
+use Rattle.sf_value.specs.declared.value.Bare.{Bare}
+use Rattle.sf_value.specs.declared.value.Bare.TheVariants as bare
+use Rattle.sf_value.specs.Grammar.Words.{Every, IsWord}
+use Rattle.sf_value.specs.Grammar.Classes.{is_token_start, is_in_token, is_visible}
+use Rattle.sf_value.specs.Grammar.Strings.{is_escaped, is_unescaped, escaped, SpellsString}
+use Rattle.sf_value.specs.Grammar.Booleans.{SpellsBoolean}
+use Rattle.sf_value.specs.Grammar.Tokens.{SpellsToken}
+use Rattle.sf_value.specs.Grammar.Lines.{Continues}
+use Rattle.sf_value.proofs.Runs.{every_append}
+use Rattle.sf_scan.specs.Leaves.{SpellsLeaf, leaf_bare}
+use Rattle.sf_scan.specs.Places.{in_bare, ends_bare, is_bare_start}
+use Rattle.sf_scan.specs.Stops.{Past, IsFollowed, Lacks, FirstIs}
+use Rattle.sf_scan.specs.Scans.{ReadsLeaf, RefusesLeaf, ScansLeaf}
+use Rattle.sf_scan.specs.declared.leaf.Leaf.{Leaf}
+use Rattle.sf_scan.specs.declared.leaf.Leaf.TheVariants as leaf
+use Rattle.sf_scan.specs.declared.place.Stop.{Stop}
+use Rattle.sf_scan.specs.declared.place.BarePlace.TheVariants as place
+use Rattle.sf_scan.proofs.Escapes.{Tail, tail_texts, inside_followed, backslash_followed, closed_followed}
+use Rattle.sf_scan.proofs.Escapes.{backslash_first}
+use Rattle.sf_scan.proofs.Languages.{SameTexts, same_followed, past_followed, past_reads}
+use Rattle.sf_scan.proofs.Languages.{past_refuses}
+use Rattle.sf_scan.proofs.Lists.{heads, tails, cons_nil}
 
+-- the first byte tells the type
+abbrev pub begins : Bare → ℕ → Bool
+begins (bare.Text s) b = b == quote
+begins (bare.Token s) b = is_token_start b
+begins (bare.Boolean c) b = b == question_mark
+begins x b = false
+
+same_byte : (b c : ℕ) → b ≡ c → (b == c) ≡ true
+same_byte b c e = grind arith
+
+pub first_byte : (d : Dialect) (b : ℕ) (t : List ℕ) (x : Bare) → SpellsLeaf d (b ∷ t) x
+    → begins x b ≡ true
+first_byte d b t (bare.Text s) h = same_byte b quote (heads b quote t _ h.0)
+first_byte d b t (bare.Token s) h = by s h.0 h.1
+  where
+    by : (s : List ℕ) → b ∷ t ≡ s → IsWord is_token_start is_in_token s → is_token_start b ≡ true
+    by [] e w = absurd w
+    by (c ∷ s) e w = ap is_token_start (heads b c t s e) ∙ w.0
+first_byte d b t (bare.Boolean c) h = same_byte b question_mark (heads b question_mark t _ h)
+first_byte d b t x h = absurd h
+
+token_apart : (b : ℕ) → is_token_start b ≡ true → ((b == quote) ≡ false) × ((b == question_mark) ≡ false)
+token_apart b h = (grind arith, grind arith)
+
+boolean_of : (d : Dialect) (t : List ℕ) (x : Bare) → SpellsLeaf d (question_mark ∷ t) x
+    → begins x question_mark ≡ true → (v : Bool) × SpellsBoolean (question_mark ∷ t) v
+boolean_of d t (bare.Boolean c) h k = (c, h)
+boolean_of d t (bare.Text s) h k = absurd (cc k)
+boolean_of d t (bare.Token s) h k = absurd (cc k)
+boolean_of d t x h k = absurd h
+
+pub boolean_texts : (d : Dialect) → SameTexts (Past (question_mark ∷ []) SpellsBoolean)
+    (Past (question_mark ∷ []) (SpellsLeaf d)) bare.Boolean
+boolean_texts d = record {
+  up = λ t v h. h;
+  down = λ t x h. boolean_of d t x h (first_byte d question_mark t x h);
+}
+
+string_of : (d : Dialect) (t : List ℕ) (x : Bare) → SpellsLeaf d (quote ∷ t) x
+    → begins x quote ≡ true → (v : List ℕ) × SpellsString (quote ∷ t) v
+string_of d t (bare.Text s) h k = (s, h)
+string_of d t (bare.Boolean c) h k = absurd (cc k)
+string_of d t (bare.Token s) h k = absurd (cc k)
+string_of d t x h k = absurd h
+
+pub string_texts : (d : Dialect) → SameTexts (Past (quote ∷ []) SpellsString)
+    (Past (quote ∷ []) (SpellsLeaf d)) bare.Text
+string_texts d = record {
+  up = λ t v h. h;
+  down = λ t x h. string_of d t x h (first_byte d quote t x h);
+}
+
+token_of : (d : Dialect) (b : ℕ) (t : List ℕ) (x : Bare) → is_token_start b ≡ true
+    → SpellsLeaf d (b ∷ t) x → begins x b ≡ true → (v : List ℕ) × SpellsToken (b ∷ t) v
+token_of d b t (bare.Token s) e h k = (s, h)
+token_of d b t (bare.Text s) e h k = let a = (token_apart b e).0 in absurd cc
+token_of d b t (bare.Boolean c) e h k = let a = (token_apart b e).1 in absurd cc
+token_of d b t x e h k = absurd h
+
+pub token_texts : (d : Dialect) (b : ℕ) → is_token_start b ≡ true
+    → SameTexts (Past (b ∷ []) SpellsToken) (Past (b ∷ []) (SpellsLeaf d)) bare.Token
+token_texts d b e = record {
+  up = λ t v h. h;
+  down = λ t x h. token_of d b t x e h (first_byte d b t x h);
+}
+
+-- a leaf up to the stop, and a stop before its end
+pub reads_leaf : (d : Dialect) (L : List ℕ → Bare → Type 0) (text prefix : List ℕ) (leaf : Leaf)
+    (stop : Stop) → text ≡ prefix ++ stop.left.now → IsFollowed L (in_bare d stop.place) prefix
+    → Lacks (in_bare d stop.place) stop.left.now → L prefix (leaf_bare leaf)
+    → ends_bare stop.place ≡ true → ReadsLeaf d L text leaf stop
+reads_leaf d L text prefix leaf stop e f b s k = record {
+  reads = record {
+    stops = record { prefix = prefix; split = e; followed = f; blocked = b };
+    spelled = s;
+  };
+  ends = k;
+}
+
+pub refuses_leaf : (d : Dialect) (L : List ℕ → Bare → Type 0) (text prefix : List ℕ)
+    (stop : Stop) → text ≡ prefix ++ stop.left.now → IsFollowed L (in_bare d stop.place) prefix
+    → Lacks (in_bare d stop.place) stop.left.now → ((x : Bare) → L prefix x → ⊥)
+    → ends_bare stop.place ≡ false → RefusesLeaf d L text stop
+refuses_leaf d L text prefix stop e f b s k = record {
+  refuses = record {
+    stops = record { prefix = prefix; split = e; followed = f; blocked = b };
+    unspelled = s;
+  };
+  open_still = k;
+}
+
+-- nothing follows
+pub lacks_none : (t : List ℕ) → Lacks (λ b. false) t
+lacks_none [] = tt
+lacks_none (b ∷ t) = refl
+
+-- Booleans
+bool_byte : (b : ℕ) → (b == digit_zero || b == digit_one) ≡ true
+    → b ≡ (if b == digit_one then digit_one else digit_zero)
+bool_byte b h = grind arith
+
+is_bool_byte : (b : ℕ) (v : Bool) → b ≡ (if v then digit_one else digit_zero)
+    → (b == digit_zero || b == digit_one) ≡ true
+is_bool_byte b true h = grind arith
+is_bool_byte b false h = grind arith
+
+mark_followed : IsFollowed (Past (question_mark ∷ []) SpellsBoolean)
+    (λ b. b == digit_zero || b == digit_one) []
+mark_followed = record {
+  viable = (digit_zero ∷ [], false, refl);
+  may = λ b h. ([], b == digit_one, ap (λ x. question_mark ∷ x ∷ []) (bool_byte b h));
+  only = λ b h. is_bool_byte b h.1 (heads b _ _ _ (tails question_mark question_mark _ _ h.2));
+}
+
+value_followed : (v : Bool) (t : List ℕ) → t ≡ (if v then digit_one else digit_zero) ∷ []
+    → IsFollowed (Past (question_mark ∷ []) SpellsBoolean) (λ b. false) t
+value_followed v t e = record {
+  viable = ([], v, ap (λ x. question_mark ∷ x) (append-nil t ∙ e));
+  may = λ b k. absurd (cc k);
+  only = λ b c. absurd (by b c.0 c.1 (tails question_mark question_mark _ _ c.2));
+}
+  where
+    by : (b : ℕ) (u : List ℕ) (w : Bool)
+        → (t ++ b ∷ []) ++ u ≡ (if w then digit_one else digit_zero) ∷ [] → ⊥
+    by b u w k =
+        let f : (if v then digit_one else digit_zero) ∷ (b ∷ u)
+            ≡ (if w then digit_one else digit_zero) ∷ [] = rw e at k in
+        cons_nil b u (tails _ _ _ _ f)
+
+pub boolean_read : (d : Dialect) (v : Bool) (text : List ℕ) (stop : Stop)
+    → text ≡ (if v then digit_one else digit_zero) ∷ stop.left.now → stop.place ≡ place.Complete
+    → ReadsLeaf d (Past (question_mark ∷ []) (SpellsLeaf d)) text (leaf.Boolean v) stop
+boolean_read d v text stop e p =
+    let digit : ℕ = if v then digit_one else digit_zero in
+    reads_leaf d _ text (digit ∷ []) (leaf.Boolean v) stop e
+    (rw p (same_followed _ _ _ (boolean_texts d) _ _ (value_followed v (digit ∷ []) refl)))
+    (rw p (lacks_none stop.left.now)) refl (rw p refl)
+
+no_digit : (t : List ℕ) → FirstIs (λ b. b ≢ digit_zero) t → FirstIs (λ b. b ≢ digit_one) t
+    → Lacks (λ b. b == digit_zero || b == digit_one) t
+no_digit [] h k = tt
+no_digit (b ∷ t) h k = neither b h k
+  where
+    neither : (b : ℕ) → b ≢ digit_zero → b ≢ digit_one → (b == digit_zero || b == digit_one) ≡ false
+    neither b h k = grind arith
+
+pub boolean_refused : (d : Dialect) (stop : Stop) → FirstIs (λ b. b ≢ digit_zero) stop.left.now
+    → FirstIs (λ b. b ≢ digit_one) stop.left.now → stop.place ≡ place.QuestionMark
+    → RefusesLeaf d (Past (question_mark ∷ []) (SpellsLeaf d)) stop.left.now stop
+boolean_refused d stop h k p =
+    refuses_leaf d _ stop.left.now [] stop refl
+    (rw p (same_followed _ _ _ (boolean_texts d) _ _ mark_followed))
+    (rw p (no_digit stop.left.now h k))
+    (λ x h. let v = (boolean_texts d).down [] x h in
+    cons_nil _ _ (sym (tails question_mark question_mark _ _ v.1))) (rw p refl)
+
+-- Tokens
+every_at : (q : ℕ → Bool) (run : List ℕ) (c : ℕ) (u : List ℕ) → Every q ((run ++ c ∷ []) ++ u)
+    → q c ≡ true
+every_at q [] c u h = h.0
+every_at q (b ∷ run) c u h = every_at q run c u h.1
+
+token_followed : (b : ℕ) (run : List ℕ) → is_token_start b ≡ true → Every is_in_token run
+    → IsFollowed (Past (b ∷ []) SpellsToken) is_in_token run
+token_followed b run k h = record {
+  viable = ([], b ∷ run, (ap (λ t. b ∷ t) (append-nil run), (k, h)));
+  may = λ c e. (
+    [],
+    b ∷ (run ++ c ∷ []),
+    (
+      ap (λ t. b ∷ t) (append-nil (run ++ c ∷ [])),
+      (k, every_append is_in_token run (c ∷ []) h (e, tt)),
+    ),
+  );
+  only = λ c e. every_at is_in_token run c e.0
+      (subst (IsWord is_token_start is_in_token) (sym e.2.0) e.2.1).1;
+}
+
+pub token_read : (d : Dialect) (b : ℕ) (run text token : List ℕ) (l : Leaf) (stop : Stop)
+    → is_token_start b ≡ true → Every is_in_token run → text ≡ b ∷ (run ++ stop.left.now)
+    → Lacks is_in_token stop.left.now → stop.place ≡ place.InToken
+    → leaf_bare l ≡ bare.Token (b ∷ run) → ReadsLeaf d (SpellsLeaf d) text l stop
+token_read d b run text token l stop k h e n p v =
+    reads_leaf d _ text (b ∷ run) l stop e
+    (rw p (past_followed (SpellsLeaf d) is_in_token (b ∷ []) run
+    (same_followed _ _ _ (token_texts d b k) _ _ (token_followed b run k h))))
+    (rw p n) (rw v (refl, (k, h))) (rw p refl)
+
+-- Strings
+string_followed : (d : Dialect) (s q : List ℕ) (next : ℕ → Bool) → Every is_visible s
+    → IsFollowed Tail next q
+    → IsFollowed (Past (quote ∷ []) (SpellsLeaf d)) next (escaped s ++ q)
+string_followed d s q next h f =
+    same_followed _ _ _ (string_texts d) _ _
+    (past_followed (Past (quote ∷ []) SpellsString) next (escaped s) q
+    (same_followed _ _ _ (tail_texts s h) _ _ f))
+
+string_unspelled : (d : Dialect) (s q : List ℕ) → Every is_visible s
+    → ((v : List ℕ) → Tail q v → ⊥) → (x : Bare)
+    → Past (quote ∷ []) (SpellsLeaf d) (escaped s ++ q) x → ⊥
+string_unspelled d s q h n x k =
+    let v = (string_texts d).down (escaped s ++ q) x k in
+    let r = (tail_texts s h).down q v.0 v.1 in
+    n r.0 r.1
+
+-- a closed one
+pub string_read : (d : Dialect) (text s : List ℕ) (l : Leaf) (stop : Stop) → Every is_visible s
+    → text ≡ escaped s ++ quote ∷ stop.left.now → stop.place ≡ place.Complete
+    → leaf_bare l ≡ bare.Text s → ReadsLeaf d (Past (quote ∷ []) (SpellsLeaf d)) text l stop
+string_read d text s l stop h e p v =
+    reads_leaf d _ text (escaped s ++ quote ∷ []) l stop
+    (e ∙ sym (append_assoc (escaped s) (quote ∷ []) stop.left.now))
+    (rw p (string_followed d s (quote ∷ []) _ h closed_followed)) (rw p (lacks_none stop.left.now))
+    (rw v (refl, h)) (rw p refl)
+
+no_tail : (v : List ℕ) → Tail [] v → ⊥
+no_tail [] h = cons_nil _ _ (sym h.0)
+no_tail (c ∷ v) h = by (is_escaped c) refl
+  where
+    by : (x : Bool) → is_escaped c ≡ x → ⊥
+    by true i =
+        let k = h.0 in
+        let f : [] ≡ backslash ∷ (c ∷ (escaped v ++ quote ∷ [])) = rw i at k in
+        cons_nil _ _ (sym f)
+    by false i =
+        let k = h.0 in
+        let f : [] ≡ c ∷ (escaped v ++ quote ∷ []) = rw i at k in
+        cons_nil _ _ (sym f)
+
+-- an open one
+invisible : (b : ℕ) → is_unescaped b ≡ false → b ≢ quote → b ≢ backslash → is_visible b ≡ false
+invisible b h q s = grind arith
+
+lacks_visible : (t : List ℕ) → Lacks is_unescaped t → FirstIs (λ b. b ≢ quote) t
+    → FirstIs (λ b. b ≢ backslash) t → Lacks is_visible t
+lacks_visible [] h q s = tt
+lacks_visible (b ∷ t) h q s = invisible b h q s
+
+pub no_escape_left : (t : List ℕ) → Lacks (λ b. b == backslash) t → FirstIs (λ b. b ≢ backslash) t
+no_escape_left [] h = tt
+no_escape_left (b ∷ t) h = differs b h
+  where
+    differs : (b : ℕ) → (b == backslash) ≡ false → b ≢ backslash
+    differs b h = grind arith
+
+pub string_open : (d : Dialect) (text s : List ℕ) (stop : Stop) → Every is_visible s
+    → text ≡ escaped s ++ stop.left.now → Lacks is_unescaped stop.left.now
+    → FirstIs (λ b. b ≢ quote) stop.left.now → FirstIs (λ b. b ≢ backslash) stop.left.now
+    → stop.place ≡ place.InString
+    → RefusesLeaf d (Past (quote ∷ []) (SpellsLeaf d)) text stop
+string_open d text s stop h e n q b p =
+    refuses_leaf d _ text (escaped s ++ []) stop
+    (e ∙ ap (λ t. t ++ stop.left.now) (sym (append-nil (escaped s))))
+    (rw p (string_followed d s [] _ h inside_followed))
+    (rw p (lacks_visible stop.left.now n q b)) (string_unspelled d s [] h no_tail) (rw p refl)
+
+-- after a backslash
+no_backslash_tail : (v : List ℕ) → Tail (backslash ∷ []) v → ⊥
+no_backslash_tail [] h = slash_apart (heads _ _ _ _ h.0)
+  where
+    slash_apart : backslash ≡ quote → ⊥
+    slash_apart e = omega arith
+no_backslash_tail (c ∷ v) h = by (is_escaped c) refl
+  where
+    by : (x : Bool) → is_escaped c ≡ x → ⊥
+    by true i =
+        let k = h.0 in
+        let f : backslash ∷ [] ≡ backslash ∷ (c ∷ (escaped v ++ quote ∷ [])) = rw i at k in
+        cons_nil _ _ (sym (tails _ _ _ _ f))
+    by false i =
+        let k = h.0 in
+        let f : backslash ∷ [] ≡ c ∷ (escaped v ++ quote ∷ []) = rw i at k in
+        backslash_first c i (sym (heads _ _ _ _ f))
+
+pub string_escape : (d : Dialect) (text s : List ℕ) (stop : Stop) → Every is_visible s
+    → text ≡ escaped s ++ backslash ∷ stop.left.now → Lacks is_escaped stop.left.now
+    → stop.place ≡ place.Backslash
+    → RefusesLeaf d (Past (quote ∷ []) (SpellsLeaf d)) text stop
+string_escape d text s stop h e n p =
+    refuses_leaf d _ text (escaped s ++ backslash ∷ []) stop
+    (e ∙ sym (append_assoc (escaped s) (backslash ∷ []) stop.left.now))
+    (rw p (string_followed d s (backslash ∷ []) _ h backslash_followed)) (rw p n)
+    (string_unspelled d s (backslash ∷ []) h no_backslash_tail) (rw p refl)
+
+-- before a bare item
+start_of : (d : Dialect) (x : Bare) (b : ℕ) → begins x b ≡ true → is_bare_start d b ≡ true
+start_of d (bare.Text s) b h = grind arith
+start_of d (bare.Token s) b h = grind arith
+start_of d (bare.Boolean c) b h = grind arith
+start_of d x b h = absurd (cc h)
+
+started : (d : Dialect) (b : ℕ) → is_bare_start d b ≡ true → Continues (SpellsLeaf d) (b ∷ [])
+started d b h = by (is_token_start b) refl (b == quote) refl
+  where
+    by : (x : Bool) → is_token_start b ≡ x → (y : Bool) → (b == quote) ≡ y
+        → Continues (SpellsLeaf d) (b ∷ [])
+    by true e y f = ([], bare.Token (b ∷ []), (refl, (e, tt)))
+    by false e true f = (
+      quote ∷ [],
+      bare.Text [],
+      (ap (λ x. x ∷ quote ∷ []) (eqb-true b quote f), tt),
+    )
+    by false e false f =
+        let k : (b == question_mark) ≡ true = rw (e, f) at h in (
+          digit_zero ∷ [],
+          bare.Boolean false,
+          ap (λ x. x ∷ digit_zero ∷ []) (eqb-true b question_mark k),
+        )
+
+unstarted : (d : Dialect) (x : Bare) → SpellsLeaf d [] x → ⊥
+unstarted d (bare.Text s) h = cons_nil _ _ (sym h.0)
+unstarted d (bare.Token s) h = subst (IsWord is_token_start is_in_token) (sym h.0) h.1
+unstarted d (bare.Boolean c) h = cons_nil _ _ (sym h)
+unstarted d x h = h
+
+pub no_start : (d : Dialect) (b : ℕ) (t more : List ℕ) → t ≡ b ∷ more → b ≢ quote
+    → b ≢ question_mark → is_token_start b ≡ false → Lacks (is_bare_start d) t
+no_start d b t more e q m s = rw e (none b q m s)
+  where
+    none : (b : ℕ) → b ≢ quote → b ≢ question_mark → is_token_start b ≡ false
+        → is_bare_start d b ≡ false
+    none b q m s = grind arith
+
+pub no_byte : (d : Dialect) (t : List ℕ) → t ≡ [] → Lacks (is_bare_start d) t
+no_byte d t e = rw e tt
+
+pub bare_refused : (d : Dialect) (stop : Stop) → Lacks (is_bare_start d) stop.left.now
+    → stop.place ≡ place.Start → RefusesLeaf d (SpellsLeaf d) stop.left.now stop
+bare_refused d stop n p =
+    refuses_leaf d _ stop.left.now [] stop refl
+    (rw p (record {
+      viable = (quote ∷ quote ∷ [], bare.Text [], (refl, tt));
+      may = started d;
+      only = λ b c. start_of d c.1 b (first_byte d b c.0 c.1 c.2);
+    }))
+    (rw p n) (unstarted d) (rw p refl)
+
+-- seen from the first byte on
+pub past_scans : (d : Dialect) (L : List ℕ → Bare → Type 0) (p text whole : List ℕ)
+    (r : Result (Leaf × Stop) Stop) → whole ≡ p ++ text → ScansLeaf d (Past p L) text r
+    → ScansLeaf d L whole r
+past_scans d L p text whole (Ok r) e h =
+    record { reads = past_reads L _ p text whole _ _ e h.reads; ends = h.ends }
+past_scans d L p text whole (Err s) e h =
+    record { refuses = past_refuses L _ p text whole _ e h.refuses; open_still = h.open_still }

@@ -1,7 +1,6 @@
 -- The escaped bytes of Strings, and what may follow them.
 use Rattle.std.proofs.Common.{◌≡◌, ℕ, Bool, true, false, cond, List, [], ◌∷◌, ◌++◌, refl, sym, ap, ◌∙◌}
-use Rattle.std.proofs.Common.{◌⊎◌, ◌==◌, ◌||◌, subst, append_assoc, append-nil, arith}
-use Rattle.std.proofs.lemmas.Bool.Decides.{nat_tests}
+use Rattle.std.proofs.Common.{◌⊎◌, inl, inr, eqb-true, ◌==◌, ◌||◌, subst, append_assoc, arith}
 use Rattle.sf_value.specs.Ascii.{quote, backslash}
 use Rattle.sf_value.specs.Grammar.Words.{Every}
 use Rattle.sf_value.specs.Grammar.Classes.{is_visible}
@@ -9,9 +8,10 @@ use Rattle.sf_value.specs.Grammar.Strings.{is_escaped, is_unescaped, escaped, Sp
 use Rattle.sf_value.proofs.Runs.{every_append}
 use Rattle.sf_value.proofs.Words.{every_map}
 use Rattle.sf_scan.specs.Leaves.{unescaped}
-use Rattle.sf_scan.specs.Stops.{Past, IsFollowed, Lacks}
-use Rattle.sf_scan.specs.Scans.{PastEscaped}
+use Rattle.sf_scan.specs.Stops.{Past, IsFollowed}
+use Rattle.sf_scan.specs.Scans.{PastEscaped, BeginsEscaped}
 use Rattle.sf_scan.proofs.Languages.{SameTexts}
+use Rattle.sf_scan.proofs.Lists.{heads, tails, cons_nil}
 
 pub escaped_append : (s r : List ℕ) → escaped (s ++ r) ≡ escaped s ++ escaped r
 escaped_append [] r = refl
@@ -47,7 +47,7 @@ pub record Rest (s rest v : List ℕ) : Type 0 where
   pub value : v ≡ s ++ bytes
   pub tail : Tail rest bytes
 
-backslash_first : (b : ℕ) → is_escaped b ≡ false → b ≡ backslash → ⊥
+pub backslash_first : (b : ℕ) → is_escaped b ≡ false → b ≡ backslash → ⊥
 backslash_first b h e = grind arith
 
 quote_first : (b : ℕ) → is_escaped b ≡ false → b ≡ quote → ⊥
@@ -64,27 +64,26 @@ rest_of (b ∷ s) rest [] e h = absurd (by (is_escaped b) refl)
     by false i =
         let f : b ∷ (escaped s ++ rest) ≡ quote ∷ [] = rw i at e in
         let g : b ≡ quote = cc in quote_first b i g
-rest_of (b ∷ s) rest (c ∷ v) e h = by (is_escaped b) refl (is_escaped c) refl
+rest_of (b ∷ s) rest (c ∷ v) e h =
+    by (λ t. rest_of s rest v t h.1) (is_escaped b) refl (is_escaped c) refl
   where
-    on : b ≡ c → escaped s ++ rest ≡ escaped v ++ quote ∷ [] → Rest (b ∷ s) rest (c ∷ v)
-    on same tail =
-        let r = rest_of s rest v tail h.1 in
-        record { bytes = r.bytes; value = (let k = r.value in cc); tail = r.tail }
+    on : Rest s rest v → b ≡ c → Rest (b ∷ s) rest (c ∷ v)
+    on r same = record { bytes = r.bytes; value = (let k = r.value in cc); tail = r.tail }
 
-    by : (x : Bool) → is_escaped b ≡ x → (y : Bool) → is_escaped c ≡ y → Rest (b ∷ s) rest (c ∷ v)
-    by true i true j =
+    by : (escaped s ++ rest ≡ escaped v ++ quote ∷ [] → Rest s rest v) → (x : Bool) → is_escaped b ≡ x → (y : Bool) → is_escaped c ≡ y → Rest (b ∷ s) rest (c ∷ v)
+    by more true i true j =
         let f : backslash ∷ (b ∷ (escaped s ++ rest))
             ≡ backslash ∷ (c ∷ (escaped v ++ quote ∷ [])) = rw (i, j) at e in
-        on cc cc
-    by true i false j =
+        on (more cc) cc
+    by more true i false j =
         let f : backslash ∷ (b ∷ (escaped s ++ rest)) ≡ c ∷ (escaped v ++ quote ∷ []) = rw (i, j) at e in
         absurd (backslash_first c j cc)
-    by false i true j =
+    by more false i true j =
         let f : b ∷ (escaped s ++ rest) ≡ backslash ∷ (c ∷ (escaped v ++ quote ∷ [])) = rw (i, j) at e in
         absurd (backslash_first b i cc)
-    by false i false j =
+    by more false i false j =
         let f : b ∷ (escaped s ++ rest) ≡ c ∷ (escaped v ++ quote ∷ []) = rw (i, j) at e in
-        on cc cc
+        on (more cc) cc
 
 -- what follows the bytes of a String is the rest of it
 pub tail_texts : (s : List ℕ) → Every is_visible s
@@ -99,10 +98,21 @@ tail_texts s h = record {
   down = λ t v k. let r = rest_of s t v (let e = k.0 in cc) k.1 in (r.bytes, r.tail);
 }
 
--- the value of what is between the quotes
+unescaped_byte : (b : ℕ) (t : List ℕ) → (b == backslash) ≡ false → unescaped (b ∷ t) ≡ b ∷ unescaped t
+unescaped_byte b [] h = refl
+unescaped_byte b (c ∷ t) h = rw h refl
+
+no_backslash : (b : ℕ) → is_escaped b ≡ false → (b == backslash) ≡ false
+no_backslash b h = grind arith
+
 pub unescaped_escaped : (s : List ℕ) → unescaped (escaped s) ≡ s
 unescaped_escaped [] = refl
-unescaped_escaped (b ∷ s) = ?
+unescaped_escaped (b ∷ s) = by (is_escaped b) refl (unescaped_escaped s)
+  where
+    by : (c : Bool) → is_escaped b ≡ c → unescaped (escaped s) ≡ s
+        → unescaped (cond c (backslash ∷ b ∷ escaped s) (b ∷ escaped s)) ≡ b ∷ s
+    by true i e = ap (λ t. b ∷ t) e
+    by false i e = unescaped_byte b (escaped s) (no_backslash b i) ∙ ap (λ t. b ∷ t) e
 
 -- the places in a String
 visible_text : (s : List ℕ) → Every is_visible s → Every is_visible (escaped s ++ quote ∷ [])
@@ -118,7 +128,11 @@ one_byte : (b : ℕ) → is_visible b ≡ true → is_escaped b ≡ false → Ta
 one_byte b h i = (rw i refl, (h, tt))
 
 escaped_cases : (b : ℕ) → is_escaped b ≡ true → (b ≡ quote) ⊎ (b ≡ backslash)
-escaped_cases b h = ?
+escaped_cases b h = by (b == quote) refl
+  where
+    by : (x : Bool) → (b == quote) ≡ x → (b ≡ quote) ⊎ (b ≡ backslash)
+    by true e = inl (eqb-true b quote e)
+    by false e = inr (eqb-true b backslash (let k : (b == quote || b == backslash) ≡ true = h in rw e at k))
 
 pub inside_followed : IsFollowed Tail is_visible []
 inside_followed = record {
@@ -130,42 +144,85 @@ inside_followed = record {
     by : (b : ℕ) → is_visible b ≡ true → (x : Bool) → is_escaped b ≡ x
         → (u v : List ℕ) × Tail (b ∷ u) v
     by b h false i = (quote ∷ [], b ∷ [], one_byte b h i)
-    by b h true i = ?
+    by b h true i = elim (escaped_cases b i) [
+      | inl e ↦ ([], [], (ap (λ x. x ∷ []) e, tt))
+      | inr e ↦ (
+        quote ∷ quote ∷ [],
+        quote ∷ [],
+        (ap (λ x. x ∷ quote ∷ quote ∷ []) e, (refl, tt)),
+      )
+    ]
+
+escaped_visible : (b : ℕ) → is_escaped b ≡ true → is_visible b ≡ true
+escaped_visible b h = elim (escaped_cases b h) [ inl e ↦ rw e refl | inr e ↦ rw e refl ]
+
+after_backslash : (b : ℕ) (u v : List ℕ) → backslash ∷ (b ∷ u) ≡ escaped v ++ quote ∷ []
+    → is_escaped b ≡ true
+after_backslash b u [] e = absurd cc
+after_backslash b u (c ∷ v) e = on (is_escaped c) refl
+  where
+    on : (x : Bool) → is_escaped c ≡ x → is_escaped b ≡ true
+    on true i =
+        let f : backslash ∷ (b ∷ u) ≡ backslash ∷ (c ∷ (escaped v ++ quote ∷ [])) = rw i at e in
+        let same : b ≡ c = cc in rw same i
+    on false i =
+        let f : backslash ∷ (b ∷ u) ≡ c ∷ (escaped v ++ quote ∷ []) = rw i at e in
+        absurd (backslash_first c i cc)
 
 pub backslash_followed : IsFollowed Tail is_escaped (backslash ∷ [])
 backslash_followed = record {
   viable = (quote ∷ quote ∷ [], quote ∷ [], (refl, (refl, tt)));
-  may = λ b h. (quote ∷ [], b ∷ [], (rw h refl, ?));
-  only = λ b c. by b c.0 c.1 c.2.0;
+  may = λ b h. (quote ∷ [], b ∷ [], (rw h refl, (escaped_visible b h, tt)));
+  only = λ b c. after_backslash b c.0 c.1 c.2.0;
 }
+
+apart : quote ≡ backslash → ⊥
+apart e = omega arith
+
+after_quote : (b : ℕ) (u v : List ℕ) → quote ∷ (b ∷ u) ≡ escaped v ++ quote ∷ [] → ⊥
+after_quote b u [] e = cons_nil b u (tails quote quote (b ∷ u) [] e)
+after_quote b u (c ∷ v) e = on (is_escaped c) refl
   where
-    by : (b : ℕ) (u v : List ℕ) → backslash ∷ (b ∷ u) ≡ escaped v ++ quote ∷ [] → is_escaped b ≡ true
-    by b u [] e = absurd cc
-    by b u (c ∷ v) e = on (is_escaped c) refl
-      where
-        on : (x : Bool) → is_escaped c ≡ x → is_escaped b ≡ true
-        on true i =
-            let f : backslash ∷ (b ∷ u) ≡ backslash ∷ (c ∷ (escaped v ++ quote ∷ [])) = rw i at e in
-            let same : b ≡ c = cc in rw same i
-        on false i =
-            let f : backslash ∷ (b ∷ u) ≡ c ∷ (escaped v ++ quote ∷ []) = rw i at e in
-            absurd (backslash_first c i cc)
+    on : (x : Bool) → is_escaped c ≡ x → ⊥
+    on true i =
+        let f : quote ∷ (b ∷ u) ≡ backslash ∷ (c ∷ (escaped v ++ quote ∷ [])) = rw i at e in
+        apart (heads quote backslash (b ∷ u) (c ∷ (escaped v ++ quote ∷ [])) f)
+    on false i =
+        let f : quote ∷ (b ∷ u) ≡ c ∷ (escaped v ++ quote ∷ []) = rw i at e in
+        quote_first c i (sym (heads quote c (b ∷ u) (escaped v ++ quote ∷ []) f))
 
 pub closed_followed : IsFollowed Tail (λ b. false) (quote ∷ [])
 closed_followed = record {
   viable = ([], [], (refl, tt));
   may = λ b h. absurd cc;
-  only = λ b c. by b c.0 c.1 c.2.0;
+  only = λ b c. absurd (after_quote b c.0 c.1 c.2.0);
+}
+
+-- how they are read
+pub past_run : (text run rest : List ℕ) → text ≡ run ++ rest → Every is_unescaped run
+    → PastEscaped text rest
+past_run text run rest e h = record {
+  bytes = run;
+  split = e ∙ ap (λ x. x ++ rest) (sym (escaped_run run h));
+  visible = visible_run run h;
+}
+
+pub past_escape : (text rest escape more run left : List ℕ) → PastEscaped text rest
+    → rest ≡ backslash ∷ escape → BeginsEscaped escape more → more ≡ run ++ left
+    → Every is_unescaped run → PastEscaped text left
+past_escape text rest escape more run left p e b f h = record {
+  bytes = p.bytes ++ b.0 ∷ run;
+  split = p.split ∙ (ap (λ x. escaped p.bytes ++ x) whole
+      ∙ (sym (append_assoc (escaped p.bytes) (escaped (b.0 ∷ run)) left)
+      ∙ ap (λ x. x ++ left) (sym (escaped_append p.bytes (b.0 ∷ run)))));
+  visible = every_append is_visible p.bytes (b.0 ∷ run) p.visible
+      (escaped_visible b.0 b.2, visible_run run h);
 }
   where
-    by : (b : ℕ) (u v : List ℕ) → quote ∷ (b ∷ u) ≡ escaped v ++ quote ∷ [] → false ≡ true
-    by b u [] e = absurd cc
-    by b u (c ∷ v) e = on (is_escaped c) refl
-      where
-        on : (x : Bool) → is_escaped c ≡ x → false ≡ true
-        on true i =
-            let f : quote ∷ (b ∷ u) ≡ backslash ∷ (c ∷ (escaped v ++ quote ∷ [])) = rw i at e in
-            absurd cc
-        on false i =
-            let f : quote ∷ (b ∷ u) ≡ c ∷ (escaped v ++ quote ∷ []) = rw i at e in
-            absurd (quote_first c i cc)
+    first : escaped (b.0 ∷ run) ≡ backslash ∷ b.0 ∷ run
+    first = let i : is_escaped b.0 ≡ true = b.2 in
+        rw i (ap (λ x. backslash ∷ b.0 ∷ x) (escaped_run run h))
+
+    whole : rest ≡ escaped (b.0 ∷ run) ++ left
+    whole = e ∙ (ap (λ x. backslash ∷ x) (b.1 ∙ ap (λ x. b.0 ∷ x) f)
+        ∙ ap (λ x. x ++ left) (sym first))

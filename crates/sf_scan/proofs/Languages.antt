@@ -1,8 +1,8 @@
 -- Languages: where their texts stop, seen from other languages.
-use Rattle.std.proofs.Common.{◌≡◌, ℕ, Bool, true, false, List, [], ◌∷◌, ◌++◌, refl, sym, ap, ◌∙◌}
-use Rattle.std.proofs.Common.{◌⊎◌, inl, inr, subst, append_assoc}
+use Rattle.std.proofs.Common.{◌≡◌, ℕ, Bool, List, [], ◌∷◌, ◌++◌, sym, ap, ◌∙◌}
+use Rattle.std.proofs.Common.{subst, append_assoc}
 use Rattle.sf_value.specs.Grammar.Lines.{Continues}
-use Rattle.sf_scan.specs.Stops.{Past, IsFollowed, Stops, Reads, Refuses, Lacks}
+use Rattle.sf_scan.specs.Stops.{Past, IsFollowed, Stops, Reads, Refuses}
 
 -- what continues a prefix and a byte continues the prefix
 pub continues_before : {V : Type 0} (L : List ℕ → V → Type 0) (p u : List ℕ)

@@ -1,8 +1,19 @@
 -- Splits of one text, and runs of bytes in them.
-use Rattle.std.proofs.Common.{◌≡◌, ℕ, Bool, true, false, List, [], ◌∷◌, ◌++◌, refl, sym, ap, ◌∙◌}
-use Rattle.std.proofs.Common.{◌⊎◌, inl, inr, subst}
+use Rattle.std.proofs.Common.{◌≡◌, ℕ, Bool, true, false, List, [], ◌∷◌, ◌++◌, refl, sym, ap}
+use Rattle.std.proofs.Common.{◌⊎◌, inl, inr, length, take, ◌-◌, length-append, arith}
+use Rattle.std.proofs.Math.Seq.{take-append_seam}
 use Rattle.sf_value.specs.Grammar.Words.{Every}
-use Rattle.sf_scan.specs.Stops.{FirstIs, Lacks}
+use Rattle.sf_scan.specs.Stops.{Lacks}
+
+-- the parts of equal lists
+pub heads : (x y : ℕ) (s t : List ℕ) → x ∷ s ≡ y ∷ t → x ≡ y
+heads x y s t e = cc
+
+pub tails : (x y : ℕ) (s t : List ℕ) → x ∷ s ≡ y ∷ t → s ≡ t
+tails x y s t e = cc
+
+pub cons_nil : (x : ℕ) (s : List ℕ) → x ∷ s ≡ [] → ⊥
+cons_nil x s e = cc
 
 -- of two first parts of one text, the second goes on where the first ends
 pub record Longer (a u b v : List ℕ) : Type 0 where
@@ -58,3 +69,16 @@ run_once p (x ∷ a) u (y ∷ b) v h k i j e =
     let same : x ≡ y = cc in
     let r = run_once p a u b v h.1 k i.1 j tail in
     record { part = (let q = r.part in cc); rest = r.rest }
+
+-- the first part of a text, cut at its length
+pub front_of : (text part rest : List ℕ) (n : ℕ) → text ≡ part ++ rest → n ≡ length part
+    → take n text ≡ part
+front_of text part rest n e k = rw (k, e) (take-append_seam part rest)
+
+pub front_before : (text part rest : List ℕ) → text ≡ part ++ rest
+    → take (length text - length rest) text ≡ part
+front_before text part rest e = front_of text part rest _ e (before text part rest e)
+  where
+    before : (text part rest : List ℕ) → text ≡ part ++ rest → length text - length rest ≡ length part
+    before text part rest e =
+        let k = ap length e in omega (arith, k, length-append part rest)

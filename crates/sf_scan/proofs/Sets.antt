@@ -1,6 +1,6 @@
 -- Sets of bytes as the bits of a number, bit by bit.
 use Rattle.std.proofs.Common.{◌≡◌, ℕ, zero, ◌^◌, ◌<◌, ◌≤◌, Bool, true, false, ◌==◌}
-use Rattle.std.proofs.Common.{nat_lt, ◌&&◌, ◌||◌, cond, refl, ap, ap₂, ◌∙◌, ⊎_elim}
+use Rattle.std.proofs.Common.{nat_lt, ◌&&◌, ◌||◌, cond, ap₂, ◌∙◌, ⊎_elim}
 use Rattle.std.proofs.Common.{arith, bit_or, eqb-true, max}
 use Rattle.std.specs.Int.{bit_at}
 use Rattle.std.proofs.lemmas.Nat.Bits.{bit_at_or, bit_at_above, bit_at-zero}

@@ -1,6 +1,7 @@
 -- Bare items that point into the text.
-use Rattle.std.specs.Prelude.{◌≡◌, ℕ, ◌==◌, if◌then◌else◌, List, [], ◌∷◌}
+use Rattle.std.specs.Prelude.{ℕ, ◌==◌, if◌then◌else◌, List, [], ◌∷◌}
 use Rattle.sf_value.specs.Ascii.{backslash}
+use Rattle.sf_value.specs.declared.dialect.Dialect.{Dialect}
 use Rattle.sf_value.specs.declared.value.Bare.{Bare}
 use Rattle.sf_value.specs.declared.value.Bare.TheVariants as bare
 use Rattle.sf_value.specs.Grammar.Strings.{SpellsString}
@@ -23,8 +24,8 @@ leaf_bare (leaf.Escaped t) = bare.Text (unescaped t.now)
 leaf_bare (leaf.Boolean b) = bare.Boolean b
 
 -- the bare items that are read so far, as `SpellsBare` defines them
-abbrev pub SpellsLeaf : List ℕ → Bare → Type 0
-SpellsLeaf t (bare.Text s) = SpellsString t s
-SpellsLeaf t (bare.Token s) = SpellsToken t s
-SpellsLeaf t (bare.Boolean b) = SpellsBoolean t b
-SpellsLeaf t x = ⊥
+abbrev pub SpellsLeaf : Dialect → List ℕ → Bare → Type 0
+SpellsLeaf d t (bare.Text s) = SpellsString t s
+SpellsLeaf d t (bare.Token s) = SpellsToken t s
+SpellsLeaf d t (bare.Boolean b) = SpellsBoolean t b
+SpellsLeaf d t x = ⊥

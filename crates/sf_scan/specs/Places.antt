@@ -1,23 +1,24 @@
 -- The places of the grammar where reading may stop, by the bytes that may come there.
-use Rattle.std.specs.Prelude.{◌≡◌, ℕ, Bool, true, false, ◌==◌, ◌||◌, List, [], ◌∷◌}
+use Rattle.std.specs.Prelude.{ℕ, Bool, true, false, ◌==◌, ◌||◌}
 use Rattle.sf_value.specs.Ascii.{quote, question_mark, digit_zero, digit_one}
 use Rattle.sf_value.specs.Grammar.Classes.{is_token_start, is_in_token, is_visible}
 use Rattle.sf_value.specs.Grammar.Strings.{is_escaped}
+use Rattle.sf_value.specs.declared.dialect.Dialect.{Dialect}
 use Rattle.sf_scan.specs.declared.place.BarePlace.{BarePlace}
 use Rattle.sf_scan.specs.declared.place.BarePlace.TheVariants as place
 
 -- the first bytes of the bare items that are read so far
-abbrev pub is_bare_start : ℕ → Bool
-is_bare_start b = is_token_start b || (b == quote || b == question_mark)
+abbrev pub is_bare_start : Dialect → ℕ → Bool
+is_bare_start d b = is_token_start b || (b == quote || b == question_mark)
 
 -- the bytes that may come at a place in a bare item
-abbrev pub in_bare : BarePlace → ℕ → Bool
-in_bare place.Start b = is_bare_start b
-in_bare place.QuestionMark b = b == digit_zero || b == digit_one
-in_bare place.InToken b = is_in_token b
-in_bare place.InString b = is_visible b
-in_bare place.Backslash b = is_escaped b
-in_bare place.Complete b = false
+abbrev pub in_bare : Dialect → BarePlace → ℕ → Bool
+in_bare d place.Start b = is_bare_start d b
+in_bare d place.QuestionMark b = b == digit_zero || b == digit_one
+in_bare d place.InToken b = is_in_token b
+in_bare d place.InString b = is_visible b
+in_bare d place.Backslash b = is_escaped b
+in_bare d place.Complete b = false
 
 -- whether the bare item may end there
 abbrev pub ends_bare : BarePlace → Bool

@@ -1,32 +1,34 @@
 -- What a function that scans a construct returns.
 use Rattle.std.specs.Prelude.{◌≡◌, ◌==◌, ℕ, true, false, List, ◌∷◌, ◌++◌, Result, Ok, Err}
 use Rattle.sf_value.specs.Ascii.{backslash}
+use Rattle.sf_value.specs.declared.dialect.Dialect.{Dialect}
 use Rattle.sf_value.specs.declared.value.Bare.{Bare}
 use Rattle.sf_value.specs.Grammar.Classes.{is_visible, is_token_start}
 use Rattle.sf_value.specs.Grammar.Strings.{is_unescaped, is_escaped, escaped}
 use Rattle.sf_value.specs.Grammar.Words.{Every}
 use Rattle.sf_scan.specs.Leaves.{leaf_bare}
 use Rattle.sf_scan.specs.Places.{in_bare, ends_bare}
-use Rattle.sf_scan.specs.Stops.{FirstIs, Lacks, Reads, Refuses}
+use Rattle.sf_scan.specs.Stops.{Lacks, Reads, Refuses}
 use Rattle.sf_scan.specs.declared.leaf.Leaf.{Leaf}
 use Rattle.sf_scan.specs.declared.place.Stop.{Stop}
 use Rattle.sf_scan.specs.declared.place.BarePlace.TheVariants.{Backslash}
 
 -- the leaf is the bare item up to the stop, and the place says what could lengthen it
-pub record ReadsLeaf (L : List ℕ → Bare → Type 0) (text : List ℕ) (leaf : Leaf) (stop : Stop)
+pub record ReadsLeaf (d : Dialect) (L : List ℕ → Bare → Type 0) (text : List ℕ) (leaf : Leaf)
+    (stop : Stop)
     : Type 0 where
-  pub reads : Reads L (in_bare stop.place) text (leaf_bare leaf) stop.left.now
+  pub reads : Reads L (in_bare d stop.place) text (leaf_bare leaf) stop.left.now
   pub ends : ends_bare stop.place ≡ true
 
 -- the text begins with no bare item: it goes wrong at the stop, and the place says what could come
-pub record RefusesLeaf (L : List ℕ → Bare → Type 0) (text : List ℕ) (stop : Stop)
+pub record RefusesLeaf (d : Dialect) (L : List ℕ → Bare → Type 0) (text : List ℕ) (stop : Stop)
     : Type 0 where
-  pub refuses : Refuses L (in_bare stop.place) text stop.left.now
+  pub refuses : Refuses L (in_bare d stop.place) text stop.left.now
   pub open_still : ends_bare stop.place ≡ false
 
-abbrev pub ScansLeaf : (List ℕ → Bare → Type 0) → List ℕ → Result (Leaf × Stop) Stop → Type 0
-ScansLeaf L text (Ok r) = ReadsLeaf L text r.0 r.1
-ScansLeaf L text (Err stop) = RefusesLeaf L text stop
+abbrev pub ScansLeaf : Dialect → (List ℕ → Bare → Type 0) → List ℕ → Result (Leaf × Stop) Stop → Type 0
+ScansLeaf d L text (Ok r) = ReadsLeaf d L text r.0 r.1
+ScansLeaf d L text (Err stop) = RefusesLeaf d L text stop
 
 -- the text begins with the bytes of a String, escaped, and the rest
 pub record PastEscaped (text rest : List ℕ) : Type 0 where
@@ -46,9 +48,9 @@ pub record StopsEscaped (text : List ℕ) (stop : Stop) : Type 0 where
   pub no_escaped : Lacks is_escaped stop.left.now
   pub place : stop.place ≡ Backslash
 
--- the text begins with the first byte of a Token
-abbrev pub BeginsToken : List ℕ → Type 0
-BeginsToken text = (b : ℕ) × (more : List ℕ) × (text ≡ b ∷ more) × (is_token_start b ≡ true)
+-- the text is the first byte of a Token, and more
+abbrev pub BeginsToken : List ℕ → List ℕ → Type 0
+BeginsToken text more = (b : ℕ) × (text ≡ b ∷ more) × (is_token_start b ≡ true)
 
 -- a byte that may be escaped is before the rest
 abbrev pub BeginsEscaped : List ℕ → List ℕ → Type 0

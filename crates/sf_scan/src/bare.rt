@@ -1,6 +1,7 @@
 //! Bare items (RFC 9651 section 4.2.3.1).
 ghost use Rattle.std.specs.Prelude.{◌≡◌, [], ◌∷◌, Ok, MatchResult, MatchOption};
 ghost use Rattle.sf_value.specs.Ascii.{quote, question_mark};
+ghost use Rattle.sf_value.specs.declared.dialect.Dialect.{Dialect as Which};
 ghost use Rattle.sf_value.specs.Grammar.Strings.{is_escaped};
 ghost use Rattle.sf_scan.specs.Leaves.{SpellsLeaf};
 ghost use Rattle.sf_scan.specs.Scans.{ScansLeaf, Escapes, StopsEscaped, BeginsToken, BeginsEscaped};
@@ -9,12 +10,12 @@ ghost use Rattle.sf_scan.specs.Stops.{Past, Lacks};
 use crate::leaf::Leaf;
 use crate::place::{BarePlace, Stop};
 use crate::runs::{short_run, split, strip};
-use sf_value::can_start_token;
+use sf_value::{Dialect, can_start_token};
 use sf_value::classes::{InToken, Unescaped};
 
 /// The bare item that the text begins with, and where it stops: the longest one that is there.
-pub fn bare(text: &[u8]) -> Result<(Leaf<'_>, Stop<'_>), Stop<'_>>
-    ensures { ScansLeaf SpellsLeaf text.now result }
+pub fn bare(dialect: Dialect, text: &[u8]) -> Result<(Leaf<'_>, Stop<'_>), Stop<'_>>
+    ensures { ScansLeaf dialect (SpellsLeaf dialect) text.now result }
 {
     let Some((first, more)) = split(text) else {
         return Err(Stop {
@@ -29,7 +30,7 @@ pub fn bare(text: &[u8]) -> Result<(Leaf<'_>, Stop<'_>), Stop<'_>>
         return boolean(more);
     }
     if can_start_token(first) {
-        return Ok(token(text));
+        return Ok(token(text, more));
     }
     Err(Stop {
         left: text,
@@ -39,36 +40,25 @@ pub fn bare(text: &[u8]) -> Result<(Leaf<'_>, Stop<'_>), Stop<'_>>
 
 /// A Boolean, after its question mark.
 fn boolean(text: &[u8]) -> Result<(Leaf<'_>, Stop<'_>), Stop<'_>>
-    ensures { ScansLeaf (Past (question_mark ∷ []) SpellsLeaf) text.now result }
+    ensures { (d : Which) → ScansLeaf d (Past (question_mark ∷ []) (SpellsLeaf d)) text.now result }
 {
-    match split(text) {
-        Some((b'0', rest)) => Ok((
-            Leaf::Boolean(false),
-            Stop {
-                left: rest,
-                place: BarePlace::Complete,
-            },
-        )),
-        Some((b'1', rest)) => Ok((
-            Leaf::Boolean(true),
-            Stop {
-                left: rest,
-                place: BarePlace::Complete,
-            },
-        )),
-        _ => Err(Stop {
-            left: text,
-            place: BarePlace::QuestionMark,
-        }),
+    if let Some(rest) = strip(text, b'0') {
+        let end = Stop { left: rest, place: BarePlace::Complete };
+        return Ok((Leaf::Boolean(false), end));
     }
+    if let Some(rest) = strip(text, b'1') {
+        let end = Stop { left: rest, place: BarePlace::Complete };
+        return Ok((Leaf::Boolean(true), end));
+    }
+    Err(Stop { left: text, place: BarePlace::QuestionMark })
 }
 
-/// The Token that the text begins with.
-fn token(text: &[u8]) -> (Leaf<'_>, Stop<'_>)
-    requires { BeginsToken text.now }
-    ensures { ScansLeaf SpellsLeaf text.now (Ok result) }
+/// The Token that the text begins with; `more` is the text without its first byte.
+fn token<'a>(text: &'a [u8], more: &'a [u8]) -> (Leaf<'a>, Stop<'a>)
+    requires { BeginsToken text.now more.now }
+    ensures { (d : Which) → ScansLeaf d (SpellsLeaf d) text.now (Ok result) }
 {
-    let (run, left) = short_run::<InToken>(&text[1..]);
+    let (run, left) = short_run::<InToken>(more);
     let (token, _) = text.split_at(run.len() + 1);
     (
         Leaf::Token(token),
@@ -81,7 +71,7 @@ fn token(text: &[u8]) -> (Leaf<'_>, Stop<'_>)
 
 /// A String, after its opening quote.
 fn string(text: &[u8]) -> Result<(Leaf<'_>, Stop<'_>), Stop<'_>>
-    ensures { ScansLeaf (Past (quote ∷ []) SpellsLeaf) text.now result }
+    ensures { (d : Which) → ScansLeaf d (Past (quote ∷ []) (SpellsLeaf d)) text.now result }
 {
     let (run, left) = short_run::<Unescaped>(text);
     if let Some(rest) = strip(left, b'"') {

@@ -3,6 +3,8 @@ ghost use Rattle.std.specs.Prelude.{◌≡◌};
 ghost use Rattle.sf_scan.specs.Places.{in_bare, ends_bare};
 ghost use Rattle.sf_scan.specs.Sets.{Marks};
 
+use sf_value::Dialect;
+
 /// A place in a bare item.
 #[derive(Clone, Copy, Debug, PartialEq, Eq)]
 pub enum BarePlace {
@@ -41,9 +43,10 @@ const VISIBLE: u128 = (1 << 127) - (1 << b' ');
 
 impl BarePlace {
     /// The bytes below 128 that may come, a bit for each.
-    pub fn expected(self) -> u128
-        ensures { Marks result (in_bare self) }
+    pub fn expected(self, dialect: Dialect) -> u128
+        ensures { Marks result (in_bare dialect self) }
     {
+        let _ = dialect;
         match self {
             BarePlace::Start => TOKEN_START | QUOTE | 1 << b'?',
             BarePlace::QuestionMark => 3 << b'0',
