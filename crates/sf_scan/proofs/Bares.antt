@@ -1,7 +1,7 @@
 -- The bare items, each with the places in it.
 use Rattle.std.proofs.Common.{◌≡◌, ◌≢◌, ℕ, Bool, true, false, List, [], ◌∷◌, ◌++◌, refl, sym, ap, ◌∙◌}
 use Rattle.std.proofs.Common.{if◌then◌else◌, Result, Ok, Err, ◌==◌, ◌||◌, subst, append_assoc, append-nil, arith, eqb-true}
-use Rattle.sf_value.specs.Ascii.{quote, backslash, question_mark, digit_zero, digit_one}
+use Rattle.sf_value.specs.Ascii.{quote, backslash, question_mark, colon, digit_zero, digit_one}
 use Rattle.sf_value.specs.declared.dialect.Dialect.{Dialect}
 use Rattle.sf_value.specs.declared.value.Bare.{Bare}
 use Rattle.sf_value.specs.declared.value.Bare.TheVariants as bare
@@ -10,6 +10,7 @@ use Rattle.sf_value.specs.Grammar.Classes.{is_token_start, is_in_token, is_visib
 use Rattle.sf_value.specs.Grammar.Strings.{is_escaped, is_unescaped, escaped, SpellsString}
 use Rattle.sf_value.specs.Grammar.Booleans.{SpellsBoolean}
 use Rattle.sf_value.specs.Grammar.Tokens.{SpellsToken}
+use Rattle.sf_value.specs.Grammar.ByteSequences.{SpellsByteSequence}
 use Rattle.sf_value.specs.Grammar.Lines.{Continues}
 use Rattle.sf_value.proofs.Runs.{every_append}
 use Rattle.sf_scan.specs.Leaves.{SpellsLeaf, leaf_bare}
@@ -31,6 +32,7 @@ abbrev pub begins : Bare → ℕ → Bool
 begins (bare.Text s) b = b == quote
 begins (bare.Token s) b = is_token_start b
 begins (bare.Boolean c) b = b == question_mark
+begins (bare.Blob s) b = b == colon
 begins x b = false
 
 same_byte : (b c : ℕ) → b ≡ c → (b == c) ≡ true
@@ -45,16 +47,19 @@ first_byte d b t (bare.Token s) h = by s h.0 h.1
     by [] e w = absurd w
     by (c ∷ s) e w = ap is_token_start (heads b c t s e) ∙ w.0
 first_byte d b t (bare.Boolean c) h = same_byte b question_mark (heads b question_mark t _ h)
+first_byte d b t (bare.Blob s) h = same_byte b colon (heads b colon t h.0 h.1)
 first_byte d b t x h = absurd h
 
-token_apart : (b : ℕ) → is_token_start b ≡ true → ((b == quote) ≡ false) × ((b == question_mark) ≡ false)
-token_apart b h = (grind arith, grind arith)
+token_apart : (b : ℕ) → is_token_start b ≡ true
+    → ((b == quote) ≡ false) × ((b == question_mark) ≡ false) × ((b == colon) ≡ false)
+token_apart b h = (grind arith, grind arith, grind arith)
 
 boolean_of : (d : Dialect) (t : List ℕ) (x : Bare) → SpellsLeaf d (question_mark ∷ t) x
     → begins x question_mark ≡ true → (v : Bool) × SpellsBoolean (question_mark ∷ t) v
 boolean_of d t (bare.Boolean c) h k = (c, h)
 boolean_of d t (bare.Text s) h k = absurd (cc k)
 boolean_of d t (bare.Token s) h k = absurd (cc k)
+boolean_of d t (bare.Blob s) h k = absurd (cc k)
 boolean_of d t x h k = absurd h
 
 pub boolean_texts : (d : Dialect) → SameTexts (Past (question_mark ∷ []) SpellsBoolean)
@@ -69,6 +74,7 @@ string_of : (d : Dialect) (t : List ℕ) (x : Bare) → SpellsLeaf d (quote ∷ 
 string_of d t (bare.Text s) h k = (s, h)
 string_of d t (bare.Boolean c) h k = absurd (cc k)
 string_of d t (bare.Token s) h k = absurd (cc k)
+string_of d t (bare.Blob s) h k = absurd (cc k)
 string_of d t x h k = absurd h
 
 pub string_texts : (d : Dialect) → SameTexts (Past (quote ∷ []) SpellsString)
@@ -78,11 +84,27 @@ string_texts d = record {
   down = λ t x h. string_of d t x h (first_byte d quote t x h);
 }
 
+blob_of : (d : Dialect) (t : List ℕ) (x : Bare) → SpellsLeaf d (colon ∷ t) x
+    → begins x colon ≡ true → (v : List ℕ) × SpellsByteSequence (colon ∷ t) v
+blob_of d t (bare.Blob s) h k = (s, h)
+blob_of d t (bare.Text s) h k = absurd (cc k)
+blob_of d t (bare.Boolean c) h k = absurd (cc k)
+blob_of d t (bare.Token s) h k = absurd (cc k)
+blob_of d t x h k = absurd h
+
+pub blob_texts : (d : Dialect) → SameTexts (Past (colon ∷ []) SpellsByteSequence)
+    (Past (colon ∷ []) (SpellsLeaf d)) bare.Blob
+blob_texts d = record {
+  up = λ t v h. h;
+  down = λ t x h. blob_of d t x h (first_byte d colon t x h);
+}
+
 token_of : (d : Dialect) (b : ℕ) (t : List ℕ) (x : Bare) → is_token_start b ≡ true
     → SpellsLeaf d (b ∷ t) x → begins x b ≡ true → (v : List ℕ) × SpellsToken (b ∷ t) v
 token_of d b t (bare.Token s) e h k = (s, h)
 token_of d b t (bare.Text s) e h k = let a = (token_apart b e).0 in absurd cc
 token_of d b t (bare.Boolean c) e h k = let a = (token_apart b e).1 in absurd cc
+token_of d b t (bare.Blob s) e h k = let a = (token_apart b e).2 in absurd cc
 token_of d b t x e h k = absurd h
 
 pub token_texts : (d : Dialect) (b : ℕ) → is_token_start b ≡ true
@@ -152,7 +174,7 @@ value_followed v t e = record {
         → (t ++ b ∷ []) ++ u ≡ (if w then digit_one else digit_zero) ∷ [] → ⊥
     by b u w k =
         let f : (if v then digit_one else digit_zero) ∷ (b ∷ u)
-            ≡ (if w then digit_one else digit_zero) ∷ [] = rw e at k in
+        ≡ (if w then digit_one else digit_zero) ∷ [] = rw e at k in
         cons_nil b u (tails _ _ _ _ f)
 
 pub boolean_read : (d : Dialect) (v : Bool) (text : List ℕ) (stop : Stop)
@@ -315,39 +337,50 @@ start_of : (d : Dialect) (x : Bare) (b : ℕ) → begins x b ≡ true → is_bar
 start_of d (bare.Text s) b h = grind arith
 start_of d (bare.Token s) b h = grind arith
 start_of d (bare.Boolean c) b h = grind arith
+start_of d (bare.Blob s) b h = grind arith
 start_of d x b h = absurd (cc h)
 
 started : (d : Dialect) (b : ℕ) → is_bare_start d b ≡ true → Continues (SpellsLeaf d) (b ∷ [])
-started d b h = by (is_token_start b) refl (b == quote) refl
+started d b h = by (is_token_start b) refl (b == quote) refl (b == question_mark) refl
   where
     by : (x : Bool) → is_token_start b ≡ x → (y : Bool) → (b == quote) ≡ y
-        → Continues (SpellsLeaf d) (b ∷ [])
-    by true e y f = ([], bare.Token (b ∷ []), (refl, (e, tt)))
-    by false e true f = (
+        → (z : Bool) → (b == question_mark) ≡ z → Continues (SpellsLeaf d) (b ∷ [])
+    by true e y f z g = ([], bare.Token (b ∷ []), (refl, (e, tt)))
+    by false e true f z g = (
       quote ∷ [],
       bare.Text [],
       (ap (λ x. x ∷ quote ∷ []) (eqb-true b quote f), tt),
     )
-    by false e false f =
-        let k : (b == question_mark) ≡ true = rw (e, f) at h in (
-          digit_zero ∷ [],
-          bare.Boolean false,
-          ap (λ x. x ∷ digit_zero ∷ []) (eqb-true b question_mark k),
+    by false e false f true g = (
+      digit_zero ∷ [],
+      bare.Boolean false,
+      ap (λ x. x ∷ digit_zero ∷ []) (eqb-true b question_mark g),
+    )
+    by false e false f false g =
+        let k : (b == colon) ≡ true = rw (e, f, g) at h in (
+          colon ∷ [],
+          bare.Blob [],
+          (
+            colon ∷ [],
+            ap (λ x. x ∷ colon ∷ []) (eqb-true b colon k),
+            (0, colon ∷ [], omega arith, refl, tt, (0, omega arith, refl)),
+          ),
         )
 
 unstarted : (d : Dialect) (x : Bare) → SpellsLeaf d [] x → ⊥
 unstarted d (bare.Text s) h = cons_nil _ _ (sym h.0)
 unstarted d (bare.Token s) h = subst (IsWord is_token_start is_in_token) (sym h.0) h.1
 unstarted d (bare.Boolean c) h = cons_nil _ _ (sym h)
+unstarted d (bare.Blob s) h = cons_nil _ _ (sym h.1)
 unstarted d x h = h
 
 pub no_start : (d : Dialect) (b : ℕ) (t more : List ℕ) → t ≡ b ∷ more → b ≢ quote
-    → b ≢ question_mark → is_token_start b ≡ false → Lacks (is_bare_start d) t
-no_start d b t more e q m s = rw e (none b q m s)
+    → b ≢ question_mark → b ≢ colon → is_token_start b ≡ false → Lacks (is_bare_start d) t
+no_start d b t more e q m c s = rw e (none b q m c s)
   where
-    none : (b : ℕ) → b ≢ quote → b ≢ question_mark → is_token_start b ≡ false
+    none : (b : ℕ) → b ≢ quote → b ≢ question_mark → b ≢ colon → is_token_start b ≡ false
         → is_bare_start d b ≡ false
-    none b q m s = grind arith
+    none b q m c s = grind arith
 
 pub no_byte : (d : Dialect) (t : List ℕ) → t ≡ [] → Lacks (is_bare_start d) t
 no_byte d t e = rw e tt

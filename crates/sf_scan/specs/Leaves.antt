@@ -6,7 +6,9 @@ use Rattle.sf_value.specs.declared.value.Bare.{Bare}
 use Rattle.sf_value.specs.declared.value.Bare.TheVariants as bare
 use Rattle.sf_value.specs.Grammar.Strings.{SpellsString}
 use Rattle.sf_value.specs.Grammar.Tokens.{SpellsToken}
+use Rattle.sf_value.specs.Grammar.ByteSequences.{SpellsByteSequence}
 use Rattle.sf_value.specs.Grammar.Booleans.{SpellsBoolean}
+use Rattle.sf_scan.specs.Blobs.{blob_bytes}
 use Rattle.sf_scan.specs.declared.leaf.Leaf.{Leaf}
 use Rattle.sf_scan.specs.declared.leaf.Leaf.TheVariants as leaf
 
@@ -21,11 +23,13 @@ abbrev pub leaf_bare : Leaf → Bare
 leaf_bare (leaf.Token t) = bare.Token t.now
 leaf_bare (leaf.Text t) = bare.Text t.now
 leaf_bare (leaf.Escaped t) = bare.Text (unescaped t.now)
+leaf_bare (leaf.Blob t) = bare.Blob (blob_bytes t.now)
 leaf_bare (leaf.Boolean b) = bare.Boolean b
 
 -- the bare items that are read so far, as `SpellsBare` defines them
 abbrev pub SpellsLeaf : Dialect → List ℕ → Bare → Type 0
 SpellsLeaf d t (bare.Text s) = SpellsString t s
 SpellsLeaf d t (bare.Token s) = SpellsToken t s
+SpellsLeaf d t (bare.Blob s) = SpellsByteSequence t s
 SpellsLeaf d t (bare.Boolean b) = SpellsBoolean t b
 SpellsLeaf d t x = ⊥

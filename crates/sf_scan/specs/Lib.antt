@@ -1,5 +1,6 @@
 -- What the scanner accepts, where it stops, and what may come there.
 pub mod Stops
+pub mod Blobs
 pub mod Places
 pub mod Leaves
 pub mod Sets

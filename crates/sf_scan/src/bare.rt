@@ -1,17 +1,18 @@
 //! Bare items (RFC 9651 section 4.2.3.1).
 ghost use Rattle.std.specs.Prelude.{◌≡◌, [], ◌∷◌, Ok, MatchResult, MatchOption};
-ghost use Rattle.sf_value.specs.Ascii.{quote, question_mark};
+ghost use Rattle.sf_value.specs.Ascii.{quote, question_mark, colon};
 ghost use Rattle.sf_value.specs.declared.dialect.Dialect.{Dialect as Which};
 ghost use Rattle.sf_value.specs.Grammar.Strings.{is_escaped};
 ghost use Rattle.sf_scan.specs.Leaves.{SpellsLeaf};
 ghost use Rattle.sf_scan.specs.Scans.{ScansLeaf, Escapes, StopsEscaped, BeginsToken, BeginsEscaped};
 ghost use Rattle.sf_scan.specs.Stops.{Past, Lacks};
 
+use crate::byte_sequence::byte_sequence;
 use crate::leaf::Leaf;
 use crate::place::{BarePlace, Stop};
 use crate::runs::{short_run, split, strip};
-use sf_value::{Dialect, can_start_token};
 use sf_value::classes::{InToken, Unescaped};
+use sf_value::{Dialect, can_start_token};
 
 /// The bare item that the text begins with, and where it stops: the longest one that is there.
 pub fn bare(dialect: Dialect, text: &[u8]) -> Result<(Leaf<'_>, Stop<'_>), Stop<'_>>
@@ -29,6 +30,9 @@ pub fn bare(dialect: Dialect, text: &[u8]) -> Result<(Leaf<'_>, Stop<'_>), Stop<
     if first == b'?' {
         return boolean(more);
     }
+    if first == b':' {
+        return byte_sequence(more);
+    }
     if can_start_token(first) {
         return Ok(token(text, more));
     }
@@ -43,14 +47,23 @@ fn boolean(text: &[u8]) -> Result<(Leaf<'_>, Stop<'_>), Stop<'_>>
     ensures { (d : Which) → ScansLeaf d (Past (question_mark ∷ []) (SpellsLeaf d)) text.now result }
 {
     if let Some(rest) = strip(text, b'0') {
-        let end = Stop { left: rest, place: BarePlace::Complete };
+        let end = Stop {
+            left: rest,
+            place: BarePlace::Complete,
+        };
         return Ok((Leaf::Boolean(false), end));
     }
     if let Some(rest) = strip(text, b'1') {
-        let end = Stop { left: rest, place: BarePlace::Complete };
+        let end = Stop {
+            left: rest,
+            place: BarePlace::Complete,
+        };
         return Ok((Leaf::Boolean(true), end));
     }
-    Err(Stop { left: text, place: BarePlace::QuestionMark })
+    Err(Stop {
+        left: text,
+        place: BarePlace::QuestionMark,
+    })
 }
 
 /// The Token that the text begins with; `more` is the text without its first byte.

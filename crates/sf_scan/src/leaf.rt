@@ -10,6 +10,8 @@ pub enum Leaf<'a> {
     /// The bytes between the quotes of a String that has one: its value is these bytes without the
     /// backslash before each escaped byte.
     Escaped(&'a [u8]),
+    /// The characters between the colons of a Byte Sequence, which are base64.
+    Blob(&'a [u8]),
     /// A Boolean.
     Boolean(bool),
 }

@@ -3,6 +3,8 @@
 #![tactic(auto)]
 
 pub mod bare;
+pub mod blob_place;
+pub mod byte_sequence;
 pub mod leaf;
 pub mod place;
 pub mod runs;

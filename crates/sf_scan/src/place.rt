@@ -3,6 +3,7 @@ ghost use Rattle.std.specs.Prelude.{◌≡◌};
 ghost use Rattle.sf_scan.specs.Places.{in_bare, ends_bare};
 ghost use Rattle.sf_scan.specs.Sets.{Marks};
 
+use crate::blob_place::BlobPlace;
 use sf_value::Dialect;
 
 /// A place in a bare item.
@@ -18,6 +19,8 @@ pub enum BarePlace {
     InString,
     /// After a backslash in a String.
     Backslash,
+    /// In a Byte Sequence.
+    Blob(BlobPlace),
     /// After a bare item that no further byte can belong to.
     Complete,
 }
@@ -48,11 +51,12 @@ impl BarePlace {
     {
         let _ = dialect;
         match self {
-            BarePlace::Start => TOKEN_START | QUOTE | 1 << b'?',
+            BarePlace::Start => TOKEN_START | QUOTE | 1 << b'?' | 1 << b':',
             BarePlace::QuestionMark => 3 << b'0',
             BarePlace::InToken => TOKEN,
             BarePlace::InString => VISIBLE,
             BarePlace::Backslash => QUOTE | 1 << b'\\',
+            BarePlace::Blob(place) => place.expected(),
             BarePlace::Complete => 0,
         }
     }

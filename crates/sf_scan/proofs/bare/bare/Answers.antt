@@ -1,5 +1,5 @@
 use Rattle.std.proofs.Common.{refl, ap, sym, ◌∙◌, ◌∷◌, []}
-use Rattle.sf_value.specs.Ascii.{quote, question_mark}
+use Rattle.sf_value.specs.Ascii.{quote, question_mark, colon}
 use Rattle.sf_scan.specs.Leaves.{SpellsLeaf}
 use Rattle.sf_scan.proofs.Bares.{bare_refused, past_scans, no_byte, no_start}
 use Rattle.sf_scan.proofs.bare.bare.Goals as goal
@@ -20,6 +20,13 @@ returns-then-first-eq63 c =
     past_scans d (SpellsLeaf d) (question_mark ∷ []) _ _ _
     (c.in-Some.ensures ∙ ap (λ x. x ∷ c.in-Some.more.now) c.if-first-eq63.true) (c.boolean.ensures d)
 
+pub returns-then-first-eq58 : goal.returns-then-first-eq58
+returns-then-first-eq58 c =
+    let d = c.args.dialect in
+    past_scans d (SpellsLeaf d) (colon ∷ []) _ _ _
+    (c.in-Some.ensures ∙ ap (λ x. x ∷ c.in-Some.more.now) c.if-first-eq58.true)
+    (c.byte_sequence.ensures d)
+
 pub returns-then-can_start_token : goal.returns-then-can_start_token
 returns-then-can_start_token c = c.token.ensures c.args.dialect
 
@@ -27,4 +34,4 @@ pub returns : goal.returns
 returns c =
     let d = c.args.dialect in
     bare_refused d _ (no_start d _ _ _ c.in-Some.ensures c.if-first-eq34.false c.if-first-eq63.false
-    (sym c.can_start_token.ensures ∙ c.if-can_start_token.false)) refl
+    c.if-first-eq58.false (sym c.can_start_token.ensures ∙ c.if-can_start_token.false)) refl

@@ -1,0 +1,55 @@
+-- Byte Sequences: the places in them, and the bytes that their characters stand for.
+use Rattle.std.specs.Prelude.{ℕ, zero, suc, ◌+◌, ◌*◌, ◌/◌, ◌%◌, Bool, ◌==◌, ◌||◌, List, [], ◌∷◌}
+use Rattle.std.specs.Prelude.{Option, Some, None}
+use Rattle.sf_value.specs.Ascii.{colon, equals}
+use Rattle.sf_value.specs.Digits.{sextet}
+use Rattle.sf_value.specs.Grammar.ByteSequences.{is_base64}
+use Rattle.sf_scan.specs.declared.blob_place.BlobPlace.{BlobPlace}
+use Rattle.sf_scan.specs.declared.blob_place.BlobPlace.TheVariants as blob
+
+-- the bytes that may come at a place in a Byte Sequence
+abbrev pub in_blob : BlobPlace → ℕ → Bool
+in_blob blob.Whole b = is_base64 b || b == colon
+in_blob blob.One b = is_base64 b
+in_blob blob.Two b = is_base64 b || (b == colon || b == equals)
+in_blob blob.Three b = is_base64 b || (b == colon || b == equals)
+in_blob blob.Pad b = b == colon || b == equals
+in_blob blob.Padded b = b == colon
+
+-- the place after an =, if one may come
+abbrev pub padded : BlobPlace → Option BlobPlace
+padded blob.Whole = None
+padded blob.One = None
+padded blob.Two = Some blob.Pad
+padded blob.Three = Some blob.Padded
+padded blob.Pad = Some blob.Padded
+padded blob.Padded = None
+
+-- the place after whole groups and this many characters, below 4
+abbrev pub place_at : ℕ → BlobPlace
+place_at zero = blob.Whole
+place_at (suc zero) = blob.One
+place_at (suc (suc zero)) = blob.Two
+place_at (suc (suc (suc n))) = blob.Three
+
+abbrev pub more_values : Option ℕ → List ℕ → List ℕ
+more_values (Some x) xs = x ∷ xs
+more_values None xs = []
+
+-- the values of the characters of base64 that a text begins with
+abbrev pub values : List ℕ → List ℕ
+values [] = []
+values (b ∷ t) = more_values (sextet b) (values t)
+
+-- the bytes of such values: four of six bits are three of eight; of a last group its whole bytes
+abbrev pub octets : List ℕ → List ℕ
+octets [] = []
+octets (x ∷ []) = []
+octets (x ∷ y ∷ []) = (x * 4 + y / 16) ∷ []
+octets (x ∷ y ∷ z ∷ []) = (x * 4 + y / 16) ∷ (y % 16 * 16 + z / 4) ∷ []
+octets (x ∷ y ∷ z ∷ w ∷ s) =
+    (x * 4 + y / 16) ∷ (y % 16 * 16 + z / 4) ∷ (z % 4 * 64 + w) ∷ octets s
+
+-- the bytes of the text between the colons
+abbrev pub blob_bytes : List ℕ → List ℕ
+blob_bytes t = octets (values t)

@@ -1,0 +1,65 @@
+//! Byte Sequences (RFC 9651 section 4.2.7).
+ghost use Rattle.std.specs.Prelude.{◌≡◌, ◌%◌, [], ◌∷◌};
+ghost use Rattle.sf_value.specs.Ascii.{colon};
+ghost use Rattle.sf_value.specs.declared.dialect.Dialect.{Dialect as Which};
+ghost use Rattle.sf_scan.specs.Blobs.{place_at};
+ghost use Rattle.sf_scan.specs.Leaves.{SpellsLeaf};
+ghost use Rattle.sf_scan.specs.Scans.{ScansLeaf};
+ghost use Rattle.sf_scan.specs.Stops.{Past};
+
+use crate::blob_place::BlobPlace;
+use crate::leaf::Leaf;
+use crate::place::{BarePlace, Stop};
+use crate::runs::{short_run, strip};
+use sf_value::classes::Base64;
+
+/// A Byte Sequence, after its opening colon.
+pub fn byte_sequence(text: &[u8]) -> Result<(Leaf<'_>, Stop<'_>), Stop<'_>>
+    ensures { (d : Which) → ScansLeaf d (Past (colon ∷ []) (SpellsLeaf d)) text.now result }
+{
+    let (run, after_run) = short_run::<Base64>(text);
+    let mut place = after_characters(run.len());
+    let mut left = after_run;
+    while let Some(more) = strip(left, b'=') {
+        let Some(next) = place.padded() else {
+            return Err(Stop {
+                left,
+                place: BarePlace::Blob(place),
+            });
+        };
+        place = next;
+        left = more;
+    }
+    if !place.may_close() {
+        return Err(Stop {
+            left,
+            place: BarePlace::Blob(place),
+        });
+    }
+    let Some(rest) = strip(left, b':') else {
+        return Err(Stop {
+            left,
+            place: BarePlace::Blob(place),
+        });
+    };
+    let (inside, _) = text.split_at(text.len() - rest.len() - 1);
+    Ok((
+        Leaf::Blob(inside),
+        Stop {
+            left: rest,
+            place: BarePlace::Complete,
+        },
+    ))
+}
+
+/// The place after this many characters of base64.
+fn after_characters(count: usize) -> BlobPlace
+    ensures { result ≡ place_at (count % 4) }
+{
+    match count % 4 {
+        0 => BlobPlace::Whole,
+        1 => BlobPlace::One,
+        2 => BlobPlace::Two,
+        _ => BlobPlace::Three,
+    }
+}
