@@ -1,7 +1,7 @@
 -- The bare items, each with the places in it.
 use Rattle.std.proofs.Common.{◌≡◌, ◌≢◌, ℕ, Bool, true, false, List, [], ◌∷◌, ◌++◌, refl, sym, ap, ◌∙◌}
-use Rattle.std.proofs.Common.{if◌then◌else◌, Result, Ok, Err, ◌==◌, ◌||◌, subst, append_assoc, append-nil, arith, eqb-true}
-use Rattle.sf_value.specs.Ascii.{quote, backslash, question_mark, colon, digit_zero, digit_one}
+use Rattle.std.proofs.Common.{if◌then◌else◌, Result, Ok, Err, ◌==◌, ◌&&◌, ◌||◌, subst, append_assoc, append-nil, arith, eqb-true}
+use Rattle.sf_value.specs.Ascii.{quote, backslash, question_mark, colon, percent, digit_zero, digit_one}
 use Rattle.sf_value.specs.declared.dialect.Dialect.{Dialect}
 use Rattle.sf_value.specs.declared.value.Bare.{Bare}
 use Rattle.sf_value.specs.declared.value.Bare.TheVariants as bare
@@ -11,7 +11,10 @@ use Rattle.sf_value.specs.Grammar.Strings.{is_escaped, is_unescaped, escaped, Sp
 use Rattle.sf_value.specs.Grammar.Booleans.{SpellsBoolean}
 use Rattle.sf_value.specs.Grammar.Tokens.{SpellsToken}
 use Rattle.sf_value.specs.Grammar.ByteSequences.{SpellsByteSequence}
+use Rattle.sf_value.specs.Grammar.DisplayStrings.{SpellsDisplayString}
+use Rattle.sf_value.specs.Grammar.Dialects.{is_rfc9651}
 use Rattle.sf_value.specs.Grammar.Lines.{Continues}
+use Rattle.std.proofs.lemmas.Bool.{and_parts}
 use Rattle.sf_value.proofs.Runs.{every_append}
 use Rattle.sf_scan.specs.Leaves.{SpellsLeaf, leaf_bare}
 use Rattle.sf_scan.specs.Places.{in_bare, ends_bare, is_bare_start}
@@ -28,18 +31,19 @@ use Rattle.sf_scan.proofs.Languages.{past_refuses}
 use Rattle.sf_scan.proofs.Lists.{heads, tails, cons_nil}
 
 -- the first byte tells the type
-abbrev pub begins : Bare → ℕ → Bool
-begins (bare.Text s) b = b == quote
-begins (bare.Token s) b = is_token_start b
-begins (bare.Boolean c) b = b == question_mark
-begins (bare.Blob s) b = b == colon
-begins x b = false
+abbrev pub begins : Dialect → Bare → ℕ → Bool
+begins d (bare.Text s) b = b == quote
+begins d (bare.Token s) b = is_token_start b
+begins d (bare.Boolean c) b = b == question_mark
+begins d (bare.Blob s) b = b == colon
+begins d (bare.Shown s) b = b == percent && is_rfc9651 d
+begins d x b = false
 
 same_byte : (b c : ℕ) → b ≡ c → (b == c) ≡ true
 same_byte b c e = grind arith
 
 pub first_byte : (d : Dialect) (b : ℕ) (t : List ℕ) (x : Bare) → SpellsLeaf d (b ∷ t) x
-    → begins x b ≡ true
+    → begins d x b ≡ true
 first_byte d b t (bare.Text s) h = same_byte b quote (heads b quote t _ h.0)
 first_byte d b t (bare.Token s) h = by s h.0 h.1
   where
@@ -48,18 +52,21 @@ first_byte d b t (bare.Token s) h = by s h.0 h.1
     by (c ∷ s) e w = ap is_token_start (heads b c t s e) ∙ w.0
 first_byte d b t (bare.Boolean c) h = same_byte b question_mark (heads b question_mark t _ h)
 first_byte d b t (bare.Blob s) h = same_byte b colon (heads b colon t h.0 h.1)
+first_byte d b t (bare.Shown s) h = rw (same_byte b percent (heads b percent t _ h.1.1)) h.0
 first_byte d b t x h = absurd h
 
 token_apart : (b : ℕ) → is_token_start b ≡ true
     → ((b == quote) ≡ false) × ((b == question_mark) ≡ false) × ((b == colon) ≡ false)
-token_apart b h = (grind arith, grind arith, grind arith)
+    × ((b == percent) ≡ false)
+token_apart b h = (grind arith, grind arith, grind arith, grind arith)
 
 boolean_of : (d : Dialect) (t : List ℕ) (x : Bare) → SpellsLeaf d (question_mark ∷ t) x
-    → begins x question_mark ≡ true → (v : Bool) × SpellsBoolean (question_mark ∷ t) v
+    → begins d x question_mark ≡ true → (v : Bool) × SpellsBoolean (question_mark ∷ t) v
 boolean_of d t (bare.Boolean c) h k = (c, h)
 boolean_of d t (bare.Text s) h k = absurd (cc k)
 boolean_of d t (bare.Token s) h k = absurd (cc k)
 boolean_of d t (bare.Blob s) h k = absurd (cc k)
+boolean_of d t (bare.Shown s) h k = absurd (cc k)
 boolean_of d t x h k = absurd h
 
 pub boolean_texts : (d : Dialect) → SameTexts (Past (question_mark ∷ []) SpellsBoolean)
@@ -70,11 +77,12 @@ boolean_texts d = record {
 }
 
 string_of : (d : Dialect) (t : List ℕ) (x : Bare) → SpellsLeaf d (quote ∷ t) x
-    → begins x quote ≡ true → (v : List ℕ) × SpellsString (quote ∷ t) v
+    → begins d x quote ≡ true → (v : List ℕ) × SpellsString (quote ∷ t) v
 string_of d t (bare.Text s) h k = (s, h)
 string_of d t (bare.Boolean c) h k = absurd (cc k)
 string_of d t (bare.Token s) h k = absurd (cc k)
 string_of d t (bare.Blob s) h k = absurd (cc k)
+string_of d t (bare.Shown s) h k = absurd (cc k)
 string_of d t x h k = absurd h
 
 pub string_texts : (d : Dialect) → SameTexts (Past (quote ∷ []) SpellsString)
@@ -85,11 +93,12 @@ string_texts d = record {
 }
 
 blob_of : (d : Dialect) (t : List ℕ) (x : Bare) → SpellsLeaf d (colon ∷ t) x
-    → begins x colon ≡ true → (v : List ℕ) × SpellsByteSequence (colon ∷ t) v
+    → begins d x colon ≡ true → (v : List ℕ) × SpellsByteSequence (colon ∷ t) v
 blob_of d t (bare.Blob s) h k = (s, h)
 blob_of d t (bare.Text s) h k = absurd (cc k)
 blob_of d t (bare.Boolean c) h k = absurd (cc k)
 blob_of d t (bare.Token s) h k = absurd (cc k)
+blob_of d t (bare.Shown s) h k = absurd (cc k)
 blob_of d t x h k = absurd h
 
 pub blob_texts : (d : Dialect) → SameTexts (Past (colon ∷ []) SpellsByteSequence)
@@ -99,12 +108,31 @@ blob_texts d = record {
   down = λ t x h. blob_of d t x h (first_byte d colon t x h);
 }
 
+shown_of : (d : Dialect) (t : List ℕ) (x : Bare) → SpellsLeaf d (percent ∷ t) x
+    → begins d x percent ≡ true → (v : List ℕ) × SpellsDisplayString (percent ∷ t) v
+shown_of d t (bare.Shown s) h k = (s, h.1)
+shown_of d t (bare.Blob s) h k = absurd (cc k)
+shown_of d t (bare.Text s) h k = absurd (cc k)
+shown_of d t (bare.Boolean c) h k = absurd (cc k)
+shown_of d t (bare.Token s) h k = absurd (cc k)
+shown_of d t x h k = absurd h
+
+pub shown_texts : (d : Dialect) → is_rfc9651 d ≡ true
+    → SameTexts (Past (percent ∷ []) SpellsDisplayString) (Past (percent ∷ []) (SpellsLeaf d))
+    bare.Shown
+shown_texts d e = record {
+  up = λ t v h. (e, h);
+  down = λ t x h. shown_of d t x h (first_byte d percent t x h);
+}
+
 token_of : (d : Dialect) (b : ℕ) (t : List ℕ) (x : Bare) → is_token_start b ≡ true
-    → SpellsLeaf d (b ∷ t) x → begins x b ≡ true → (v : List ℕ) × SpellsToken (b ∷ t) v
+    → SpellsLeaf d (b ∷ t) x → begins d x b ≡ true → (v : List ℕ) × SpellsToken (b ∷ t) v
 token_of d b t (bare.Token s) e h k = (s, h)
 token_of d b t (bare.Text s) e h k = let a = (token_apart b e).0 in absurd cc
 token_of d b t (bare.Boolean c) e h k = let a = (token_apart b e).1 in absurd cc
 token_of d b t (bare.Blob s) e h k = let a = (token_apart b e).2 in absurd cc
+token_of d b t (bare.Shown s) e h k =
+    let n : (false && is_rfc9651 d) ≡ true = rw ((token_apart b e).3) at k in absurd (cc n)
 token_of d b t x e h k = absurd h
 
 pub token_texts : (d : Dialect) (b : ℕ) → is_token_start b ≡ true
@@ -333,37 +361,52 @@ string_escape d text s stop h e n p =
     (string_unspelled d s (backslash ∷ []) h no_backslash_tail) (rw p refl)
 
 -- before a bare item
-start_of : (d : Dialect) (x : Bare) (b : ℕ) → begins x b ≡ true → is_bare_start d b ≡ true
+start_of : (d : Dialect) (x : Bare) (b : ℕ) → begins d x b ≡ true → is_bare_start d b ≡ true
 start_of d (bare.Text s) b h = grind arith
 start_of d (bare.Token s) b h = grind arith
 start_of d (bare.Boolean c) b h = grind arith
 start_of d (bare.Blob s) b h = grind arith
+start_of d (bare.Shown s) b h = grind arith
 start_of d x b h = absurd (cc h)
 
 started : (d : Dialect) (b : ℕ) → is_bare_start d b ≡ true → Continues (SpellsLeaf d) (b ∷ [])
-started d b h = by (is_token_start b) refl (b == quote) refl (b == question_mark) refl
+started d b h = by (is_token_start b) refl (b == quote) refl (b == question_mark) refl (b == colon) refl
   where
     by : (x : Bool) → is_token_start b ≡ x → (y : Bool) → (b == quote) ≡ y
-        → (z : Bool) → (b == question_mark) ≡ z → Continues (SpellsLeaf d) (b ∷ [])
-    by true e y f z g = ([], bare.Token (b ∷ []), (refl, (e, tt)))
-    by false e true f z g = (
+        → (z : Bool) → (b == question_mark) ≡ z → (w : Bool) → (b == colon) ≡ w → Continues (SpellsLeaf d) (b ∷ [])
+    by true e y f z g w i = ([], bare.Token (b ∷ []), (refl, (e, tt)))
+    by false e true f z g w i = (
       quote ∷ [],
       bare.Text [],
       (ap (λ x. x ∷ quote ∷ []) (eqb-true b quote f), tt),
     )
-    by false e false f true g = (
+    by false e false f true g w i = (
       digit_zero ∷ [],
       bare.Boolean false,
       ap (λ x. x ∷ digit_zero ∷ []) (eqb-true b question_mark g),
     )
-    by false e false f false g =
-        let k : (b == colon) ≡ true = rw (e, f, g) at h in (
-          colon ∷ [],
-          bare.Blob [],
+    by false e false f false g true i = (
+      colon ∷ [],
+      bare.Blob [],
+      (
+        colon ∷ [],
+        ap (λ x. x ∷ colon ∷ []) (eqb-true b colon i),
+        (0, colon ∷ [], omega arith, refl, tt, (0, omega arith, refl)),
+      ),
+    )
+    by false e false f false g false i =
+        let k : (b == percent && is_rfc9651 d) ≡ true = rw (e, f, g, i) at h in
+        let p = and_parts (b == percent) (is_rfc9651 d) k in (
+          quote ∷ quote ∷ [],
+          bare.Shown [],
           (
-            colon ∷ [],
-            ap (λ x. x ∷ colon ∷ []) (eqb-true b colon k),
-            (0, colon ∷ [], omega arith, refl, tt, (0, omega arith, refl)),
+            p.1,
+            (
+              quote ∷ [],
+              ap (λ x. x ∷ quote ∷ quote ∷ []) (eqb-true b percent p.0),
+              refl,
+              tt,
+            ),
           ),
         )
 
@@ -372,18 +415,25 @@ unstarted d (bare.Text s) h = cons_nil _ _ (sym h.0)
 unstarted d (bare.Token s) h = subst (IsWord is_token_start is_in_token) (sym h.0) h.1
 unstarted d (bare.Boolean c) h = cons_nil _ _ (sym h)
 unstarted d (bare.Blob s) h = cons_nil _ _ (sym h.1)
+unstarted d (bare.Shown s) h = cons_nil _ _ (sym h.1.1)
 unstarted d x h = h
 
 pub no_start : (d : Dialect) (b : ℕ) (t more : List ℕ) → t ≡ b ∷ more → b ≢ quote
-    → b ≢ question_mark → b ≢ colon → is_token_start b ≡ false → Lacks (is_bare_start d) t
-no_start d b t more e q m c s = rw e (none b q m c s)
+    → b ≢ question_mark → b ≢ colon → b ≢ percent → is_token_start b ≡ false
+    → Lacks (is_bare_start d) t
+no_start d b t more e q m c p s = rw e (none b q m c p s)
   where
-    none : (b : ℕ) → b ≢ quote → b ≢ question_mark → b ≢ colon → is_token_start b ≡ false
-        → is_bare_start d b ≡ false
-    none b q m c s = grind arith
+    none : (b : ℕ) → b ≢ quote → b ≢ question_mark → b ≢ colon → b ≢ percent
+        → is_token_start b ≡ false → is_bare_start d b ≡ false
+    none b q m c p s = grind arith
 
 pub no_byte : (d : Dialect) (t : List ℕ) → t ≡ [] → Lacks (is_bare_start d) t
 no_byte d t e = rw e tt
+
+-- a percent sign begins no bare item of RFC 8941
+pub no_percent : (d : Dialect) (t more : List ℕ) → t ≡ percent ∷ more → is_rfc9651 d ≡ false
+    → Lacks (is_bare_start d) t
+no_percent d t more e r = rw (e, r) refl
 
 pub bare_refused : (d : Dialect) (stop : Stop) → Lacks (is_bare_start d) stop.left.now
     → stop.place ≡ place.Start → RefusesLeaf d (SpellsLeaf d) stop.left.now stop

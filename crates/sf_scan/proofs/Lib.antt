@@ -6,3 +6,6 @@ pub mod Bares
 pub mod Automata
 pub mod Base64
 pub mod Blobs
+pub mod Characters
+pub mod DisplayStrings
+pub mod ShownStops

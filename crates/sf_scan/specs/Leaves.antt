@@ -1,5 +1,5 @@
 -- Bare items that point into the text.
-use Rattle.std.specs.Prelude.{ℕ, ◌==◌, if◌then◌else◌, List, [], ◌∷◌}
+use Rattle.std.specs.Prelude.{◌≡◌, ℕ, true, ◌==◌, if◌then◌else◌, List, [], ◌∷◌}
 use Rattle.sf_value.specs.Ascii.{backslash}
 use Rattle.sf_value.specs.declared.dialect.Dialect.{Dialect}
 use Rattle.sf_value.specs.declared.value.Bare.{Bare}
@@ -8,7 +8,10 @@ use Rattle.sf_value.specs.Grammar.Strings.{SpellsString}
 use Rattle.sf_value.specs.Grammar.Tokens.{SpellsToken}
 use Rattle.sf_value.specs.Grammar.ByteSequences.{SpellsByteSequence}
 use Rattle.sf_value.specs.Grammar.Booleans.{SpellsBoolean}
+use Rattle.sf_value.specs.Grammar.DisplayStrings.{SpellsDisplayString}
+use Rattle.sf_value.specs.Grammar.Dialects.{is_rfc9651}
 use Rattle.sf_scan.specs.Blobs.{blob_bytes}
+use Rattle.sf_scan.specs.DisplayStrings.{shown_bytes}
 use Rattle.sf_scan.specs.declared.leaf.Leaf.{Leaf}
 use Rattle.sf_scan.specs.declared.leaf.Leaf.TheVariants as leaf
 
@@ -24,6 +27,7 @@ leaf_bare (leaf.Token t) = bare.Token t.now
 leaf_bare (leaf.Text t) = bare.Text t.now
 leaf_bare (leaf.Escaped t) = bare.Text (unescaped t.now)
 leaf_bare (leaf.Blob t) = bare.Blob (blob_bytes t.now)
+leaf_bare (leaf.Display t) = bare.Shown (shown_bytes t.now)
 leaf_bare (leaf.Boolean b) = bare.Boolean b
 
 -- the bare items that are read so far, as `SpellsBare` defines them
@@ -31,5 +35,6 @@ abbrev pub SpellsLeaf : Dialect → List ℕ → Bare → Type 0
 SpellsLeaf d t (bare.Text s) = SpellsString t s
 SpellsLeaf d t (bare.Token s) = SpellsToken t s
 SpellsLeaf d t (bare.Blob s) = SpellsByteSequence t s
+SpellsLeaf d t (bare.Shown s) = (is_rfc9651 d ≡ true) × SpellsDisplayString t s
 SpellsLeaf d t (bare.Boolean b) = SpellsBoolean t b
 SpellsLeaf d t x = ⊥

@@ -1,6 +1,8 @@
 -- What the scanner accepts, where it stops, and what may come there.
 pub mod Stops
 pub mod Blobs
+pub mod Characters
+pub mod DisplayStrings
 pub mod Places
 pub mod Leaves
 pub mod Sets

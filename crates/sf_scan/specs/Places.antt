@@ -1,16 +1,18 @@
 -- The places of the grammar where reading may stop, by the bytes that may come there.
-use Rattle.std.specs.Prelude.{ℕ, Bool, true, false, ◌==◌, ◌||◌}
-use Rattle.sf_value.specs.Ascii.{quote, question_mark, colon, digit_zero, digit_one}
+use Rattle.std.specs.Prelude.{ℕ, Bool, true, false, ◌==◌, ◌&&◌, ◌||◌}
+use Rattle.sf_value.specs.Ascii.{quote, question_mark, colon, percent, digit_zero, digit_one}
 use Rattle.sf_value.specs.Grammar.Classes.{is_token_start, is_in_token, is_visible}
 use Rattle.sf_value.specs.Grammar.Strings.{is_escaped}
 use Rattle.sf_value.specs.declared.dialect.Dialect.{Dialect}
+use Rattle.sf_value.specs.Grammar.Dialects.{is_rfc9651}
 use Rattle.sf_scan.specs.Blobs.{in_blob}
+use Rattle.sf_scan.specs.DisplayStrings.{in_shown}
 use Rattle.sf_scan.specs.declared.place.BarePlace.{BarePlace}
 use Rattle.sf_scan.specs.declared.place.BarePlace.TheVariants as place
 
 -- the first bytes of the bare items that are read so far
 abbrev pub is_bare_start : Dialect → ℕ → Bool
-is_bare_start d b = is_token_start b || (b == quote || (b == question_mark || b == colon))
+is_bare_start d b = is_token_start b || (b == quote || (b == question_mark || (b == colon || (b == percent && is_rfc9651 d))))
 
 -- the bytes that may come at a place in a bare item
 abbrev pub in_bare : Dialect → BarePlace → ℕ → Bool
@@ -20,6 +22,7 @@ in_bare d place.InToken b = is_in_token b
 in_bare d place.InString b = is_visible b
 in_bare d place.Backslash b = is_escaped b
 in_bare d (place.Blob p) b = in_blob p b
+in_bare d (place.Shown p) b = in_shown p b
 in_bare d place.Complete b = false
 
 -- whether the bare item may end there
@@ -30,4 +33,5 @@ ends_bare place.InToken = true
 ends_bare place.InString = false
 ends_bare place.Backslash = false
 ends_bare (place.Blob p) = false
+ends_bare (place.Shown p) = false
 ends_bare place.Complete = true

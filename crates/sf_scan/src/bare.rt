@@ -1,6 +1,6 @@
 //! Bare items (RFC 9651 section 4.2.3.1).
 ghost use Rattle.std.specs.Prelude.{◌≡◌, [], ◌∷◌, Ok, MatchResult, MatchOption};
-ghost use Rattle.sf_value.specs.Ascii.{quote, question_mark, colon};
+ghost use Rattle.sf_value.specs.Ascii.{quote, question_mark, colon, percent as percent_sign};
 ghost use Rattle.sf_value.specs.declared.dialect.Dialect.{Dialect as Which};
 ghost use Rattle.sf_value.specs.Grammar.Strings.{is_escaped};
 ghost use Rattle.sf_scan.specs.Leaves.{SpellsLeaf};
@@ -8,6 +8,7 @@ ghost use Rattle.sf_scan.specs.Scans.{ScansLeaf, Escapes, StopsEscaped, BeginsTo
 ghost use Rattle.sf_scan.specs.Stops.{Past, Lacks};
 
 use crate::byte_sequence::byte_sequence;
+use crate::display_string::display_string;
 use crate::leaf::Leaf;
 use crate::place::{BarePlace, Stop};
 use crate::runs::{short_run, split, strip};
@@ -33,6 +34,9 @@ pub fn bare(dialect: Dialect, text: &[u8]) -> Result<(Leaf<'_>, Stop<'_>), Stop<
     if first == b':' {
         return byte_sequence(more);
     }
+    if first == b'%' {
+        return percent(dialect, text, more);
+    }
     if can_start_token(first) {
         return Ok(token(text, more));
     }
@@ -40,6 +44,24 @@ pub fn bare(dialect: Dialect, text: &[u8]) -> Result<(Leaf<'_>, Stop<'_>), Stop<
         left: text,
         place: BarePlace::Start,
     })
+}
+
+/// What begins with a percent sign; `more` is the text without it.
+fn percent<'a>(
+    dialect: Dialect,
+    text: &'a [u8],
+    more: &'a [u8],
+) -> Result<(Leaf<'a>, Stop<'a>), Stop<'a>>
+    requires { text.now ≡ percent_sign ∷ more.now }
+    ensures { ScansLeaf dialect (SpellsLeaf dialect) text.now result }
+{
+    match dialect {
+        Dialect::Rfc8941 => Err(Stop {
+            left: text,
+            place: BarePlace::Start,
+        }),
+        Dialect::Rfc9651 => display_string(more),
+    }
 }
 
 /// A Boolean, after its question mark.

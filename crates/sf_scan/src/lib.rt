@@ -5,6 +5,9 @@
 pub mod bare;
 pub mod blob_place;
 pub mod byte_sequence;
+pub mod char_place;
+pub mod display_string;
 pub mod leaf;
 pub mod place;
 pub mod runs;
+pub mod shown_place;

@@ -1,9 +1,10 @@
 //! The places of the grammar where reading may stop, and the bytes that may come there.
 ghost use Rattle.std.specs.Prelude.{◌≡◌};
-ghost use Rattle.sf_scan.specs.Places.{in_bare, ends_bare};
+ghost use Rattle.sf_scan.specs.Places.{in_bare, ends_bare, is_bare_start};
 ghost use Rattle.sf_scan.specs.Sets.{Marks};
 
 use crate::blob_place::BlobPlace;
+use crate::shown_place::ShownPlace;
 use sf_value::Dialect;
 
 /// A place in a bare item.
@@ -21,6 +22,8 @@ pub enum BarePlace {
     Backslash,
     /// In a Byte Sequence.
     Blob(BlobPlace),
+    /// In a Display String.
+    Shown(ShownPlace),
     /// After a bare item that no further byte can belong to.
     Complete,
 }
@@ -49,14 +52,14 @@ impl BarePlace {
     pub fn expected(self, dialect: Dialect) -> u128
         ensures { Marks result (in_bare dialect self) }
     {
-        let _ = dialect;
         match self {
-            BarePlace::Start => TOKEN_START | QUOTE | 1 << b'?' | 1 << b':',
+            BarePlace::Start => first_bytes(dialect),
             BarePlace::QuestionMark => 3 << b'0',
             BarePlace::InToken => TOKEN,
             BarePlace::InString => VISIBLE,
             BarePlace::Backslash => QUOTE | 1 << b'\\',
             BarePlace::Blob(place) => place.expected(),
+            BarePlace::Shown(place) => place.expected(),
             BarePlace::Complete => 0,
         }
     }
@@ -66,6 +69,16 @@ impl BarePlace {
         ensures { result ≡ ends_bare self }
     {
         matches!(self, BarePlace::InToken | BarePlace::Complete)
+    }
+}
+
+/// The first bytes of bare items.
+fn first_bytes(dialect: Dialect) -> u128
+    ensures { Marks result (is_bare_start dialect) }
+{
+    match dialect {
+        Dialect::Rfc8941 => TOKEN_START | QUOTE | 1 << b'?' | 1 << b':',
+        Dialect::Rfc9651 => TOKEN_START | QUOTE | 1 << b'?' | 1 << b':' | 1 << b'%',
     }
 }
 

@@ -34,4 +34,4 @@ pub returns : goal.returns
 returns c =
     let d = c.args.dialect in
     bare_refused d _ (no_start d _ _ _ c.in-Some.ensures c.if-first-eq34.false c.if-first-eq63.false
-    c.if-first-eq58.false (sym c.can_start_token.ensures ∙ c.if-can_start_token.false)) refl
+    c.if-first-eq58.false c.if-first-eq37.false (sym c.can_start_token.ensures ∙ c.if-can_start_token.false)) refl
