@@ -1,6 +1,6 @@
 -- What a function that scans a construct returns.
-use Rattle.std.specs.Prelude.{◌≡◌, ◌≢◌, ⊤, ◌⊎◌, ◌==◌, ℕ, true, false, List, ◌∷◌, ◌++◌, Result, Ok, Err}
-use Rattle.sf_value.specs.Ascii.{backslash, quote}
+use Rattle.std.specs.Prelude.{◌≡◌, ◌==◌, ℕ, true, false, List, ◌∷◌, ◌++◌, Result, Ok, Err}
+use Rattle.sf_value.specs.Ascii.{backslash}
 use Rattle.sf_value.specs.declared.dialect.Dialect.{Dialect}
 use Rattle.sf_value.specs.declared.value.Bare.{Bare}
 use Rattle.sf_value.specs.Grammar.Classes.{is_visible, is_token_start}
@@ -8,15 +8,10 @@ use Rattle.sf_value.specs.Grammar.Strings.{is_unescaped, is_escaped, escaped}
 use Rattle.sf_value.specs.Grammar.Words.{Every}
 use Rattle.sf_scan.specs.Leaves.{leaf_bare}
 use Rattle.sf_scan.specs.Places.{in_bare, ends_bare}
-use Rattle.sf_scan.specs.Stops.{Lacks, FirstIs, Reads, Refuses}
-use Rattle.sf_scan.specs.Characters.{can_begin, low_digits}
-use Rattle.sf_scan.specs.DisplayStrings.{BeginsDigit, BeginsByte, is_first_digit, is_second_digit}
-use Rattle.sf_scan.specs.declared.char_place.CharPlace.{CharPlace}
-use Rattle.sf_scan.specs.declared.char_place.CharPlace.TheVariants as chars
-use Rattle.sf_scan.specs.declared.shown_place.ShownPlace.TheVariants as shown
+use Rattle.sf_scan.specs.Stops.{Lacks, Reads, Refuses}
 use Rattle.sf_scan.specs.declared.leaf.Leaf.{Leaf}
 use Rattle.sf_scan.specs.declared.place.Stop.{Stop}
-use Rattle.sf_scan.specs.declared.place.BarePlace.TheVariants.{Backslash, Shown}
+use Rattle.sf_scan.specs.declared.place.BarePlace.TheVariants.{Backslash}
 
 -- the leaf is the bare item up to the stop, and the place says what could lengthen it
 pub record ReadsLeaf (d : Dialect) (L : List ℕ → Bare → Type 0) (text : List ℕ) (leaf : Leaf)
@@ -52,29 +47,6 @@ pub record StopsEscaped (text : List ℕ) (stop : Stop) : Type 0 where
   pub past : PastEscaped text (backslash ∷ stop.left.now)
   pub no_escaped : Lacks is_escaped stop.left.now
   pub place : stop.place ≡ Backslash
-
--- two digits of a byte that leads to the next place
-abbrev pub PastEscape : CharPlace → List ℕ → CharPlace → List ℕ → Type 0
-PastEscape c text next rest = (h : ℕ) × (more : List ℕ)
-    × BeginsDigit (can_begin c) text h more
-    × BeginsByte c h more next rest
-
--- no digit of such a byte: neither a first one, or only that
-abbrev pub StopsEscape : CharPlace → List ℕ → Stop → Type 0
-StopsEscape c text stop =
-    ((stop.left.now ≡ text) × (stop.place ≡ Shown (shown.Percent c))
-    × Lacks (is_first_digit c) text)
-    ⊎ ((h : ℕ) × BeginsDigit (can_begin c) text h stop.left.now
-    × (stop.place ≡ Shown (shown.Digit (low_digits c h)))
-    × Lacks (is_second_digit (low_digits c h)) stop.left.now)
-
--- the closing quote comes, and no character is open; or not so
-abbrev pub Closes : CharPlace → List ℕ → List ℕ → Type 0
-Closes c text rest = (c ≡ chars.Start) × (text ≡ quote ∷ rest)
-
-abbrev pub StaysOpen : CharPlace → List ℕ → Type 0
-StaysOpen chars.Start text = FirstIs (λ b. b ≢ quote) text
-StaysOpen c text = ⊤
 
 -- the text is the first byte of a Token, and more
 abbrev pub BeginsToken : List ℕ → List ℕ → Type 0

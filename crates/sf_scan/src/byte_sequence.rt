@@ -1,23 +1,25 @@
 //! Byte Sequences (RFC 9651 section 4.2.7).
-ghost use Rattle.std.specs.Prelude.{◌≡◌, ◌%◌, [], ◌∷◌};
+ghost use Rattle.std.specs.Prelude.{◌≡◌, ◌%◌, [], ◌∷◌, ◌++◌};
 ghost use Rattle.sf_value.specs.Ascii.{colon};
+ghost use Rattle.sf_value.specs.Grammar.ByteSequences.{is_base64};
+ghost use Rattle.sf_value.specs.Grammar.Words.{Every};
 ghost use Rattle.sf_value.specs.declared.dialect.Dialect.{Dialect as Which};
 ghost use Rattle.sf_scan.specs.Blobs.{place_at};
 ghost use Rattle.sf_scan.specs.Leaves.{SpellsLeaf};
 ghost use Rattle.sf_scan.specs.Scans.{ScansLeaf};
-ghost use Rattle.sf_scan.specs.Stops.{Past};
+ghost use Rattle.sf_scan.specs.Stops.{Past, Lacks};
 
 use crate::blob_place::BlobPlace;
 use crate::leaf::Leaf;
 use crate::place::{BarePlace, Stop};
 use crate::runs::{short_run, strip};
-use sf_value::classes::Base64;
+use sf_value::classes::{Base64, long_prefix};
 
 /// A Byte Sequence, after its opening colon.
 pub fn byte_sequence(text: &[u8]) -> Result<(Leaf<'_>, Stop<'_>), Stop<'_>>
     ensures { (d : Which) → ScansLeaf d (Past (colon ∷ []) (SpellsLeaf d)) text.now result }
 {
-    let (run, after_run) = short_run::<Base64>(text);
+    let (run, after_run) = characters(text);
     let mut place = after_characters(run.len());
     let mut left = after_run;
     while let Some(more) = strip(left, b'=') {
@@ -50,6 +52,18 @@ pub fn byte_sequence(text: &[u8]) -> Result<(Leaf<'_>, Stop<'_>), Stop<'_>>
             place: BarePlace::Complete,
         },
     ))
+}
+
+/// The longest run of characters of base64 that the text begins with, and the rest.
+fn characters(text: &[u8]) -> (&[u8], &[u8])
+    ensures whole { text.now ≡ result.0.now ++ result.1.now }
+    ensures every { Every is_base64 result.0.now }
+    ensures longest { Lacks is_base64 result.1.now }
+{
+    let (first, more) = long_prefix::<Base64>(text);
+    let (second, left) = short_run::<Base64>(more);
+    let (run, _) = text.split_at(first.len() + second.len());
+    (run, left)
 }
 
 /// The place after this many characters of base64.

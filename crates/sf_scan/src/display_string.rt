@@ -6,8 +6,9 @@ ghost use Rattle.sf_value.specs.declared.dialect.Dialect.{Dialect as Which};
 ghost use Rattle.sf_scan.specs.Characters.{can_begin as can_begin_at, low_digits as low_digits_at};
 ghost use Rattle.sf_scan.specs.DisplayStrings.{PastUnencoded, BeginsDigit, BeginsByte};
 ghost use Rattle.sf_scan.specs.DisplayStrings.{is_first_digit, is_second_digit};
+ghost use Rattle.sf_scan.specs.DisplayStrings.{PastEscape, StopsEscape, Closes, StaysOpen};
 ghost use Rattle.sf_scan.specs.Leaves.{SpellsLeaf};
-ghost use Rattle.sf_scan.specs.Scans.{ScansLeaf, PastEscape, StopsEscape, Closes, StaysOpen};
+ghost use Rattle.sf_scan.specs.Scans.{ScansLeaf};
 ghost use Rattle.sf_scan.specs.Stops.{Past, Lacks};
 
 use crate::char_place::CharPlace;
