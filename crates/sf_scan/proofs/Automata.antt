@@ -1,7 +1,7 @@
 -- Automata: in a state, `next` tells which bytes may come, `after` the state that each leads to, and
 -- `final` whether the text may end.
 use Rattle.std.proofs.Common.{◌≡◌, ℕ, Bool, true, false, List, [], ◌∷◌, ◌++◌, sym}
-use Rattle.std.proofs.Common.{subst, append_assoc, append-nil}
+use Rattle.std.proofs.Common.{◌∙◌, ap, subst, append_assoc, append-nil}
 use Rattle.sf_value.specs.Grammar.Lines.{Continues}
 use Rattle.sf_scan.specs.Stops.{IsFollowed}
 
@@ -15,6 +15,13 @@ abbrev pub Accepts : {S : Type 0} → (S → ℕ → Bool) → (S → ℕ → S)
 Accepts next after final s [] = final s ≡ true
 Accepts next after final s (b ∷ t) =
     (next s b ≡ true) × Accepts next after final (after s b) t
+
+-- the bytes of the text before the rest lead from one state to the other
+pub record Went {S : Type 0} (next : S → ℕ → Bool) (after : S → ℕ → S) (s e : S)
+    (text rest : List ℕ) : Type 0 where
+  pub part : List ℕ
+  pub split : text ≡ part ++ rest
+  pub path : Leads next after s part e
 
 -- from the state s the texts of L are accepted, and no others
 pub record Recognizes {S V : Type 0} (next : S → ℕ → Bool) (after : S → ℕ → S) (final : S → Bool)
@@ -37,6 +44,14 @@ module _ {S : Type 0} (next : S → ℕ → Bool) (after : S → ℕ → S) (fin
       → Accepts next after final s (p ++ t) → Accepts next after final e t
   leads_back s e [] t h k = subst (λ x. Accepts next after final x t) h k
   leads_back s e (b ∷ p) t h k = leads_back (after s b) e p t h.1 k.1
+
+  abbrev pub went_on : (s m e : S) (text mid rest : List ℕ) → Went next after s m text mid
+      → Went next after m e mid rest → Went next after s e text rest
+  went_on s m e text mid rest v w = record {
+    part = v.part ++ w.part;
+    split = v.split ∙ (ap (λ t. v.part ++ t) w.split ∙ sym (append_assoc v.part w.part rest));
+    path = leads_more s m e v.part w.part v.path w.path;
+  }
 
   -- a text that leads to a state may end exactly if the state may
   pub leads_end : (s e : S) (p : List ℕ) → Leads next after s p e → final e ≡ true

@@ -169,13 +169,13 @@ bytes_text (b ∷ s) u c (t, inr (k, e), f) w =
     (bytes_text s t y.0 f (subst (λ x. WellFormed x s) (sym y.2) n.2)))
 
 -- every accepted text is one of the grammar
-pub record Shows (c : CharPlace) (t : List ℕ) : Type 0 where
+pub record SpellsRest (c : CharPlace) (t : List ℕ) : Type 0 where
   pub bytes : List ℕ
   pub encoded : EncodedBytes t bytes
   pub formed : WellFormed (utf8_of c) bytes
 
 -- after the percent sign of the escape of a byte
-record Escapes (c : CharPlace) (t : List ℕ) : Type 0 where
+record SpellsEscape (c : CharPlace) (t : List ℕ) : Type 0 where
   byte : ℕ
   rest : List ℕ
   text : t ≡ hex (byte / 16) ∷ hex (byte % 16) ∷ rest
@@ -185,7 +185,7 @@ record Escapes (c : CharPlace) (t : List ℕ) : Type 0 where
   formed : WellFormed (utf8_of c) (byte ∷ bytes)
 
 -- and after its first digit
-record Completes (c : CharPlace) (h : ℕ) (t : List ℕ) : Type 0 where
+record SpellsDigit (c : CharPlace) (h : ℕ) (t : List ℕ) : Type 0 where
   low : ℕ
   rest : List ℕ
   text : t ≡ hex low ∷ rest
@@ -196,9 +196,9 @@ record Completes (c : CharPlace) (h : ℕ) (t : List ℕ) : Type 0 where
 
 Residual : State → List ℕ → Type 0
 Residual Opening t = Unit {0}
-Residual (Between c) t = Shows c t
-Residual (Percent c) t = Escapes c t
-Residual (Digit c h) t = Completes c h t
+Residual (Between c) t = SpellsRest c t
+Residual (Percent c) t = SpellsEscape c t
+Residual (Digit c h) t = SpellsDigit c h t
 Residual Closed t = t ≡ []
 
 abbrev pub Good : State → Type 0
@@ -206,7 +206,7 @@ Good (Digit c h) = (h < 16) × (can_begin c h ≡ true)
 Good s = Unit {0}
 
 between_read : (c : CharPlace) (b : ℕ) (t : List ℕ)
-    → ((s : State) → Good s → Text s t → Residual s t) → Text (Between c) (b ∷ t) → Shows c (b ∷ t)
+    → ((s : State) → Good s → Text s t → Residual s t) → Text (Between c) (b ∷ t) → SpellsRest c (b ∷ t)
 unfolding Residual
 between_read c b t read h = by (b == quote) refl (b == percent) refl h.1
   where
@@ -215,7 +215,7 @@ between_read c b t read h = by (b == quote) refl (b == percent) refl h.1
 
     by : (x : Bool) → (b == quote) ≡ x → (y : Bool) → (b == percent) ≡ y
         → Text (if b == quote then Closed else (if b == percent then Percent c else Between c)) t
-        → Shows c (b ∷ t)
+        → SpellsRest c (b ∷ t)
     by true e y f a =
         let k = read Closed tt (subst (λ x. Text (if x then Closed else (if b == percent then Percent c else Between c)) t) e a) in
         let s = (between_start c b h.0 (apart b e)).0 in
@@ -266,7 +266,7 @@ split_small h l k j = omega arith
 
 percent_read : (c : CharPlace) (b : ℕ) (t : List ℕ)
     → ((s : State) → Good s → Text s t → Residual s t) → Text (Percent c) (b ∷ t)
-    → Escapes c (b ∷ t)
+    → SpellsEscape c (b ∷ t)
 unfolding Residual
 percent_read c b t read h =
     let p = passed (can_begin c) (unhex b) h.0 in
@@ -290,7 +290,7 @@ some_of None h = absurd cc
 
 digit_read : (c : CharPlace) (n b : ℕ) (t : List ℕ) → n < 16 → can_begin c n ≡ true
     → ((s : State) → Good s → Text s t → Residual s t) → Text (Digit c n) (b ∷ t)
-    → Completes c n (b ∷ t)
+    → SpellsDigit c n (b ∷ t)
 unfolding Residual
 digit_read c n b t g k read h =
     let p = passed (is_low (low_digits c n)) (unhex b) h.0 in
@@ -323,6 +323,6 @@ bytes_read (b ∷ t) (Percent c) g h = percent_read c b t (λ s. bytes_read t s)
 bytes_read (b ∷ t) (Digit c n) g h = digit_read c n b t g.0 g.1 (λ s. bytes_read t s) h
 bytes_read (b ∷ t) Closed g h = absurd (let k = h.0 in cc)
 
-pub shows : (t : List ℕ) → Text (Between chars.Start) t → Shows chars.Start t
+pub shows : (t : List ℕ) → Text (Between chars.Start) t → SpellsRest chars.Start t
 unfolding Residual
 shows t h = bytes_read t (Between chars.Start) tt h

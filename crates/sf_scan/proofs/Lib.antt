@@ -6,6 +6,7 @@ pub mod Bares
 pub mod Automata
 pub mod Base64
 pub mod Blobs
+pub mod BlobStops
 pub mod Characters
 pub mod DisplayStrings
 pub mod ShownStops

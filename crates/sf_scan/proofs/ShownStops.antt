@@ -28,12 +28,12 @@ use Rattle.sf_scan.specs.declared.place.Stop.{Stop}
 use Rattle.sf_scan.specs.declared.place.BarePlace.TheVariants as place
 use Rattle.sf_scan.specs.declared.shown_place.ShownPlace.{ShownPlace}
 use Rattle.sf_scan.specs.declared.shown_place.ShownPlace.TheVariants as shown
-use Rattle.sf_scan.proofs.Automata.{Recognizes, leads_more, leads_end, leads_followed, leads_unspelled}
+use Rattle.sf_scan.proofs.Automata.{Recognizes, Went, went_on, leads_more, leads_end, leads_followed, leads_unspelled}
 use Rattle.sf_scan.proofs.Bares.{shown_texts, reads_leaf, refuses_leaf, lacks_none}
 use Rattle.sf_scan.proofs.Base64.{byte_small}
 use Rattle.sf_scan.proofs.Characters.{low_same, is_low_two}
 use Rattle.sf_scan.proofs.DisplayStrings.{State, Opening, Between, Percent, Digit, Closed, next, after}
-use Rattle.sf_scan.proofs.DisplayStrings.{reached, final, Text, Path, Good, bytes_text, Shows, shows, some_of}
+use Rattle.sf_scan.proofs.DisplayStrings.{reached, final, Text, Path, Good, bytes_text, SpellsRest, shows, some_of}
 use Rattle.sf_scan.proofs.DisplayStrings.{passed, first_path, second_path, percent_comes}
 use Rattle.sf_scan.proofs.DisplayStrings.{unencoded_tests, high_small, low_small, joined}
 use Rattle.sf_scan.proofs.Languages.{same_followed}
@@ -119,36 +119,25 @@ shown_followed d e s p g h = same_followed _ _ _ (shown_texts d e) _ _
     (leads_followed next after final _ Opening s p shown_recognized h (lives s g)
     (λ b n. lives (after s b) (goods s b g n)))
 
--- the bytes of the text before the rest lead from one state to the other
-pub record Went (s e : State) (text rest : List ℕ) : Type 0 where
-  pub part : List ℕ
-  pub split : text ≡ part ++ rest
-  pub path : Path s part e
-
-pub went_on : (s m e : State) (text mid rest : List ℕ) → Went s m text mid → Went m e mid rest
-    → Went s e text rest
-went_on s m e text mid rest v w = record {
-  part = v.part ++ w.part;
-  split = v.split ∙ (ap (λ t. v.part ++ t) w.split ∙ sym (append_assoc v.part w.part rest));
-  path = leads_more next after final s m e v.part w.part v.path w.path;
-}
+abbrev pub Goes : State → State → List ℕ → List ℕ → Type 0
+Goes = Went next after
 
 pub quote_went : (text inside : List ℕ) → text ≡ quote ∷ inside
-    → Went Opening (Between chars.Start) text inside
+    → Goes Opening (Between chars.Start) text inside
 quote_went text inside e = record { part = quote ∷ []; split = e; path = (refl, refl) }
 
 percent_went : (c : CharPlace) (left escape : List ℕ) → left ≡ percent ∷ escape
-    → Went (Between c) (Percent c) left escape
+    → Goes (Between c) (Percent c) left escape
 percent_went c left escape e =
     record { part = percent ∷ []; split = e; path = (percent_comes c, refl) }
 
 digit_went : (c : CharPlace) (h : ℕ) (text rest : List ℕ) → BeginsDigit (can_begin c) text h rest
-    → Went (Percent c) (Digit c h) text rest
+    → Goes (Percent c) (Digit c h) text rest
 digit_went c h text rest (b, e, u, k) =
     record { part = b ∷ []; split = e; path = first_path c b h u k }
 
 byte_went : (c f : CharPlace) (h : ℕ) (text rest : List ℕ) → h < 16 → can_begin c h ≡ true
-    → BeginsByte c h text f rest → Went (Digit c h) (Between f) text rest
+    → BeginsByte c h text f rest → Goes (Digit c h) (Between f) text rest
 byte_went c f h text rest g k (b, l, e, u, s) = record {
   part = b ∷ [];
   split = e;
@@ -156,10 +145,10 @@ byte_went c f h text rest g k (b, l, e, u, s) = record {
 }
 
 escape_went : (c f : CharPlace) (left escape rest : List ℕ) → left ≡ percent ∷ escape
-    → PastEscape c escape f rest → Went (Between c) (Between f) left rest
+    → PastEscape c escape f rest → Goes (Between c) (Between f) left rest
 escape_went c f left escape rest e (h, more, p, q) =
-    went_on (Between c) (Percent c) (Between f) left escape rest (percent_went c left escape e)
-    (went_on (Percent c) (Digit c h) (Between f) escape more rest (digit_went c h escape more p)
+    went_on next after final (Between c) (Percent c) (Between f) left escape rest (percent_went c left escape e)
+    (went_on next after final (Percent c) (Digit c h) (Between f) escape more rest (digit_went c h escape more p)
     (byte_went c f h more rest (read_hex p.0 h p.2).1 p.3 q))
 
 -- no unencoded byte may follow
@@ -179,11 +168,11 @@ run_path (b ∷ run) h =
 
 -- what the loop keeps
 pub record Reached (inside left : List ℕ) (c : CharPlace) : Type 0 where
-  pub went : Went (Between chars.Start) (Between c) inside left
+  pub went : Goes (Between chars.Start) (Between c) inside left
   pub no_byte : StaysIn c left
 
 past_run : (c : CharPlace) (text rest : List ℕ) → PastUnencoded c text rest
-    → Went (Between c) (Between c) text rest × StaysIn c rest
+    → Goes (Between c) (Between c) text rest × StaysIn c rest
 unfolding StaysIn
 past_run chars.Start text rest h =
     (record { part = h.0; split = h.1; path = run_path h.0 h.2 }, (λ e. h.3))
@@ -207,15 +196,15 @@ pub reached_more : (inside left escape more rest : List ℕ) (c f : CharPlace) �
 reached_more inside left escape more rest c f r e p u =
     let k = past_run f more rest u in
     record {
-      went = went_on (Between chars.Start) (Between f) (Between f) inside more rest
-          (went_on (Between chars.Start) (Between c) (Between f) inside left more r.went
+      went = went_on next after final (Between chars.Start) (Between f) (Between f) inside more rest
+          (went_on next after final (Between chars.Start) (Between c) (Between f) inside left more r.went
           (escape_went c f left escape more e p)) k.0;
       no_byte = k.1;
     }
 
 -- where it stops
 shown_refused : (d : Dialect) → is_rfc9651 d ≡ true → (text : List ℕ) (s : State) (p : ShownPlace)
-    (stop : Stop) → (w : Went Opening s text stop.left.now)
+    (stop : Stop) → (w : Goes Opening s text stop.left.now)
     → IsFollowed (Past (percent ∷ []) (SpellsLeaf d)) (in_shown p) w.part → final s ≡ false
     → stop.place ≡ place.Shown p → Lacks (in_shown p) stop.left.now
     → RefusesLeaf d (Past (percent ∷ []) (SpellsLeaf d)) text stop
@@ -229,7 +218,7 @@ pub refused_quote : (d : Dialect) → is_rfc9651 d ≡ true → (stop : Stop)
     → FirstIs (λ b. b ≢ quote) stop.left.now → stop.place ≡ place.Shown shown.Quote
     → RefusesLeaf d (Past (percent ∷ []) (SpellsLeaf d)) stop.left.now stop
 refused_quote d e stop n k =
-    let w : Went Opening Opening stop.left.now stop.left.now =
+    let w : Goes Opening Opening stop.left.now stop.left.now =
     record { part = []; split = refl; path = refl } in
     shown_refused d e stop.left.now Opening shown.Quote stop w
     (shown_followed d e Opening [] tt refl) refl k (lacks_quote stop.left.now n)
@@ -271,7 +260,7 @@ pub refused_between : (d : Dialect) → is_rfc9651 d ≡ true → (text inside :
     → stop.place ≡ place.Shown (shown.Between c)
     → RefusesLeaf d (Past (percent ∷ []) (SpellsLeaf d)) text stop
 refused_between d e text inside c stop q r h o k =
-    let w = went_on Opening (Between chars.Start) (Between c) text inside stop.left.now
+    let w = went_on next after final Opening (Between chars.Start) (Between c) text inside stop.left.now
     (quote_went text inside q) r.went in
     shown_refused d e text (Between c) (shown.Between c) stop w
     (shown_followed d e (Between c) w.part tt w.path) refl k
@@ -279,10 +268,10 @@ refused_between d e text inside c stop q r h o k =
 
 -- in an escape
 to_percent : (text inside left escape : List ℕ) (c : CharPlace) → text ≡ quote ∷ inside
-    → Reached inside left c → left ≡ percent ∷ escape → Went Opening (Percent c) text escape
+    → Reached inside left c → left ≡ percent ∷ escape → Goes Opening (Percent c) text escape
 to_percent text inside left escape c q r p =
-    went_on Opening (Between c) (Percent c) text left escape
-    (went_on Opening (Between chars.Start) (Between c) text inside left (quote_went text inside q)
+    went_on next after final Opening (Between c) (Percent c) text left escape
+    (went_on next after final Opening (Between chars.Start) (Between c) text inside left (quote_went text inside q)
     r.went)
     (percent_went c left escape p)
 
@@ -291,13 +280,13 @@ pub refused_escape : (d : Dialect) → is_rfc9651 d ≡ true → (text inside le
     → left ≡ percent ∷ escape → StopsEscape c escape stop
     → RefusesLeaf d (Past (percent ∷ []) (SpellsLeaf d)) text stop
 refused_escape d e text inside left escape c stop q r p (inl (same, k, n)) =
-    let w = subst (Went Opening (Percent c) text) (sym same)
+    let w = subst (Goes Opening (Percent c) text) (sym same)
     (to_percent text inside left escape c q r p) in
     shown_refused d e text (Percent c) (shown.Percent c) stop w
     (shown_followed d e (Percent c) w.part tt w.path) refl k
     (subst (Lacks (is_first_digit c)) (sym same) n)
 refused_escape d e text inside left escape c stop q r p (inr (h, b, k, n)) =
-    let w = went_on Opening (Percent c) (Digit c h) text escape stop.left.now
+    let w = went_on next after final Opening (Percent c) (Digit c h) text escape stop.left.now
     (to_percent text inside left escape c q r p) (digit_went c h escape stop.left.now b) in
     shown_refused d e text (Digit c h) (shown.Digit (low_digits c h)) stop w
     (shown_followed d e (Digit c h) w.part ((read_hex b.0 h b.2).1, b.3) w.path) refl k n
@@ -354,8 +343,8 @@ shown_read d e text inside left bytes c l stop q r h i k v =
     )))
     (rw k refl)
   where
-    went : Went (Between chars.Start) (Between chars.Start) inside left
-    went = subst (λ x. Went (Between chars.Start) (Between x) inside left) h.0 r.went
+    went : Goes (Between chars.Start) (Between chars.Start) inside left
+    went = subst (λ x. Goes (Between chars.Start) (Between x) inside left) h.0 r.went
 
     whole : List ℕ
     whole = went.part ++ quote ∷ []
@@ -368,7 +357,7 @@ shown_read d e text inside left bytes c l stop q r h i k v =
     parts = went.split ∙ (ap (λ t. went.part ++ t) h.1
         ∙ sym (append_assoc went.part (quote ∷ []) stop.left.now))
 
-    shown : Shows chars.Start (went.part ++ quote ∷ [])
+    shown : SpellsRest chars.Start (went.part ++ quote ∷ [])
     shown = shows (went.part ++ quote ∷ [])
         (leads_end next after final (Between chars.Start) Closed (went.part ++ quote ∷ []) path refl)
 

@@ -1,9 +1,10 @@
 -- Byte Sequences: the places in them, and the bytes that their characters stand for.
-use Rattle.std.specs.Prelude.{ℕ, zero, suc, ◌+◌, ◌*◌, ◌/◌, ◌%◌, Bool, ◌==◌, ◌||◌, List, [], ◌∷◌}
+use Rattle.std.specs.Prelude.{◌≡◌, ◌≢◌, true, ℕ, zero, suc, ◌+◌, ◌*◌, ◌/◌, ◌%◌, Bool, ◌==◌, ◌||◌, List, [], ◌∷◌}
 use Rattle.std.specs.Prelude.{Option, Some, None}
 use Rattle.sf_value.specs.Ascii.{colon, equals}
 use Rattle.sf_value.specs.Digits.{sextet}
 use Rattle.sf_value.specs.Grammar.ByteSequences.{is_base64}
+use Rattle.sf_scan.specs.Stops.{FirstIs}
 use Rattle.sf_scan.specs.declared.blob_place.BlobPlace.{BlobPlace}
 use Rattle.sf_scan.specs.declared.blob_place.BlobPlace.TheVariants as blob
 
@@ -32,6 +33,7 @@ place_at (suc zero) = blob.One
 place_at (suc (suc zero)) = blob.Two
 place_at (suc (suc (suc n))) = blob.Three
 
+-- one more value; no characters are read after a byte that is none
 abbrev pub more_values : Option ℕ → List ℕ → List ℕ
 more_values (Some x) xs = x ∷ xs
 more_values None xs = []
@@ -53,3 +55,11 @@ octets (x ∷ y ∷ z ∷ w ∷ s) =
 -- the bytes of the text between the colons
 abbrev pub blob_bytes : List ℕ → List ℕ
 blob_bytes t = octets (values t)
+
+-- the closing colon may come, and comes
+abbrev pub Closes : BlobPlace → List ℕ → List ℕ → Type 0
+Closes p text rest = (in_blob p colon ≡ true) × (text ≡ colon ∷ rest)
+
+-- it may not come, or another byte comes
+abbrev pub StaysOpen : BlobPlace → List ℕ → Type 0
+StaysOpen p = FirstIs (λ b. in_blob p colon ≡ true → b ≢ colon)

@@ -1,10 +1,10 @@
 //! Byte Sequences (RFC 9651 section 4.2.7).
-ghost use Rattle.std.specs.Prelude.{◌≡◌, ◌%◌, [], ◌∷◌, ◌++◌};
+ghost use Rattle.std.specs.Prelude.{◌≡◌, ◌%◌, [], ◌∷◌, ◌++◌, MatchOption};
 ghost use Rattle.sf_value.specs.Ascii.{colon};
 ghost use Rattle.sf_value.specs.Grammar.ByteSequences.{is_base64};
 ghost use Rattle.sf_value.specs.Grammar.Words.{Every};
 ghost use Rattle.sf_value.specs.declared.dialect.Dialect.{Dialect as Which};
-ghost use Rattle.sf_scan.specs.Blobs.{place_at};
+ghost use Rattle.sf_scan.specs.Blobs.{place_at, Closes, StaysOpen};
 ghost use Rattle.sf_scan.specs.Leaves.{SpellsLeaf};
 ghost use Rattle.sf_scan.specs.Scans.{ScansLeaf};
 ghost use Rattle.sf_scan.specs.Stops.{Past, Lacks};
@@ -32,19 +32,13 @@ pub fn byte_sequence(text: &[u8]) -> Result<(Leaf<'_>, Stop<'_>), Stop<'_>>
         place = next;
         left = more;
     }
-    if !place.may_close() {
-        return Err(Stop {
-            left,
-            place: BarePlace::Blob(place),
-        });
-    }
-    let Some(rest) = strip(left, b':') else {
+    let Some(rest) = after_colon(place, left) else {
         return Err(Stop {
             left,
             place: BarePlace::Blob(place),
         });
     };
-    let (inside, _) = text.split_at(text.len() - rest.len() - 1);
+    let (inside, _) = text.split_at(text.len() - left.len());
     Ok((
         Leaf::Blob(inside),
         Stop {
@@ -64,6 +58,19 @@ fn characters(text: &[u8]) -> (&[u8], &[u8])
     let (second, left) = short_run::<Base64>(more);
     let (run, _) = text.split_at(first.len() + second.len());
     (run, left)
+}
+
+/// The rest after the closing colon, if it may come.
+fn after_colon(place: BlobPlace, text: &[u8]) -> Option<&[u8]>
+    ensures { MatchOption result (StaysOpen place text.now) (λ rest. Closes place text.now rest.now) }
+{
+    if !place.may_close() {
+        return None;
+    }
+    let Some(rest) = strip(text, b':') else {
+        return None;
+    };
+    Some(rest)
 }
 
 /// The place after this many characters of base64.

@@ -1,6 +1,5 @@
-use Rattle.std.proofs.Common.{refl, sym, ◌∙◌}
-use Rattle.sf_scan.proofs.Blobs.{reached_run, reached_pad, blob_refused, blob_read, no_pad, stuck}
-use Rattle.sf_scan.proofs.Blobs.{not_closing, not_colon}
+use Rattle.std.proofs.Common.{refl, sym}
+use Rattle.sf_scan.proofs.BlobStops.{reached_run, reached_pad, blob_refused, blob_read, no_pad, stuck}
 use Rattle.sf_scan.proofs.byte_sequence.byte_sequence.Goals as goal
 
 pub loop-more-init : goal.loop-more-init
@@ -17,20 +16,12 @@ returns-in_default-padded c = λ d.
     blob_refused d _ _ _ c.loop-more.invariant refl
     (no_pad _ _ _ c.in-Some.ensures (sym c.in_default-padded.ensures))
 
-pub returns-then-not-may_close : goal.returns-then-not-may_close
-returns-then-not-may_close c = λ d.
+pub returns-in_default-after_colon : goal.returns-in_default-after_colon
+returns-in_default-after_colon c = λ d.
     blob_refused d _ _ _ c.loop-more.invariant refl
-    (stuck _ _ _ c.loop-more.invariant c.in_default.ensures
-    (not_closing _ _ (sym c.may_close.ensures ∙ c.if-not-may_close.true)))
-
-pub returns-in_default-strip : goal.returns-in_default-strip
-returns-in_default-strip c = λ d.
-    blob_refused d _ _ _ c.loop-more.invariant refl
-    (stuck _ _ _ c.loop-more.invariant c.in_default.ensures
-    (not_colon _ _ c.in_default-strip.ensures))
+    (stuck _ _ _ c.loop-more.invariant c.in_default.ensures c.in_default-after_colon.ensures)
 
 pub returns : goal.returns
 returns c = λ d.
-    blob_read d _ _ c.split_at.result.0.now _ _ _ c.loop-more.invariant
-    (sym c.may_close.ensures ∙ c.if-not-may_close.false) c.in-Some-strip.ensures
+    blob_read d _ _ c.split_at.result.0.now _ _ _ c.loop-more.invariant c.in-Some-after_colon.ensures
     c.split_at.ensures.front refl refl

@@ -1,5 +1,5 @@
 use Rattle.std.proofs.Common.{length}
-use Rattle.sf_scan.proofs.Blobs.{Reached}
+use Rattle.sf_scan.proofs.BlobStops.{Reached}
 use Rattle.sf_scan.proofs.byte_sequence.byte_sequence.Given as goal
 
 abbrev pub invariant-loop-more : goal.invariant-loop-more
