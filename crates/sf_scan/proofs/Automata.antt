@@ -1,5 +1,5 @@
--- Automata: in a state, `next` tells which bytes may come, `after` the state that each leads to, and
--- `final` whether the text may end.
+-- Automata: of a state, `next` tells which bytes may come, `after` the state that each leads to,
+-- and `final` whether the text may end.
 use Rattle.std.proofs.Common.{◌≡◌, ℕ, Bool, true, false, List, [], ◌∷◌, ◌++◌, sym}
 use Rattle.std.proofs.Common.{◌∙◌, ap, subst, append_assoc, append-nil}
 use Rattle.sf_value.specs.Grammar.Lines.{Continues}
@@ -29,12 +29,22 @@ pub record Recognizes {S V : Type 0} (next : S → ℕ → Bool) (after : S → 
   pub reads : (t : List ℕ) → Accepts next after final s t → (v : V) × L t v
   pub spells : (t : List ℕ) (v : V) → L t v → Accepts next after final s t
 
-module _ {S : Type 0} (next : S → ℕ → Bool) (after : S → ℕ → S) (final : S → Bool) where
-  pub leads_more : (s m e : S) (p q : List ℕ) → Leads next after s p m → Leads next after m q e
-      → Leads next after s (p ++ q) e
-  leads_more s m e [] q h k = subst (λ x. Leads next after x q e) (sym h) k
-  leads_more s m e (b ∷ p) q h k = (h.0, leads_more (after s b) m e p q h.1 k)
+pub leads_more : {S : Type 0} (next : S → ℕ → Bool) (after : S → ℕ → S) (s m e : S) (p q : List ℕ)
+    → Leads next after s p m → Leads next after m q e → Leads next after s (p ++ q) e
+leads_more next after s m e [] q h k = subst (λ x. Leads next after x q e) (sym h) k
+leads_more next after s m e (b ∷ p) q h k = (h.0, leads_more next after (after s b) m e p q h.1 k)
 
+-- one part after the other
+abbrev pub went_on : {S : Type 0} {next : S → ℕ → Bool} {after : S → ℕ → S} {s m e : S}
+    {text mid rest : List ℕ} → Went next after s m text mid → Went next after m e mid rest
+    → Went next after s e text rest
+went_on {next = next} {after = after} {s = s} {m = m} {e = e} {rest = rest} v w = record {
+  part = v.part ++ w.part;
+  split = v.split ∙ (ap (λ t. v.part ++ t) w.split ∙ sym (append_assoc v.part w.part rest));
+  path = leads_more next after s m e v.part w.part v.path w.path;
+}
+
+module _ {S : Type 0} (next : S → ℕ → Bool) (after : S → ℕ → S) (final : S → Bool) where
   pub leads_on : (s e : S) (p t : List ℕ) → Leads next after s p e
       → Accepts next after final e t → Accepts next after final s (p ++ t)
   leads_on s e [] t h k = subst (λ x. Accepts next after final x t) (sym h) k
@@ -44,14 +54,6 @@ module _ {S : Type 0} (next : S → ℕ → Bool) (after : S → ℕ → S) (fin
       → Accepts next after final s (p ++ t) → Accepts next after final e t
   leads_back s e [] t h k = subst (λ x. Accepts next after final x t) h k
   leads_back s e (b ∷ p) t h k = leads_back (after s b) e p t h.1 k.1
-
-  abbrev pub went_on : (s m e : S) (text mid rest : List ℕ) → Went next after s m text mid
-      → Went next after m e mid rest → Went next after s e text rest
-  went_on s m e text mid rest v w = record {
-    part = v.part ++ w.part;
-    split = v.split ∙ (ap (λ t. v.part ++ t) w.split ∙ sym (append_assoc v.part w.part rest));
-    path = leads_more s m e v.part w.part v.path w.path;
-  }
 
   -- a text that leads to a state may end exactly if the state may
   pub leads_end : (s e : S) (p : List ℕ) → Leads next after s p e → final e ≡ true

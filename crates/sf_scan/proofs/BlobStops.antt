@@ -134,7 +134,7 @@ reached_pad text left more p q r e k =
     let w : Goes (At p) (At q) left more =
     record { part = equals ∷ []; split = e; path = h.0 } in
     record {
-      went = went_on next after final (At blob.Whole) (At p) (At q) text left more r.went w;
+      went = went_on r.went w;
       no_character = λ g. absurd (let f = h.1 in cc);
     }
 
@@ -144,11 +144,11 @@ pub blob_refused : (d : Dialect) (text : List ℕ) (p : BlobPlace) (stop : Stop)
     → Lacks (in_blob p) stop.left.now
     → RefusesLeaf d (Past (colon ∷ []) (SpellsLeaf d)) text stop
 blob_refused d text p stop r e n =
-    refuses_leaf d _ text r.went.part stop r.went.split
-    (rw e (blob_followed d (At p) r.went.part r.went.path)) (rw e n)
-    (λ x h. let v = (blob_texts d).down r.went.part x h in
-    leads_unspelled next after final _ (At blob.Whole) (At p) r.went.part blob_recognized r.went.path refl
-    v.0 v.1)
+    let w = r.went in
+    refuses_leaf d _ text w.part stop w.split (rw e (blob_followed d (At p) w.part w.path)) (rw e n)
+    (λ x h. let v = (blob_texts d).down w.part x h in
+    leads_unspelled next after final _ (At blob.Whole) (At p) w.part blob_recognized w.path refl v.0
+    v.1)
     (rw e refl)
 
 -- at an = that can't come
@@ -230,8 +230,10 @@ blob_read d text left inside p l stop r c i k v =
     (rw k refl)
   where
     went : Goes (At blob.Whole) Closed text stop.left.now
-    went = went_on next after final (At blob.Whole) (At p) Closed text left stop.left.now r.went
-        (record { part = colon ∷ []; split = c.1; path = close_path p c.0 })
+    went =
+        let w : Goes (At p) Closed left stop.left.now =
+        record { part = colon ∷ []; split = c.1; path = close_path p c.0 } in
+        went_on r.went w
 
     text_is : Text (At blob.Whole) went.part
     text_is = leads_end next after final (At blob.Whole) Closed went.part went.path refl

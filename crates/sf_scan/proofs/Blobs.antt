@@ -30,8 +30,10 @@ next Closed b = false
 abbrev pub after : State → ℕ → State
 after (At blob.Whole) b = if is_base64 b then At blob.One else Closed
 after (At blob.One) b = At blob.Two
-after (At blob.Two) b = if is_base64 b then At blob.Three else (if b == equals then At blob.Pad else Closed)
-after (At blob.Three) b = if is_base64 b then At blob.Whole else (if b == equals then At blob.Padded else Closed)
+after (At blob.Two) b =
+    if is_base64 b then At blob.Three else (if b == equals then At blob.Pad else Closed)
+after (At blob.Three) b =
+    if is_base64 b then At blob.Whole else (if b == equals then At blob.Padded else Closed)
 after (At blob.Pad) b = if b == equals then At blob.Padded else Closed
 after (At blob.Padded) b = Closed
 after Closed b = Closed
@@ -170,7 +172,8 @@ three_ends : (b : ℕ) (t : List ℕ) → is_base64 b ≡ false → Text (At blo
     → Pads 1 (b ∷ t)
 three_ends b t n h = by (b == equals) refl
     (subst (λ c. (c || (b == colon || b == equals)) ≡ true) n h.0)
-    (subst (λ c. Text (if c then At blob.Whole else (if b == equals then At blob.Padded else Closed)) t) n h.1)
+    (subst (λ s. Text s t)
+    (ap (λ c. if c then At blob.Whole else (if b == equals then At blob.Padded else Closed)) n) h.1)
   where
     by : (x : Bool) → (b == equals) ≡ x → (b == colon || b == equals) ≡ true
         → Text (if b == equals then At blob.Padded else Closed) t → Pads 1 (b ∷ t)
@@ -183,7 +186,8 @@ two_ends : (b : ℕ) (t : List ℕ) → is_base64 b ≡ false → Text (At blob.
     → Pads 2 (b ∷ t)
 two_ends b t n h = by (b == equals) refl
     (subst (λ c. (c || (b == colon || b == equals)) ≡ true) n h.0)
-    (subst (λ c. Text (if c then At blob.Three else (if b == equals then At blob.Pad else Closed)) t) n h.1)
+    (subst (λ s. Text s t)
+    (ap (λ c. if c then At blob.Three else (if b == equals then At blob.Pad else Closed)) n) h.1)
   where
     by : (x : Bool) → (b == equals) ≡ x → (b == colon || b == equals) ≡ true
         → Text (if b == equals then At blob.Pad else Closed) t → Pads 2 (b ∷ t)
@@ -237,12 +241,8 @@ groups_read (b ∷ t) h s a = by (sextet b) refl (λ g. groups_read t g)
   where
     by : (o : Option ℕ) → sextet b ≡ o → ((g : Held) → Small g → Rest g t)
         → Sextets (letters h (b ∷ t)) (octets (held h (more_values (sextet b) (values t))))
-    by (Some x) e rest =
-        subst (λ o. Sextets (letters h (b ∷ t)) (octets (held h (more_values o (values t))))) (sym e)
-        (more h b x t s e rest a)
-    by None e rest =
-        subst (λ o. Sextets (letters h (b ∷ t)) (octets (held h (more_values o (values t))))) (sym e)
-        (last h b t s (none_base64 b e) a)
+    by (Some x) e rest = rw e (more h b x t s e rest a)
+    by None e rest = rw e (last h b t s (none_base64 b e) a)
 
 pub sextets_read : (t : List ℕ) → Text (At blob.Whole) t → Sextets t (blob_bytes t)
 unfolding Rest

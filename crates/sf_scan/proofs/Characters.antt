@@ -1,7 +1,8 @@
 -- The places of the scanner in UTF-8 are the states of the grammar; and its bytes by their digits.
 use Rattle.std.specs.Option.{option_map, option_or}
 use Rattle.std.proofs.Common.{◌≡◌, ℕ, ◌+◌, ◌*◌, ◌/◌, ◌%◌, ◌<◌, ◌≤◌, Bool, true, false, not, ◌||◌}
-use Rattle.std.proofs.Common.{List, [], ◌∷◌, Option, Some, None, is_some, refl, sym, ap, ◌∙◌, subst, arith}
+use Rattle.std.proofs.Common.{List, [], ◌∷◌, Option, Some, None, is_some, refl, sym, ap, ◌∙◌, subst}
+use Rattle.std.proofs.Common.{arith}
 use Rattle.sf_value.specs.Grammar.Classes.{is_visible}
 use Rattle.sf_value.specs.Grammar.Utf8.{Utf8, Start, Within, within, rows, look_up, utf8_step}
 use Rattle.sf_value.specs.Grammar.Utf8.{WellFormed}
@@ -131,15 +132,15 @@ begins_all chars.AfterF4 = refl
 pub step_begins : (c e : CharPlace) (b : ℕ) → b < 256 → char_step c b ≡ Some e
     → can_begin c (b / 16) ≡ true
 step_begins c e b l k =
-    let h = each_below 256 (λ b. not (is_some (char_step c b)) || can_begin c (b / 16)) (begins_all c)
-    b l in
+    let h = each_below 256 (λ b. not (is_some (char_step c b)) || can_begin c (b / 16))
+    (begins_all c) b l in
     subst (λ o. (not (is_some o) || can_begin c (b / 16)) ≡ true) k h
 
-abbrev low_at : CharPlace → ℕ → Bool
-low_at c b = not (can_begin c (b / 16))
-    || same (is_some (char_step c b)) (is_low (low_digits c (b / 16)) (b % 16))
+-- for the byte b with the digits h and l
+abbrev agrees : CharPlace → ℕ → ℕ → ℕ → Bool
+agrees c b h l = not (can_begin c h) || same (is_some (char_step c b)) (is_low (low_digits c h) l)
 
-low_all : (c : CharPlace) → all_below 256 (low_at c) ≡ true
+low_all : (c : CharPlace) → all_below 256 (λ b. agrees c b (b / 16) (b % 16)) ≡ true
 unfolding same
 low_all chars.Start = refl
 low_all chars.Last = refl
@@ -160,15 +161,14 @@ pub low_same : (c : CharPlace) (h l : ℕ) → h < 16 → l < 16 → can_begin c
     → is_some (char_step c (h * 16 + l)) ≡ is_low (low_digits c h) l
 low_same c h l i j k =
     same_is _ _ (rest (h * 16 + l) (omega arith) (omega arith)
-    (each_below 256 (low_at c) (low_all c) (h * 16 + l) (omega arith)))
+    (each_below 256 (λ b. agrees c b (b / 16) (b % 16)) (low_all c) (h * 16 + l) (omega arith)))
   where
-    rest : (b : ℕ) → b / 16 ≡ h → b % 16 ≡ l → low_at c b ≡ true
+    rest : (b : ℕ) → b / 16 ≡ h → b % 16 ≡ l → agrees c b (b / 16) (b % 16) ≡ true
         → same (is_some (char_step c b)) (is_low (low_digits c h) l) ≡ true
     rest b e f n =
-        let g : (not (can_begin c h) || same (is_some (char_step c b)) (is_low (low_digits c h) l)) ≡ true =
-        subst (λ x. (not (can_begin c h) || same (is_some (char_step c b)) (is_low (low_digits c h) x)) ≡ true) f
-        (subst (λ x. (not (can_begin c x) || same (is_some (char_step c b)) (is_low (low_digits c x) (b % 16))) ≡ true) e n) in
-        subst (λ x. (not x || same (is_some (char_step c b)) (is_low (low_digits c h) l)) ≡ true) k g
+        let m = subst (λ x. agrees c b h x ≡ true) f (subst (λ x. agrees c b x (b % 16) ≡ true) e n) in
+        subst (λ x. (not x || same (is_some (char_step c b)) (is_low (low_digits c h) l)) ≡ true) k
+        m
 
 pub is_low_two : (x : LowDigits) → is_low x 2 ≡ true
 is_low_two low.Any = refl

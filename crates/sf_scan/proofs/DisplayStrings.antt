@@ -104,16 +104,24 @@ no_second c h b l g k u s =
     ap (passes (is_low (low_digits c h))) u
     ∙ (sym (low_same c h l g (read_hex b l u).1 k) ∙ ap is_some s)
 
+-- where a byte between the quotes leads
+closes : (c : CharPlace) (b : ℕ) → (b == quote) ≡ true → after (Between c) b ≡ Closed
+closes c b e = rw e refl
+
+escapes : (c : CharPlace) (b : ℕ) → (b == quote) ≡ false → (b == percent) ≡ true
+    → after (Between c) b ≡ Percent c
+escapes c b e f = rw (e, f) refl
+
+pub stays : (c : CharPlace) (b : ℕ) → (b == quote) ≡ false → (b == percent) ≡ false
+    → after (Between c) b ≡ Between c
+stays c b e f = rw (e, f) refl
+
 -- one byte of the value, in the text
 unencoded_text : (b : ℕ) (t : List ℕ) → is_unencoded b ≡ true → Text (Between chars.Start) t
     → Text (Between chars.Start) (b ∷ t)
 unencoded_text b t e h =
     let k = unencoded_tests b e in
-    (k.2, subst (λ s. Text s t) (sym (goes k.0 k.1)) h)
-  where
-    goes : (b == quote) ≡ false → (b == percent) ≡ false
-        → after (Between chars.Start) b ≡ Between chars.Start
-    goes e f = rw (e, f) refl
+    (k.2, subst (λ s. Text s t) (sym (stays chars.Start b k.0 k.1)) h)
 
 -- the two digits of a byte
 pub first_path : (c : CharPlace) (b h : ℕ) → unhex b ≡ Some h → can_begin c h ≡ true
@@ -206,28 +214,25 @@ Good (Digit c h) = (h < 16) × (can_begin c h ≡ true)
 Good s = Unit {0}
 
 between_read : (c : CharPlace) (b : ℕ) (t : List ℕ)
-    → ((s : State) → Good s → Text s t → Residual s t) → Text (Between c) (b ∷ t) → SpellsRest c (b ∷ t)
+    → ((s : State) → Good s → Text s t → Residual s t) → Text (Between c) (b ∷ t)
+    → SpellsRest c (b ∷ t)
 unfolding Residual
-between_read c b t read h = by (b == quote) refl (b == percent) refl h.1
+between_read c b t read h = by (b == quote) refl (b == percent) refl
   where
     apart : (b : ℕ) → (b == quote) ≡ true → (b == percent) ≡ false
     apart b e = grind arith
 
-    by : (x : Bool) → (b == quote) ≡ x → (y : Bool) → (b == percent) ≡ y
-        → Text (if b == quote then Closed else (if b == percent then Percent c else Between c)) t
-        → SpellsRest c (b ∷ t)
-    by true e y f a =
-        let k = read Closed tt (subst (λ x. Text (if x then Closed else (if b == percent then Percent c else Between c)) t) e a) in
+    by : (x : Bool) → (b == quote) ≡ x → (y : Bool) → (b == percent) ≡ y → SpellsRest c (b ∷ t)
+    by true e y f =
+        let k = read Closed tt (subst (λ s. Text s t) (closes c b e) h.1) in
         let s = (between_start c b h.0 (apart b e)).0 in
         record {
           bytes = [];
           encoded = ap₂ (λ x y. x ∷ y) (eqb-true b quote e) k;
           formed = subst (λ x. WellFormed (utf8_of x) []) (sym s) tt;
         }
-    by false e true f a =
-        let a1 : Text (if b == percent then Percent c else Between c) t =
-        subst (λ x. Text (if x then Closed else (if b == percent then Percent c else Between c)) t) e a in
-        let r = read (Percent c) tt (subst (λ x. Text (if x then Percent c else Between c) t) f a1) in
+    by false e true f =
+        let r = read (Percent c) tt (subst (λ s. Text s t) (escapes c b e f) h.1) in
         record {
           bytes = r.byte ∷ r.bytes;
           encoded = (
@@ -237,10 +242,8 @@ between_read c b t read h = by (b == quote) refl (b == percent) refl h.1
           );
           formed = r.formed;
         }
-    by false e false f a =
-        let a1 : Text (if b == percent then Percent c else Between c) t =
-        subst (λ x. Text (if x then Closed else (if b == percent then Percent c else Between c)) t) e a in
-        let r = read (Between c) tt (subst (λ x. Text (if x then Percent c else Between c) t) f a1) in
+    by false e false f =
+        let r = read (Between c) tt (subst (λ s. Text s t) (stays c b e f) h.1) in
         let s = between_start c b h.0 f in
         record {
           bytes = b ∷ r.bytes;

@@ -9,7 +9,8 @@ use Rattle.sf_value.specs.declared.dialect.Dialect.{Dialect}
 use Rattle.sf_value.specs.declared.value.Bare.TheVariants as bare
 use Rattle.sf_value.specs.Grammar.Classes.{is_visible}
 use Rattle.sf_value.specs.Grammar.Dialects.{is_rfc9651}
-use Rattle.sf_value.specs.Grammar.DisplayStrings.{hex, is_unencoded, EncodedBytes, SpellsDisplayString}
+use Rattle.sf_value.specs.Grammar.DisplayStrings.{hex, is_unencoded, EncodedBytes}
+use Rattle.sf_value.specs.Grammar.DisplayStrings.{SpellsDisplayString}
 use Rattle.sf_value.specs.Grammar.Utf8.{Start, WellFormed}
 use Rattle.sf_value.specs.Grammar.Words.{Every}
 use Rattle.sf_value.proofs.DigitValues.{hex_read, read_hex}
@@ -28,12 +29,15 @@ use Rattle.sf_scan.specs.declared.place.Stop.{Stop}
 use Rattle.sf_scan.specs.declared.place.BarePlace.TheVariants as place
 use Rattle.sf_scan.specs.declared.shown_place.ShownPlace.{ShownPlace}
 use Rattle.sf_scan.specs.declared.shown_place.ShownPlace.TheVariants as shown
-use Rattle.sf_scan.proofs.Automata.{Recognizes, Went, went_on, leads_more, leads_end, leads_followed, leads_unspelled}
+use Rattle.sf_scan.proofs.Automata.{Recognizes, Went, went_on, leads_end}
+use Rattle.sf_scan.proofs.Automata.{leads_followed, leads_unspelled}
 use Rattle.sf_scan.proofs.Bares.{shown_texts, reads_leaf, refuses_leaf, lacks_none}
 use Rattle.sf_scan.proofs.Base64.{byte_small}
 use Rattle.sf_scan.proofs.Characters.{low_same, is_low_two}
-use Rattle.sf_scan.proofs.DisplayStrings.{State, Opening, Between, Percent, Digit, Closed, next, after}
-use Rattle.sf_scan.proofs.DisplayStrings.{reached, final, Text, Path, Good, bytes_text, SpellsRest, shows, some_of}
+use Rattle.sf_scan.proofs.DisplayStrings.{State, Opening, Between, Percent, Digit, Closed, next}
+use Rattle.sf_scan.proofs.DisplayStrings.{after}
+use Rattle.sf_scan.proofs.DisplayStrings.{reached, final, Text, Path, Good, bytes_text}
+use Rattle.sf_scan.proofs.DisplayStrings.{SpellsRest, shows, some_of, stays}
 use Rattle.sf_scan.proofs.DisplayStrings.{passed, first_path, second_path, percent_comes}
 use Rattle.sf_scan.proofs.DisplayStrings.{unencoded_tests, high_small, low_small, joined}
 use Rattle.sf_scan.proofs.Languages.{same_followed}
@@ -45,7 +49,8 @@ shown_recognized = record {
   spells = λ t v h. to t v h.0 h.1 h.2 h.3;
 }
   where
-    from : (t : List ℕ) → Text Opening t → (v : List ℕ) × Past (percent ∷ []) SpellsDisplayString t v
+    from : (t : List ℕ) → Text Opening t
+        → (v : List ℕ) × Past (percent ∷ []) SpellsDisplayString t v
     from [] a = absurd cc
     from (b ∷ u) a =
         let r = shows u a.1 in
@@ -147,8 +152,8 @@ byte_went c f h text rest g k (b, l, e, u, s) = record {
 escape_went : (c f : CharPlace) (left escape rest : List ℕ) → left ≡ percent ∷ escape
     → PastEscape c escape f rest → Goes (Between c) (Between f) left rest
 escape_went c f left escape rest e (h, more, p, q) =
-    went_on next after final (Between c) (Percent c) (Between f) left escape rest (percent_went c left escape e)
-    (went_on next after final (Percent c) (Digit c h) (Between f) escape more rest (digit_went c h escape more p)
+    went_on (percent_went c left escape e)
+    (went_on (digit_went c h escape more p)
     (byte_went c f h more rest (read_hex p.0 h p.2).1 p.3 q))
 
 -- no unencoded byte may follow
@@ -159,31 +164,32 @@ run_path : (run : List ℕ) → Every is_unencoded run
     → Path (Between chars.Start) run (Between chars.Start)
 run_path [] h = refl
 run_path (b ∷ run) h =
-    let k = unencoded_tests b h.0 in
-    (k.2, subst (λ s. Path s run (Between chars.Start)) (sym (goes k.0 k.1)) (run_path run h.1))
-  where
-    goes : (b == quote) ≡ false → (b == percent) ≡ false
-        → after (Between chars.Start) b ≡ Between chars.Start
-    goes e f = rw (e, f) refl
+    let k = unencoded_tests b h.0 in (
+      k.2,
+      subst (λ s. Path s run (Between chars.Start)) (sym (stays chars.Start b k.0 k.1))
+          (run_path run h.1),
+    )
 
 -- what the loop keeps
 pub record Reached (inside left : List ℕ) (c : CharPlace) : Type 0 where
   pub went : Goes (Between chars.Start) (Between c) inside left
   pub no_byte : StaysIn c left
 
+here : (s : State) (text rest : List ℕ) → text ≡ rest → Goes s s text rest
+here s text rest e = record { part = []; split = e; path = refl }
+
 past_run : (c : CharPlace) (text rest : List ℕ) → PastUnencoded c text rest
     → Goes (Between c) (Between c) text rest × StaysIn c rest
 unfolding StaysIn
 past_run chars.Start text rest h =
     (record { part = h.0; split = h.1; path = run_path h.0 h.2 }, (λ e. h.3))
-past_run chars.Last text rest h = (record { part = []; split = h; path = refl }, (λ e. absurd cc))
-past_run chars.LastTwo text rest h = (record { part = []; split = h; path = refl }, (λ e. absurd cc))
-past_run chars.LastThree text rest h =
-    (record { part = []; split = h; path = refl }, (λ e. absurd cc))
-past_run chars.AfterE0 text rest h = (record { part = []; split = h; path = refl }, (λ e. absurd cc))
-past_run chars.AfterEd text rest h = (record { part = []; split = h; path = refl }, (λ e. absurd cc))
-past_run chars.AfterF0 text rest h = (record { part = []; split = h; path = refl }, (λ e. absurd cc))
-past_run chars.AfterF4 text rest h = (record { part = []; split = h; path = refl }, (λ e. absurd cc))
+past_run chars.Last text rest h = (here _ text rest h, (λ e. absurd cc))
+past_run chars.LastTwo text rest h = (here _ text rest h, (λ e. absurd cc))
+past_run chars.LastThree text rest h = (here _ text rest h, (λ e. absurd cc))
+past_run chars.AfterE0 text rest h = (here _ text rest h, (λ e. absurd cc))
+past_run chars.AfterEd text rest h = (here _ text rest h, (λ e. absurd cc))
+past_run chars.AfterF0 text rest h = (here _ text rest h, (λ e. absurd cc))
+past_run chars.AfterF4 text rest h = (here _ text rest h, (λ e. absurd cc))
 
 pub reached_first : (inside left : List ℕ) → PastUnencoded chars.Start inside left
     → Reached inside left chars.Start
@@ -196,9 +202,7 @@ pub reached_more : (inside left escape more rest : List ℕ) (c f : CharPlace) �
 reached_more inside left escape more rest c f r e p u =
     let k = past_run f more rest u in
     record {
-      went = went_on next after final (Between chars.Start) (Between f) (Between f) inside more rest
-          (went_on next after final (Between chars.Start) (Between c) (Between f) inside left more r.went
-          (escape_went c f left escape more e p)) k.0;
+      went = went_on r.went (went_on (escape_went c f left escape more e p) k.0);
       no_byte = k.1;
     }
 
@@ -218,10 +222,9 @@ pub refused_quote : (d : Dialect) → is_rfc9651 d ≡ true → (stop : Stop)
     → FirstIs (λ b. b ≢ quote) stop.left.now → stop.place ≡ place.Shown shown.Quote
     → RefusesLeaf d (Past (percent ∷ []) (SpellsLeaf d)) stop.left.now stop
 refused_quote d e stop n k =
-    let w : Goes Opening Opening stop.left.now stop.left.now =
-    record { part = []; split = refl; path = refl } in
+    let w = here Opening stop.left.now stop.left.now refl in
     shown_refused d e stop.left.now Opening shown.Quote stop w
-    (shown_followed d e Opening [] tt refl) refl k (lacks_quote stop.left.now n)
+    (shown_followed d e Opening w.part tt w.path) refl k (lacks_quote stop.left.now n)
   where
     differs : (b : ℕ) → b ≢ quote → (b == quote) ≡ false
     differs b h = grind arith
@@ -260,8 +263,7 @@ pub refused_between : (d : Dialect) → is_rfc9651 d ≡ true → (text inside :
     → stop.place ≡ place.Shown (shown.Between c)
     → RefusesLeaf d (Past (percent ∷ []) (SpellsLeaf d)) text stop
 refused_between d e text inside c stop q r h o k =
-    let w = went_on next after final Opening (Between chars.Start) (Between c) text inside stop.left.now
-    (quote_went text inside q) r.went in
+    let w = went_on (quote_went text inside q) r.went in
     shown_refused d e text (Between c) (shown.Between c) stop w
     (shown_followed d e (Between c) w.part tt w.path) refl k
     (lacks_between c stop.left.now r.no_byte h o)
@@ -270,10 +272,7 @@ refused_between d e text inside c stop q r h o k =
 to_percent : (text inside left escape : List ℕ) (c : CharPlace) → text ≡ quote ∷ inside
     → Reached inside left c → left ≡ percent ∷ escape → Goes Opening (Percent c) text escape
 to_percent text inside left escape c q r p =
-    went_on next after final Opening (Between c) (Percent c) text left escape
-    (went_on next after final Opening (Between chars.Start) (Between c) text inside left (quote_went text inside q)
-    r.went)
-    (percent_went c left escape p)
+    went_on (went_on (quote_went text inside q) r.went) (percent_went c left escape p)
 
 pub refused_escape : (d : Dialect) → is_rfc9651 d ≡ true → (text inside left escape : List ℕ)
     (c : CharPlace) (stop : Stop) → text ≡ quote ∷ inside → Reached inside left c
@@ -286,8 +285,8 @@ refused_escape d e text inside left escape c stop q r p (inl (same, k, n)) =
     (shown_followed d e (Percent c) w.part tt w.path) refl k
     (subst (Lacks (is_first_digit c)) (sym same) n)
 refused_escape d e text inside left escape c stop q r p (inr (h, b, k, n)) =
-    let w = went_on next after final Opening (Percent c) (Digit c h) text escape stop.left.now
-    (to_percent text inside left escape c q r p) (digit_went c h escape stop.left.now b) in
+    let w = went_on (to_percent text inside left escape c q r p)
+    (digit_went c h escape stop.left.now b) in
     shown_refused d e text (Digit c h) (shown.Digit (low_digits c h)) stop w
     (shown_followed d e (Digit c h) w.part ((read_hex b.0 h b.2).1, b.3) w.path) refl k n
 
@@ -332,40 +331,35 @@ pub shown_read : (d : Dialect) → is_rfc9651 d ≡ true
     → leaf_bare l ≡ bare.Shown (shown_bytes bytes)
     → ReadsLeaf d (Past (percent ∷ []) (SpellsLeaf d)) text l stop
 shown_read d e text inside left bytes c l stop q r h i k v =
-    reads_leaf d _ text (quote ∷ whole) l stop (q ∙ ap (λ t. quote ∷ t) parts)
-    (rw k (shown_followed d e Closed (quote ∷ whole) tt (refl, path)))
+    reads_leaf d _ text (quote ∷ went.part) l stop (q ∙ ap (λ t. quote ∷ t) went.split)
+    (rw k (shown_followed d e Closed (quote ∷ went.part) tt (refl, went.path)))
     (rw k (lacks_none stop.left.now))
-    (rw v ((shown_texts d e).up (quote ∷ whole) (shown_bytes bytes) (
-      whole,
+    (rw v ((shown_texts d e).up (quote ∷ went.part) (shown_bytes bytes) (
+      went.part,
       refl,
-      subst (EncodedBytes whole) same shown.encoded,
-      subst (WellFormed Start) same shown.formed,
+      subst (EncodedBytes went.part) same rest.encoded,
+      subst (WellFormed Start) same rest.formed,
     )))
     (rw k refl)
   where
-    went : Goes (Between chars.Start) (Between chars.Start) inside left
-    went = subst (λ x. Goes (Between chars.Start) (Between x) inside left) h.0 r.went
+    went : Goes (Between chars.Start) Closed inside stop.left.now
+    went =
+        let w : Goes (Between chars.Start) Closed left stop.left.now =
+        record { part = quote ∷ []; split = h.1; path = (refl, refl) } in
+        went_on (subst (λ x. Goes (Between chars.Start) (Between x) inside left) h.0 r.went) w
 
-    whole : List ℕ
-    whole = went.part ++ quote ∷ []
+    rest : SpellsRest chars.Start went.part
+    rest = shows went.part (leads_end next after final (Between chars.Start) Closed went.part
+        went.path refl)
 
-    path : Path (Between chars.Start) (went.part ++ quote ∷ []) Closed
-    path = leads_more next after final (Between chars.Start) (Between chars.Start) Closed went.part
-        (quote ∷ []) went.path (refl, refl)
+    between : Inside went.part rest.bytes
+    between = inside_of rest.bytes went.part rest.encoded
 
-    parts : inside ≡ (went.part ++ quote ∷ []) ++ stop.left.now
-    parts = went.split ∙ (ap (λ t. went.part ++ t) h.1
-        ∙ sym (append_assoc went.part (quote ∷ []) stop.left.now))
-
-    shown : SpellsRest chars.Start (went.part ++ quote ∷ [])
-    shown = shows (went.part ++ quote ∷ [])
-        (leads_end next after final (Between chars.Start) Closed (went.part ++ quote ∷ []) path refl)
-
-    between : Inside (went.part ++ quote ∷ []) shown.bytes
-    between = inside_of shown.bytes (went.part ++ quote ∷ []) shown.encoded
-
-    same : shown.bytes ≡ shown_bytes bytes
-    same = sym between.value ∙ ap shown_bytes (sym (i ∙ front_before inside between.part left
-        (parts ∙ (ap (λ t. t ++ stop.left.now) between.split
+    parts : inside ≡ between.part ++ left
+    parts = went.split ∙ (ap (λ t. t ++ stop.left.now) between.split
         ∙ (append_assoc between.part (quote ∷ []) stop.left.now
-        ∙ ap (λ t. between.part ++ t) (sym h.1))))))
+        ∙ ap (λ t. between.part ++ t) (sym h.1)))
+
+    same : rest.bytes ≡ shown_bytes bytes
+    same = sym between.value
+        ∙ ap shown_bytes (sym (i ∙ front_before inside between.part left parts))

@@ -1,6 +1,6 @@
 -- Byte Sequences: the places in them, and the bytes that their characters stand for.
-use Rattle.std.specs.Prelude.{◌≡◌, ◌≢◌, true, ℕ, zero, suc, ◌+◌, ◌*◌, ◌/◌, ◌%◌, Bool, ◌==◌, ◌||◌, List, [], ◌∷◌}
-use Rattle.std.specs.Prelude.{Option, Some, None}
+use Rattle.std.specs.Prelude.{◌≡◌, ◌≢◌, ℕ, zero, suc, ◌+◌, ◌*◌, ◌/◌, ◌%◌, Bool, true, ◌==◌, ◌||◌}
+use Rattle.std.specs.Prelude.{List, [], ◌∷◌, Option, Some, None}
 use Rattle.sf_value.specs.Ascii.{colon, equals}
 use Rattle.sf_value.specs.Digits.{sextet}
 use Rattle.sf_value.specs.Grammar.ByteSequences.{is_base64}
@@ -33,7 +33,7 @@ place_at (suc zero) = blob.One
 place_at (suc (suc zero)) = blob.Two
 place_at (suc (suc (suc n))) = blob.Three
 
--- one more value; no characters are read after a byte that is none
+-- one more value, if the byte has one; nothing is read after a byte that has none
 abbrev pub more_values : Option ℕ → List ℕ → List ℕ
 more_values (Some x) xs = x ∷ xs
 more_values None xs = []
@@ -43,7 +43,8 @@ abbrev pub values : List ℕ → List ℕ
 values [] = []
 values (b ∷ t) = more_values (sextet b) (values t)
 
--- the bytes of such values: four of six bits are three of eight; of a last group its whole bytes
+-- the bytes of these values: four values are three bytes. The last two or three are one or two bytes,
+-- and their last bits belong to none
 abbrev pub octets : List ℕ → List ℕ
 octets [] = []
 octets (x ∷ []) = []
@@ -52,7 +53,7 @@ octets (x ∷ y ∷ z ∷ []) = (x * 4 + y / 16) ∷ (y % 16 * 16 + z / 4) ∷ [
 octets (x ∷ y ∷ z ∷ w ∷ s) =
     (x * 4 + y / 16) ∷ (y % 16 * 16 + z / 4) ∷ (z % 4 * 64 + w) ∷ octets s
 
--- the bytes of the text between the colons
+-- the value of the text between the colons; its = stand for nothing
 abbrev pub blob_bytes : List ℕ → List ℕ
 blob_bytes t = octets (values t)
 

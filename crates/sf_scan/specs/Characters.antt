@@ -1,7 +1,7 @@
 -- Well-formed UTF-8, by the places of the scanner, and its bytes by their two digits.
 use Rattle.std.specs.Option.{option_or}
-use Rattle.std.specs.Prelude.{ℕ, Bool, true, ◌==◌, nat_lt, nat_le, ◌||◌, if◌then◌else◌, List, [], ◌∷◌}
-use Rattle.std.specs.Prelude.{Option, None}
+use Rattle.std.specs.Prelude.{ℕ, Bool, true, ◌==◌, nat_lt, nat_le, ◌||◌, if◌then◌else◌, List, []}
+use Rattle.std.specs.Prelude.{◌∷◌, Option, None}
 use Rattle.sf_value.specs.Grammar.Utf8.{Utf8, Start, Within, within}
 use Rattle.sf_value.specs.Grammar.Words.{allow}
 use Rattle.sf_scan.specs.declared.char_place.CharPlace.{CharPlace}
@@ -50,7 +50,7 @@ char_step chars.AfterEd b = allow (within 128 159 b) chars.Last
 char_step chars.AfterF0 b = allow (within 144 191 b) chars.LastTwo
 char_step chars.AfterF4 b = allow (within 128 143 b) chars.LastTwo
 
--- whether a byte with this first digit may come
+-- whether a byte may come whose first hexadecimal digit has this value
 abbrev pub can_begin : CharPlace → ℕ → Bool
 can_begin chars.Start h = nat_lt h 8 || nat_le 12 h
 can_begin chars.Last h = within 8 11 h
@@ -61,11 +61,13 @@ can_begin chars.AfterEd h = within 8 9 h
 can_begin chars.AfterF0 h = within 9 11 h
 can_begin chars.AfterF4 h = h == 8
 
--- the second digits after such a first one
+-- which digits may come as its second, if it may come
 abbrev pub low_digits : CharPlace → ℕ → LowDigits
-low_digits chars.Start h = if h == 12 then low.FromTwo else (if h == 15 then low.UpToFour else low.Any)
+low_digits chars.Start h =
+    if h == 12 then low.FromTwo else (if h == 15 then low.UpToFour else low.Any)
 low_digits c h = low.Any
 
+-- whether a digit of this value is one of them
 abbrev pub is_low : LowDigits → ℕ → Bool
 is_low low.Any d = true
 is_low low.FromTwo d = nat_le 2 d

@@ -1,6 +1,6 @@
 -- Display Strings: the places in them, and the bytes that their escapes stand for.
-use Rattle.std.specs.Prelude.{◌≡◌, ℕ, ◌+◌, ◌*◌, Bool, true, false, ◌==◌, if◌then◌else◌, List, [], ◌∷◌, ◌++◌}
-use Rattle.std.specs.Prelude.{Option, Some, None, ◌≢◌, ⊤, ◌⊎◌}
+use Rattle.std.specs.Prelude.{◌≡◌, ◌≢◌, ⊤, ◌⊎◌, ℕ, ◌+◌, ◌*◌, Bool, true, false, ◌==◌}
+use Rattle.std.specs.Prelude.{if◌then◌else◌, List, [], ◌∷◌, ◌++◌, Option, Some, None}
 use Rattle.sf_value.specs.Ascii.{quote, percent}
 use Rattle.sf_value.specs.Digits.{unhex}
 use Rattle.sf_value.specs.Grammar.Classes.{is_visible}
@@ -16,7 +16,7 @@ use Rattle.sf_scan.specs.declared.place.BarePlace.TheVariants.{Shown}
 use Rattle.sf_scan.specs.declared.shown_place.ShownPlace.{ShownPlace}
 use Rattle.sf_scan.specs.declared.shown_place.ShownPlace.TheVariants as shown
 
--- whether it is a digit that passes the test
+-- whether there is a digit, and it passes the test
 abbrev pub passes : (ℕ → Bool) → Option ℕ → Bool
 passes p (Some d) = p d
 passes p None = false
@@ -42,12 +42,12 @@ in_shown (shown.Between c) b = in_between c b
 in_shown (shown.Percent c) b = is_first_digit c b
 in_shown (shown.Digit low) b = is_second_digit low b
 
--- the digit, if it is one
+-- the digit; 0 if there is none
 abbrev pub digit_or_zero : Option ℕ → ℕ
 digit_or_zero (Some d) = d
 digit_or_zero None = 0
 
--- the byte with these digits
+-- the byte with these two digits
 abbrev pub escaped_byte : ℕ → ℕ → ℕ
 escaped_byte high low = digit_or_zero (unhex high) * 16 + digit_or_zero (unhex low)
 

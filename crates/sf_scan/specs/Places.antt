@@ -12,7 +12,8 @@ use Rattle.sf_scan.specs.declared.place.BarePlace.TheVariants as place
 
 -- the first bytes of the bare items that are read so far
 abbrev pub is_bare_start : Dialect → ℕ → Bool
-is_bare_start d b = is_token_start b || (b == quote || (b == question_mark || (b == colon || (b == percent && is_rfc9651 d))))
+is_bare_start d b = is_token_start b || (b == quote || (b == question_mark || (b == colon
+    || (b == percent && is_rfc9651 d))))
 
 -- the bytes that may come at a place in a bare item
 abbrev pub in_bare : Dialect → BarePlace → ℕ → Bool

@@ -62,7 +62,8 @@ fn characters(text: &[u8]) -> (&[u8], &[u8])
 
 /// The rest after the closing colon, if it may come.
 fn after_colon(place: BlobPlace, text: &[u8]) -> Option<&[u8]>
-    ensures { MatchOption result (StaysOpen place text.now) (λ rest. Closes place text.now rest.now) }
+    ensures { MatchOption result (StaysOpen place text.now)
+        (λ rest. Closes place text.now rest.now) }
 {
     if !place.may_close() {
         return None;

@@ -68,7 +68,8 @@ fn after_unencoded(chars: CharPlace, text: &[u8]) -> &[u8]
 
 /// The rest after the closing quote, if no character is open.
 fn after_quote(chars: CharPlace, text: &[u8]) -> Option<&[u8]>
-    ensures { MatchOption result (StaysOpen chars text.now) (λ rest. Closes chars text.now rest.now) }
+    ensures { MatchOption result (StaysOpen chars text.now)
+        (λ rest. Closes chars text.now rest.now) }
 {
     match chars {
         CharPlace::Start => strip(text, b'"'),

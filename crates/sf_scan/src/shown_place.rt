@@ -1,5 +1,6 @@
 //! The places in a Display String (RFC 9651 section 4.2.10).
-ghost use Rattle.sf_scan.specs.DisplayStrings.{in_between, is_first_digit, is_second_digit, in_shown};
+ghost use Rattle.sf_scan.specs.DisplayStrings.{in_shown, in_between, is_first_digit};
+ghost use Rattle.sf_scan.specs.DisplayStrings.{is_second_digit};
 ghost use Rattle.sf_scan.specs.Sets.{Marks};
 
 use crate::char_place::{CharPlace, LowDigits};
