@@ -14,10 +14,9 @@ use Rattle.sf_value.specs.Grammar.ByteSequences.{SpellsByteSequence}
 use Rattle.sf_value.specs.Grammar.DisplayStrings.{SpellsDisplayString}
 use Rattle.sf_value.specs.Grammar.Dialects.{is_rfc9651}
 use Rattle.sf_value.specs.Grammar.Lines.{Continues}
-use Rattle.std.proofs.lemmas.Bool.{and_parts}
 use Rattle.sf_value.proofs.Runs.{every_append}
 use Rattle.sf_scan.specs.Leaves.{SpellsLeaf, leaf_bare}
-use Rattle.sf_scan.specs.Places.{in_bare, ends_bare, is_bare_start}
+use Rattle.sf_scan.specs.Places.{in_bare, ends_bare, is_bare_start, is_coded_start}
 use Rattle.sf_scan.specs.Stops.{Past, IsFollowed, Lacks, FirstIs}
 use Rattle.sf_scan.specs.Scans.{ReadsLeaf, RefusesLeaf, ScansLeaf}
 use Rattle.sf_scan.specs.declared.leaf.Leaf.{Leaf}
@@ -26,6 +25,7 @@ use Rattle.sf_scan.specs.declared.place.Stop.{Stop}
 use Rattle.sf_scan.specs.declared.place.BarePlace.TheVariants as place
 use Rattle.sf_scan.proofs.Escapes.{Tail, tail_texts, inside_followed, backslash_followed, closed_followed}
 use Rattle.sf_scan.proofs.Escapes.{backslash_first}
+use Rattle.sf_scan.proofs.CodedStarts.{coded_started}
 use Rattle.sf_scan.proofs.Languages.{SameTexts, same_followed, past_followed, past_reads}
 use Rattle.sf_scan.proofs.Languages.{past_refuses}
 use Rattle.sf_scan.proofs.Lists.{heads, tails, cons_nil}
@@ -55,19 +55,10 @@ first_byte d b t (bare.Blob s) h = same_byte b colon (heads b colon t h.0 h.1)
 first_byte d b t (bare.Shown s) h = rw (same_byte b percent (heads b percent t _ h.1.1)) h.0
 first_byte d b t x h = absurd h
 
-token_apart : (b : ℕ) → is_token_start b ≡ true
-    → ((b == quote) ≡ false) × ((b == question_mark) ≡ false) × ((b == colon) ≡ false)
-    × ((b == percent) ≡ false)
-token_apart b h = (grind arith, grind arith, grind arith, grind arith)
-
 boolean_of : (d : Dialect) (t : List ℕ) (x : Bare) → SpellsLeaf d (question_mark ∷ t) x
     → begins d x question_mark ≡ true → (v : Bool) × SpellsBoolean (question_mark ∷ t) v
 boolean_of d t (bare.Boolean c) h k = (c, h)
-boolean_of d t (bare.Text s) h k = absurd (cc k)
-boolean_of d t (bare.Token s) h k = absurd (cc k)
-boolean_of d t (bare.Blob s) h k = absurd (cc k)
-boolean_of d t (bare.Shown s) h k = absurd (cc k)
-boolean_of d t x h k = absurd h
+boolean_of d t x h k = absurd (cc k)
 
 pub boolean_texts : (d : Dialect) → SameTexts (Past (question_mark ∷ []) SpellsBoolean)
     (Past (question_mark ∷ []) (SpellsLeaf d)) bare.Boolean
@@ -79,11 +70,7 @@ boolean_texts d = record {
 string_of : (d : Dialect) (t : List ℕ) (x : Bare) → SpellsLeaf d (quote ∷ t) x
     → begins d x quote ≡ true → (v : List ℕ) × SpellsString (quote ∷ t) v
 string_of d t (bare.Text s) h k = (s, h)
-string_of d t (bare.Boolean c) h k = absurd (cc k)
-string_of d t (bare.Token s) h k = absurd (cc k)
-string_of d t (bare.Blob s) h k = absurd (cc k)
-string_of d t (bare.Shown s) h k = absurd (cc k)
-string_of d t x h k = absurd h
+string_of d t x h k = absurd (cc k)
 
 pub string_texts : (d : Dialect) → SameTexts (Past (quote ∷ []) SpellsString)
     (Past (quote ∷ []) (SpellsLeaf d)) bare.Text
@@ -95,11 +82,7 @@ string_texts d = record {
 blob_of : (d : Dialect) (t : List ℕ) (x : Bare) → SpellsLeaf d (colon ∷ t) x
     → begins d x colon ≡ true → (v : List ℕ) × SpellsByteSequence (colon ∷ t) v
 blob_of d t (bare.Blob s) h k = (s, h)
-blob_of d t (bare.Text s) h k = absurd (cc k)
-blob_of d t (bare.Boolean c) h k = absurd (cc k)
-blob_of d t (bare.Token s) h k = absurd (cc k)
-blob_of d t (bare.Shown s) h k = absurd (cc k)
-blob_of d t x h k = absurd h
+blob_of d t x h k = absurd (cc k)
 
 pub blob_texts : (d : Dialect) → SameTexts (Past (colon ∷ []) SpellsByteSequence)
     (Past (colon ∷ []) (SpellsLeaf d)) bare.Blob
@@ -111,11 +94,7 @@ blob_texts d = record {
 shown_of : (d : Dialect) (t : List ℕ) (x : Bare) → SpellsLeaf d (percent ∷ t) x
     → begins d x percent ≡ true → (v : List ℕ) × SpellsDisplayString (percent ∷ t) v
 shown_of d t (bare.Shown s) h k = (s, h.1)
-shown_of d t (bare.Blob s) h k = absurd (cc k)
-shown_of d t (bare.Text s) h k = absurd (cc k)
-shown_of d t (bare.Boolean c) h k = absurd (cc k)
-shown_of d t (bare.Token s) h k = absurd (cc k)
-shown_of d t x h k = absurd h
+shown_of d t x h k = absurd (cc k)
 
 pub shown_texts : (d : Dialect) → is_rfc9651 d ≡ true
     → SameTexts (Past (percent ∷ []) SpellsDisplayString) (Past (percent ∷ []) (SpellsLeaf d))
@@ -128,12 +107,7 @@ shown_texts d e = record {
 token_of : (d : Dialect) (b : ℕ) (t : List ℕ) (x : Bare) → is_token_start b ≡ true
     → SpellsLeaf d (b ∷ t) x → begins d x b ≡ true → (v : List ℕ) × SpellsToken (b ∷ t) v
 token_of d b t (bare.Token s) e h k = (s, h)
-token_of d b t (bare.Text s) e h k = let a = (token_apart b e).0 in absurd cc
-token_of d b t (bare.Boolean c) e h k = let a = (token_apart b e).1 in absurd cc
-token_of d b t (bare.Blob s) e h k = let a = (token_apart b e).2 in absurd cc
-token_of d b t (bare.Shown s) e h k =
-    let n : (false && is_rfc9651 d) ≡ true = rw ((token_apart b e).3) at k in absurd (cc n)
-token_of d b t x e h k = absurd h
+token_of d b t x e h k = absurd (grind arith)
 
 pub token_texts : (d : Dialect) (b : ℕ) → is_token_start b ≡ true
     → SameTexts (Past (b ∷ []) SpellsToken) (Past (b ∷ []) (SpellsLeaf d)) bare.Token
@@ -370,45 +344,23 @@ start_of d (bare.Shown s) b h = grind arith
 start_of d x b h = absurd (cc h)
 
 started : (d : Dialect) (b : ℕ) → is_bare_start d b ≡ true → Continues (SpellsLeaf d) (b ∷ [])
-started d b h = by (is_token_start b) refl (b == quote) refl (b == question_mark) refl (b == colon) refl
+started d b h = by (is_token_start b) refl (b == quote) refl (b == question_mark) refl
   where
     by : (x : Bool) → is_token_start b ≡ x → (y : Bool) → (b == quote) ≡ y
-        → (z : Bool) → (b == question_mark) ≡ z → (w : Bool) → (b == colon) ≡ w → Continues (SpellsLeaf d) (b ∷ [])
-    by true e y f z g w i = ([], bare.Token (b ∷ []), (refl, (e, tt)))
-    by false e true f z g w i = (
+        → (z : Bool) → (b == question_mark) ≡ z → Continues (SpellsLeaf d) (b ∷ [])
+    by true e y f z g = ([], bare.Token (b ∷ []), (refl, (e, tt)))
+    by false e true f z g = (
       quote ∷ [],
       bare.Text [],
       (ap (λ x. x ∷ quote ∷ []) (eqb-true b quote f), tt),
     )
-    by false e false f true g w i = (
+    by false e false f true g = (
       digit_zero ∷ [],
       bare.Boolean false,
       ap (λ x. x ∷ digit_zero ∷ []) (eqb-true b question_mark g),
     )
-    by false e false f false g true i = (
-      colon ∷ [],
-      bare.Blob [],
-      (
-        colon ∷ [],
-        ap (λ x. x ∷ colon ∷ []) (eqb-true b colon i),
-        (0, colon ∷ [], omega arith, refl, tt, (0, omega arith, refl)),
-      ),
-    )
-    by false e false f false g false i =
-        let k : (b == percent && is_rfc9651 d) ≡ true = rw (e, f, g, i) at h in
-        let p = and_parts (b == percent) (is_rfc9651 d) k in (
-          quote ∷ quote ∷ [],
-          bare.Shown [],
-          (
-            p.1,
-            (
-              quote ∷ [],
-              ap (λ x. x ∷ quote ∷ quote ∷ []) (eqb-true b percent p.0),
-              refl,
-              tt,
-            ),
-          ),
-        )
+    by false e false f false g =
+        coded_started d b (let k : is_coded_start d b ≡ true = rw (e, f, g) at h in k)
 
 unstarted : (d : Dialect) (x : Bare) → SpellsLeaf d [] x → ⊥
 unstarted d (bare.Text s) h = cons_nil _ _ (sym h.0)
@@ -419,13 +371,13 @@ unstarted d (bare.Shown s) h = cons_nil _ _ (sym h.1.1)
 unstarted d x h = h
 
 pub no_start : (d : Dialect) (b : ℕ) (t more : List ℕ) → t ≡ b ∷ more → b ≢ quote
-    → b ≢ question_mark → b ≢ colon → b ≢ percent → is_token_start b ≡ false
+    → b ≢ question_mark → is_token_start b ≡ false → is_coded_start d b ≡ false
     → Lacks (is_bare_start d) t
-no_start d b t more e q m c p s = rw e (none b q m c p s)
+no_start d b t more e q m s n = rw e (none b (is_coded_start d b) q m s n)
   where
-    none : (b : ℕ) → b ≢ quote → b ≢ question_mark → b ≢ colon → b ≢ percent
-        → is_token_start b ≡ false → is_bare_start d b ≡ false
-    none b q m c p s = grind arith
+    none : (b : ℕ) (c : Bool) → b ≢ quote → b ≢ question_mark → is_token_start b ≡ false
+        → c ≡ false → ((is_token_start b || (b == quote || b == question_mark)) || c) ≡ false
+    none b c q m s n = grind arith
 
 pub no_byte : (d : Dialect) (t : List ℕ) → t ≡ [] → Lacks (is_bare_start d) t
 no_byte d t e = rw e tt

@@ -2,6 +2,7 @@ pub mod Sets
 pub mod Lists
 pub mod Languages
 pub mod Escapes
+pub mod CodedStarts
 pub mod Bares
 pub mod Automata
 pub mod Base64

@@ -10,10 +10,13 @@ use Rattle.sf_scan.specs.DisplayStrings.{in_shown}
 use Rattle.sf_scan.specs.declared.place.BarePlace.{BarePlace}
 use Rattle.sf_scan.specs.declared.place.BarePlace.TheVariants as place
 
+-- the first bytes of Byte Sequences and, by RFC 9651, of Display Strings
+abbrev pub is_coded_start : Dialect → ℕ → Bool
+is_coded_start d b = b == colon || (b == percent && is_rfc9651 d)
+
 -- the first bytes of the bare items that are read so far
 abbrev pub is_bare_start : Dialect → ℕ → Bool
-is_bare_start d b = is_token_start b || (b == quote || (b == question_mark || (b == colon
-    || (b == percent && is_rfc9651 d))))
+is_bare_start d b = (is_token_start b || (b == quote || b == question_mark)) || is_coded_start d b
 
 -- the bytes that may come at a place in a bare item
 abbrev pub in_bare : Dialect → BarePlace → ℕ → Bool

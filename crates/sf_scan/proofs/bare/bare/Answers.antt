@@ -2,6 +2,7 @@ use Rattle.std.proofs.Common.{refl, ap, sym, ◌∙◌, ◌∷◌, []}
 use Rattle.sf_value.specs.Ascii.{quote, question_mark, colon}
 use Rattle.sf_scan.specs.Leaves.{SpellsLeaf}
 use Rattle.sf_scan.proofs.Bares.{bare_refused, past_scans, no_byte, no_start}
+use Rattle.sf_scan.proofs.CodedStarts.{no_coded_start}
 use Rattle.sf_scan.proofs.bare.bare.Goals as goal
 
 pub returns-in_default : goal.returns-in_default
@@ -34,4 +35,5 @@ pub returns : goal.returns
 returns c =
     let d = c.args.dialect in
     bare_refused d _ (no_start d _ _ _ c.in-Some.ensures c.if-first-eq34.false c.if-first-eq63.false
-    c.if-first-eq58.false c.if-first-eq37.false (sym c.can_start_token.ensures ∙ c.if-can_start_token.false)) refl
+    (sym c.can_start_token.ensures ∙ c.if-can_start_token.false)
+    (no_coded_start d _ c.if-first-eq58.false c.if-first-eq37.false)) refl
