@@ -2,4 +2,8 @@ pub mod Sets
 pub mod Lists
 pub mod Languages
 pub mod Escapes
+pub mod Beginnings
+pub mod NumberStarts
 pub mod Bares
+pub mod Digits
+pub mod Numbers

@@ -1,6 +1,8 @@
 -- What the scanner accepts, where it stops, and what may come there.
 pub mod Stops
+pub mod NumberPlaces
 pub mod Places
 pub mod Leaves
 pub mod Sets
 pub mod Scans
+pub mod NumberTexts

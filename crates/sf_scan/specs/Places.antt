@@ -4,12 +4,13 @@ use Rattle.sf_value.specs.Ascii.{quote, question_mark, digit_zero, digit_one}
 use Rattle.sf_value.specs.Grammar.Classes.{is_token_start, is_in_token, is_visible}
 use Rattle.sf_value.specs.Grammar.Strings.{is_escaped}
 use Rattle.sf_value.specs.declared.dialect.Dialect.{Dialect}
+use Rattle.sf_scan.specs.NumberPlaces.{is_number_start, in_number, ends_number}
 use Rattle.sf_scan.specs.declared.place.BarePlace.{BarePlace}
 use Rattle.sf_scan.specs.declared.place.BarePlace.TheVariants as place
 
 -- the first bytes of the bare items that are read so far
 abbrev pub is_bare_start : Dialect → ℕ → Bool
-is_bare_start d b = is_token_start b || (b == quote || b == question_mark)
+is_bare_start d b = (is_token_start b || (b == quote || b == question_mark)) || is_number_start d b
 
 -- the bytes that may come at a place in a bare item
 abbrev pub in_bare : Dialect → BarePlace → ℕ → Bool
@@ -18,6 +19,7 @@ in_bare d place.QuestionMark b = b == digit_zero || b == digit_one
 in_bare d place.InToken b = is_in_token b
 in_bare d place.InString b = is_visible b
 in_bare d place.Backslash b = is_escaped b
+in_bare d (place.Number p) b = in_number p b
 in_bare d place.Complete b = false
 
 -- whether the bare item may end there
@@ -27,4 +29,5 @@ ends_bare place.QuestionMark = false
 ends_bare place.InToken = true
 ends_bare place.InString = false
 ends_bare place.Backslash = false
+ends_bare (place.Number p) = ends_number p
 ends_bare place.Complete = true

@@ -8,6 +8,8 @@ ghost use Rattle.sf_scan.specs.Scans.{ScansLeaf, Escapes, StopsEscaped, BeginsTo
 ghost use Rattle.sf_scan.specs.Stops.{Past, Lacks};
 
 use crate::leaf::Leaf;
+use crate::number::{date, number};
+use crate::number_place::can_start_date;
 use crate::place::{BarePlace, Stop};
 use crate::runs::{short_run, split, strip};
 use sf_value::{Dialect, can_start_token};
@@ -28,6 +30,15 @@ pub fn bare(dialect: Dialect, text: &[u8]) -> Result<(Leaf<'_>, Stop<'_>), Stop<
     }
     if first == b'?' {
         return boolean(more);
+    }
+    if first.is_ascii_digit() {
+        return number(false, text);
+    }
+    if first == b'-' {
+        return number(true, more);
+    }
+    if can_start_date(dialect, first) {
+        return date(more);
     }
     if can_start_token(first) {
         return Ok(token(text, more));

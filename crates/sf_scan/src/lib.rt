@@ -4,5 +4,7 @@
 
 pub mod bare;
 pub mod leaf;
+pub mod number;
+pub mod number_place;
 pub mod place;
 pub mod runs;

@@ -1,8 +1,9 @@
 //! The places of the grammar where reading may stop, and the bytes that may come there.
 ghost use Rattle.std.specs.Prelude.{◌≡◌};
-ghost use Rattle.sf_scan.specs.Places.{in_bare, ends_bare};
+ghost use Rattle.sf_scan.specs.Places.{in_bare, ends_bare, is_bare_start};
 ghost use Rattle.sf_scan.specs.Sets.{Marks};
 
+use crate::number_place::{DIGITS, MINUS, NumberPlace};
 use sf_value::Dialect;
 
 /// A place in a bare item.
@@ -18,6 +19,8 @@ pub enum BarePlace {
     InString,
     /// After a backslash in a String.
     Backslash,
+    /// After the first byte of an Integer, a Decimal or a Date.
+    Number(NumberPlace),
     /// After a bare item that no further byte can belong to.
     Complete,
 }
@@ -41,18 +44,31 @@ const QUOTE: u128 = 1 << b'"';
 
 const VISIBLE: u128 = (1 << 127) - (1 << b' ');
 
+/// The first bytes of bare items by RFC 8941.
+const START: u128 = TOKEN_START | QUOTE | 1 << b'?' | DIGITS | MINUS;
+
+/// The first bytes of bare items, a bit for each.
+fn bare_start(dialect: Dialect) -> u128
+    ensures { Marks result (is_bare_start dialect) }
+{
+    match dialect {
+        Dialect::Rfc8941 => START,
+        Dialect::Rfc9651 => START | 1 << b'@',
+    }
+}
+
 impl BarePlace {
     /// The bytes below 128 that may come, a bit for each.
     pub fn expected(self, dialect: Dialect) -> u128
         ensures { Marks result (in_bare dialect self) }
     {
-        let _ = dialect;
         match self {
-            BarePlace::Start => TOKEN_START | QUOTE | 1 << b'?',
+            BarePlace::Start => bare_start(dialect),
             BarePlace::QuestionMark => 3 << b'0',
             BarePlace::InToken => TOKEN,
             BarePlace::InString => VISIBLE,
             BarePlace::Backslash => QUOTE | 1 << b'\\',
+            BarePlace::Number(place) => place.expected(),
             BarePlace::Complete => 0,
         }
     }
@@ -61,7 +77,11 @@ impl BarePlace {
     pub fn may_end(self) -> bool
         ensures { result ≡ ends_bare self }
     {
-        matches!(self, BarePlace::InToken | BarePlace::Complete)
+        match self {
+            BarePlace::InToken | BarePlace::Complete => true,
+            BarePlace::Number(place) => place.may_end(),
+            _ => false,
+        }
     }
 }
 
