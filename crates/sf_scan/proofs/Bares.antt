@@ -58,15 +58,6 @@ first_byte d b t (bare.Token s) h = by s h.0 h.1
 first_byte d b t (bare.Boolean c) h = same_byte b question_mark (heads b question_mark t _ h)
 first_byte d b t x h = absurd h
 
-token_apart : (b : ℕ) → is_token_start b ≡ true → ((b == quote) ≡ false) × ((b == question_mark) ≡ false)
-token_apart b h = (grind arith, grind arith)
-
-token_signed : (b : ℕ) → is_token_start b ≡ true → is_signed_start b ≡ true → ⊥
-token_signed b h k = grind arith
-
-token_dated : (b : ℕ) (c : Bool) → is_token_start b ≡ true → (b == at_sign && c) ≡ true → ⊥
-token_dated b c h k = grind arith
-
 boolean_of : (d : Dialect) (t : List ℕ) (x : Bare) → SpellsLeaf d (question_mark ∷ t) x
     → begins d x question_mark ≡ true → (v : Bool) × SpellsBoolean (question_mark ∷ t) v
 boolean_of d t (bare.Boolean c) h k = (c, h)
@@ -94,12 +85,7 @@ string_texts d = record {
 token_of : (d : Dialect) (b : ℕ) (t : List ℕ) (x : Bare) → is_token_start b ≡ true
     → SpellsLeaf d (b ∷ t) x → begins d x b ≡ true → (v : List ℕ) × SpellsToken (b ∷ t) v
 token_of d b t (bare.Token s) e h k = (s, h)
-token_of d b t (bare.Text s) e h k = let a = (token_apart b e).0 in absurd cc
-token_of d b t (bare.Boolean c) e h k = let a = (token_apart b e).1 in absurd cc
-token_of d b t (bare.Integer n) e h k = absurd (token_signed b e k)
-token_of d b t (bare.Decimal m) e h k = absurd (token_signed b e k)
-token_of d b t (bare.Date n) e h k = absurd (token_dated b (is_rfc9651 d) e k)
-token_of d b t x e h k = absurd h
+token_of d b t x e h k = absurd (grind arith)
 
 pub token_texts : (d : Dialect) (b : ℕ) → is_token_start b ≡ true
     → SameTexts (Past (b ∷ []) SpellsToken) (Past (b ∷ []) (SpellsLeaf d)) bare.Token
@@ -168,7 +154,7 @@ value_followed v t e = record {
         → (t ++ b ∷ []) ++ u ≡ (if w then digit_one else digit_zero) ∷ [] → ⊥
     by b u w k =
         let f : (if v then digit_one else digit_zero) ∷ (b ∷ u)
-            ≡ (if w then digit_one else digit_zero) ∷ [] = rw e at k in
+        ≡ (if w then digit_one else digit_zero) ∷ [] = rw e at k in
         cons_nil b u (tails _ _ _ _ f)
 
 pub boolean_read : (d : Dialect) (v : Bool) (text : List ℕ) (stop : Stop)

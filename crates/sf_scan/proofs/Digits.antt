@@ -1,21 +1,30 @@
 -- Runs of digits: their values, and what may follow them.
-use Rattle.std.proofs.Common.{◌≡◌, ℕ, zero, suc, ◌+◌, ◌-◌, ◌*◌, ◌^◌, ◌<◌, ◌≤◌, Bool, true, false, List, [], ◌∷◌}
-use Rattle.std.proofs.Common.{◌++◌, length, refl, sym, ap, ◌∙◌, subst, nat_lt, ◌&&◌, arith}
+use Rattle.std.proofs.Common.{◌≡◌, ◌≢◌, ℕ, zero, suc, ◌+◌, ◌-◌, ◌*◌, ◌^◌, ◌<◌, ◌≤◌, true, false, List, [], ◌∷◌}
+use Rattle.std.proofs.Common.{◌++◌, length, refl, sym, ap, ◌∙◌, subst, nat_lt, nat_le, ◌&&◌, arith}
 use Rattle.std.proofs.Common.{length-append, append_assoc, append-nil}
 use Rattle.std.proofs.Math.Nat.{pow-le-pow_right}
 use Rattle.std.proofs.lemmas.Grind.{pow_more}
-use Rattle.std.proofs.lemmas.Bool.{and_parts}
 use Rattle.sf_value.specs.Ascii.{digit_zero}
 use Rattle.sf_value.specs.Grammar.Classes.{is_digit}
 use Rattle.sf_value.specs.Grammar.Lines.{Continues}
 use Rattle.sf_value.specs.Grammar.Numbers.{value_from, AreDigits}
 use Rattle.sf_value.specs.Grammar.Words.{Every}
 use Rattle.sf_value.proofs.Words.{every_push}
+use Rattle.sf_value.specs.declared.dialect.Dialect.{Dialect}
+use Rattle.sf_value.specs.declared.value.Bare.{Bare}
+use Rattle.sf_scan.specs.Leaves.{leaf_bare}
+use Rattle.sf_scan.specs.NumberPlaces.{in_number, ends_number}
 use Rattle.sf_scan.specs.NumberTexts.{BeginsDigit, PastDigits, TakesDigits}
-use Rattle.sf_scan.specs.Stops.{IsFollowed, Lacks}
+use Rattle.sf_scan.specs.Scans.{ReadsLeaf, RefusesLeaf}
+use Rattle.sf_scan.specs.declared.leaf.Leaf.{Leaf}
 use Rattle.sf_scan.specs.declared.number.Digits.{Digits}
+use Rattle.sf_scan.specs.declared.number_place.NumberPlace.{NumberPlace}
+use Rattle.sf_scan.specs.declared.place.BarePlace.TheVariants as place
+use Rattle.sf_scan.specs.declared.place.Stop.{Stop}
+use Rattle.sf_scan.proofs.Bares.{reads_leaf, refuses_leaf}
+use Rattle.sf_scan.specs.Stops.{IsFollowed, Lacks}
 use Rattle.sf_scan.proofs.Lists.{every_at}
-use Rattle.sf_scan.proofs.NumberStarts.{are_digits}
+use Rattle.sf_scan.proofs.NumberStarts.{are_digits, no_digits}
 
 -- so many digits bound the value
 below : (count most value : ℕ) → value < 10 ^ count → count ≤ most → value < 10 ^ most
@@ -126,6 +135,52 @@ digits_blocked n high (b ∷ t) h = blocked n high b h
     blocked : (n high b : ℕ) → (n < high → is_digit b ≡ false)
         → (nat_lt n high && is_digit b) ≡ false
     blocked n high b h = grind arith
+
+-- the stop after digits
+abbrev pub stop_at : Digits → NumberPlace → Stop
+stop_at run p = record { left = run.left; place = place.Number p }
+
+pub some_count : (n : ℕ) → n ≢ 0 → nat_le 1 n ≡ true
+some_count n h = grind arith
+
+pub no_count : (n : ℕ) → n ≡ 0 → nat_le 1 n ≡ false
+no_count n h = rw h refl
+
+pub no_digit_left : (w : List ℕ) (n : ℕ) → n ≡ length w → n ≡ 0 → w ≡ []
+no_digit_left [] n e h = refl
+no_digit_left (c ∷ w) n e h = absurd (omega arith)
+
+-- what is read in such a language
+pub digits_read : (d : Dialect) (high : ℕ) (L : List ℕ → Bare → Type 0) → DigitTexts high L
+    → (p : NumberPlace) (text : List ℕ) (run : Digits) (l : Leaf) → 1 ≤ high
+    → in_number p ≡ (λ b. nat_lt run.count high && is_digit b)
+    → ends_number p ≡ nat_le 1 run.count → TakesDigits high text run → run.count ≢ 0
+    → ((w : List ℕ) → AreDigits 1 high 0 w → run.count ≡ length w → run.value ≡ value_from 0 w
+    → L w (leaf_bare l))
+    → ReadsLeaf d L text l (stop_at run p)
+digits_read d high L texts p text run l i e f t n spelled =
+    let q = t.past in
+    let c = q.counted in
+    let k = t.within in
+    reads_leaf d L text q.digits l (stop_at run p) q.split
+    (rw e (digits_followed high L texts q.digits run.count c q.each i k))
+    (rw e (digits_blocked run.count high run.left.now t.longest))
+    (spelled q.digits (are_digits 1 high q.digits q.each (omega arith) (omega arith)) c q.valued)
+    (f ∙ some_count run.count n)
+
+pub digits_refused : (d : Dialect) (high : ℕ) (L : List ℕ → Bare → Type 0) → DigitTexts high L
+    → (p : NumberPlace) (text : List ℕ) (run : Digits) → 1 ≤ high
+    → in_number p ≡ (λ b. nat_lt run.count high && is_digit b)
+    → ends_number p ≡ nat_le 1 run.count → TakesDigits high text run → run.count ≡ 0
+    → RefusesLeaf d L text (stop_at run p)
+digits_refused d high L texts p text run i e f t n =
+    let q = t.past in
+    refuses_leaf d L text q.digits (stop_at run p) q.split
+    (rw e (digits_followed high L texts q.digits run.count q.counted q.each i t.within))
+    (rw e (digits_blocked run.count high run.left.now t.longest))
+    (λ x h. no_digits high (subst (AreDigits 1 high 0)
+    (no_digit_left q.digits run.count q.counted n) (texts.down q.digits x h)))
+    (f ∙ no_count run.count n)
 
 -- a Decimal with at most 12 digits before its point has at most 15 in thousandths
 scaled : (count value : ℕ) → value < 10 ^ count → count ≤ 3 → value * 10 ^ (3 - count) < 1000

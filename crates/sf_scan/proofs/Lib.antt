@@ -7,3 +7,4 @@ pub mod NumberStarts
 pub mod Bares
 pub mod Digits
 pub mod Numbers
+pub mod Dates

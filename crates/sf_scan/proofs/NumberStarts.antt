@@ -1,6 +1,6 @@
 -- The first bytes of Integers, Decimals and Dates.
 use Rattle.std.proofs.Common.{◌≡◌, ℕ, ℤ, Bool, true, false, List, [], ◌∷◌, ◌++◌, ◌≤◌, length, refl, sym, ap}
-use Rattle.std.proofs.Common.{◌==◌, ◌||◌, ◌&&◌, ◌∙◌, arith, eqb-true, append-nil}
+use Rattle.std.proofs.Common.{◌==◌, ◌&&◌, ◌∙◌, arith, eqb-true, append-nil}
 use Rattle.std.proofs.lemmas.Bool.{and_parts}
 use Rattle.sf_value.specs.Ascii.{minus, digit_zero, at_sign, point}
 use Rattle.sf_value.specs.declared.dialect.Dialect.{Dialect}

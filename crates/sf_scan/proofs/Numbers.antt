@@ -1,52 +1,36 @@
 -- Integers, Decimals and Dates, each with the places in it.
-use Rattle.std.proofs.Common.{◌≡◌, ◌≢◌, ℕ, ℤ, ◌*◌, ◌^◌, ◌<◌, ◌≤◌, Bool, true, false, List, [], ◌∷◌, ◌++◌}
-use Rattle.std.proofs.Common.{length, refl, sym, ap, ◌∙◌, subst, nat_lt, nat_le, ◌==◌, ◌&&◌, ◌||◌}
-use Rattle.std.proofs.Common.{inl, inr, Result, arith, length-append, append_assoc, append-nil, eqb-true}
-use Rattle.std.proofs.lemmas.Bool.{and_parts}
-use Rattle.sf_value.specs.Ascii.{minus, point, digit_zero, at_sign, quote, question_mark}
+use Rattle.std.proofs.Common.{◌≡◌, ◌≢◌, ℕ, ℤ, ◌<◌, ◌≤◌, Bool, true, false, List, [], ◌∷◌, ◌++◌}
+use Rattle.std.proofs.Common.{length, refl, sym, ap, ◌∙◌, subst, nat_lt, ◌==◌, ◌&&◌, ◌||◌}
+use Rattle.std.proofs.Common.{inl, inr, Result, arith, length-append, append_assoc, append-nil}
+use Rattle.sf_value.specs.Ascii.{minus, point, digit_zero, at_sign}
 use Rattle.sf_value.specs.declared.dialect.Dialect.{Dialect}
 use Rattle.sf_value.specs.declared.value.Bare.{Bare}
 use Rattle.sf_value.specs.declared.value.Bare.TheVariants as bare
-use Rattle.sf_value.specs.Grammar.Classes.{is_digit, is_token_start}
+use Rattle.sf_value.specs.Grammar.Classes.{is_digit}
 use Rattle.sf_value.specs.Grammar.Dialects.{is_rfc9651}
 use Rattle.sf_value.specs.Grammar.Lines.{Continues}
 use Rattle.sf_value.specs.Grammar.Numbers.{sign, signed, value_from, thousandths, AreDigits}
-use Rattle.sf_value.specs.Grammar.Numbers.{SpellsInteger, SpellsDecimal}
+use Rattle.sf_value.specs.Grammar.Numbers.{SpellsInteger}
 use Rattle.sf_value.specs.Grammar.Words.{Every}
 use Rattle.sf_value.proofs.Words.{every_push}
 use Rattle.sf_scan.specs.Leaves.{SpellsLeaf, leaf_bare}
 use Rattle.sf_scan.specs.NumberPlaces.{in_number, is_point_after, is_signed_start, is_number_start}
-use Rattle.sf_scan.specs.NumberTexts.{IntegerAfterSign, DecimalAfterPoint, NumberAfterSign}
-use Rattle.sf_scan.specs.NumberTexts.{NumberAfterPoint, DateAfterAt, DateAfterSign, TakesDigits}
-use Rattle.sf_scan.specs.NumberTexts.{PastPoint, BeginsDigit}
+use Rattle.sf_scan.specs.NumberTexts.{IntegerAfterSign, NumberAfterSign}
+use Rattle.sf_scan.specs.NumberTexts.{NumberAfterPoint, TakesDigits}
+use Rattle.sf_scan.specs.NumberTexts.{PastPoint}
 use Rattle.sf_scan.specs.Scans.{ReadsLeaf, RefusesLeaf, ScansLeaf}
-use Rattle.sf_scan.specs.Stops.{Past, IsFollowed, Lacks, FirstIs}
+use Rattle.sf_scan.specs.Stops.{Past, IsFollowed, Lacks}
 use Rattle.sf_scan.specs.declared.leaf.Leaf.{Leaf}
 use Rattle.sf_scan.specs.declared.number.Digits.{Digits}
-use Rattle.sf_scan.specs.declared.number_place.NumberPlace.{NumberPlace}
 use Rattle.sf_scan.specs.declared.number_place.NumberPlace.TheVariants as number
-use Rattle.sf_scan.specs.declared.place.BarePlace.TheVariants as place
 use Rattle.sf_scan.specs.declared.place.Stop.{Stop}
 use Rattle.sf_scan.proofs.Bares.{reads_leaf, refuses_leaf, past_scans, first_byte, begins}
 use Rattle.sf_scan.proofs.Beginnings.{begun_scans, same_scans}
-use Rattle.sf_scan.proofs.Digits.{DigitTexts, digits_followed, digits_blocked, inner_digit, digits_continue}
+use Rattle.sf_scan.proofs.Digits.{DigitTexts, digits_read, digits_refused, stop_at}
+use Rattle.sf_scan.proofs.Digits.{some_count, no_count, no_digit_left, inner_digit}
 use Rattle.sf_scan.proofs.Languages.{SameTexts}
-use Rattle.sf_scan.proofs.Lists.{heads, tails, cons_nil, two_parts, Longer, Shorter, run_once, every_at}
-use Rattle.sf_scan.proofs.NumberStarts.{are_digits, no_digits, whole_text, signed_continues, integer_first, integer_some}
-
--- the stop after digits
-abbrev pub stop_at : Digits → NumberPlace → Stop
-stop_at run p = record { left = run.left; place = place.Number p }
-
-some_count : (n : ℕ) → n ≢ 0 → nat_le 1 n ≡ true
-some_count n h = grind arith
-
-no_count : (n : ℕ) → n ≡ 0 → nat_le 1 n ≡ false
-no_count n h = rw h refl
-
-none : (w : List ℕ) (n : ℕ) → n ≡ length w → n ≡ 0 → w ≡ []
-none [] n e h = refl
-none (c ∷ w) n e h = absurd (omega arith)
+use Rattle.sf_scan.proofs.Lists.{heads, tails, cons_nil, two_parts, run_once, every_at}
+use Rattle.sf_scan.proofs.NumberStarts.{are_digits, no_digits, whole_text}
 
 -- behind the point
 fraction_texts : (neg : Bool) (whole : ℕ) → DigitTexts 3 (NumberAfterPoint neg whole)
@@ -64,68 +48,16 @@ pub fraction_read : (d : Dialect) (neg : Bool) (whole : ℕ) (text : List ℕ) (
     → leaf_bare l ≡ bare.Decimal (thousandths neg whole run.count run.value)
     → ReadsLeaf d (NumberAfterPoint neg whole) text l (stop_at run (number.Fraction run.count))
 fraction_read d neg whole text run l t n v =
-    let p = t.past in
-    let a = p.counted in
-    let b = p.valued in
-    reads_leaf d (NumberAfterPoint neg whole) text p.digits l (stop_at run (number.Fraction run.count))
-    p.split
-    (digits_followed 3 _ (fraction_texts neg whole) p.digits run.count a p.each (omega arith) t.within)
-    (digits_blocked run.count 3 run.left.now t.longest)
-    (subst (NumberAfterPoint neg whole p.digits) (sym v)
-    (are_digits 1 3 p.digits p.each (omega arith) (let k = t.within in omega arith), cc))
-    (some_count run.count n)
+    digits_read d 3 (NumberAfterPoint neg whole) (fraction_texts neg whole)
+    (number.Fraction run.count) text run l (omega arith) refl refl t n
+    (λ w k e a. subst (NumberAfterPoint neg whole w) (sym v) (k, cc))
 
 pub fraction_refused : (d : Dialect) (neg : Bool) (whole : ℕ) (text : List ℕ) (run : Digits)
     → TakesDigits 3 text run → run.count ≡ 0
     → RefusesLeaf d (NumberAfterPoint neg whole) text (stop_at run (number.Fraction run.count))
 fraction_refused d neg whole text run t n =
-    let p = t.past in
-    refuses_leaf d (NumberAfterPoint neg whole) text p.digits (stop_at run (number.Fraction run.count))
-    p.split
-    (digits_followed 3 _ (fraction_texts neg whole) p.digits run.count p.counted p.each
-    (omega arith) t.within)
-    (digits_blocked run.count 3 run.left.now t.longest)
-    (λ x h. no_digits 3 (subst (AreDigits 1 3 0) (none p.digits run.count p.counted n)
-    ((fraction_texts neg whole).down p.digits x h)))
-    (no_count run.count n)
-
--- the digits of a Date
-date_texts : (neg : Bool) → DigitTexts 15 (DateAfterSign neg)
-date_texts neg = record {
-  up = λ t d. (bare.Date (signed neg (value_from 0 t)), (d, refl));
-  down = down;
-}
-  where
-    down : (t : List ℕ) (x : Bare) → DateAfterSign neg t x → AreDigits 1 15 0 t
-    down t (bare.Date n) h = h.0
-    down t x h = absurd h
-
-pub date_read : (d : Dialect) (neg : Bool) (text : List ℕ) (run : Digits) (l : Leaf)
-    → TakesDigits 15 text run → run.count ≢ 0 → leaf_bare l ≡ bare.Date (signed neg run.value)
-    → ReadsLeaf d (DateAfterSign neg) text l (stop_at run (number.DateDigits run.count))
-date_read d neg text run l t n v =
-    let p = t.past in
-    let a = p.counted in
-    let b = p.valued in
-    reads_leaf d (DateAfterSign neg) text p.digits l (stop_at run (number.DateDigits run.count)) p.split
-    (digits_followed 15 _ (date_texts neg) p.digits run.count a p.each (omega arith) t.within)
-    (digits_blocked run.count 15 run.left.now t.longest)
-    (subst (DateAfterSign neg p.digits) (sym v)
-    (are_digits 1 15 p.digits p.each (omega arith) (let k = t.within in omega arith), cc))
-    (some_count run.count n)
-
-pub date_refused : (d : Dialect) (neg : Bool) (text : List ℕ) (run : Digits)
-    → TakesDigits 15 text run → run.count ≡ 0
-    → RefusesLeaf d (DateAfterSign neg) text (stop_at run (number.DateDigits run.count))
-date_refused d neg text run t n =
-    let p = t.past in
-    refuses_leaf d (DateAfterSign neg) text p.digits (stop_at run (number.DateDigits run.count))
-    p.split
-    (digits_followed 15 _ (date_texts neg) p.digits run.count p.counted p.each (omega arith) t.within)
-    (digits_blocked run.count 15 run.left.now t.longest)
-    (λ x h. no_digits 15 (subst (AreDigits 1 15 0) (none p.digits run.count p.counted n)
-    ((date_texts neg).down p.digits x h)))
-    (no_count run.count n)
+    digits_refused d 3 (NumberAfterPoint neg whole) (fraction_texts neg whole)
+    (number.Fraction run.count) text run (omega arith) refl refl t n
 
 -- after a sign: which bytes may follow digits
 is_integer : (neg : Bool) (w : List ℕ) → Every is_digit w → 1 ≤ length w → length w ≤ 15
@@ -286,7 +218,7 @@ integer_refused d neg text run t k n =
     (whole_followed neg p.digits run.count p.counted p.each t.within)
     (whole_blocked run.count run.left.now t.longest k)
     (λ x h. no_number neg x (subst (λ w. NumberAfterSign neg w x)
-    (none p.digits run.count p.counted n) h))
+    (no_digit_left p.digits run.count p.counted n) h))
     (no_count run.count n)
 
 -- after the point
@@ -329,26 +261,22 @@ point_scans d neg text rest run r t q h =
     (subst (λ v. ScansLeaf d (NumberAfterPoint neg v) rest r) p.valued h))
 
 -- what the sign or the first digit tells
+not_minus : (b : ℕ) → is_digit b ≡ true → b ≡ minus → ⊥
+not_minus b h e = grind arith
+
 sign_minus : (neg : Bool) (t w rest : List ℕ) (high : ℕ) → minus ∷ t ≡ sign neg ++ (w ++ rest)
     → AreDigits 1 high 0 w → (neg ≡ true) × (t ≡ w ++ rest)
 sign_minus true t w rest high e d = (refl, tails minus minus t (w ++ rest) e)
 sign_minus false t [] rest high e d = absurd (no_digits high d)
 sign_minus false t (c ∷ w) rest high e d =
-    let i : is_digit minus ≡ true = ap is_digit (heads minus c t (w ++ rest) e) ∙ d.each.0 in
-    absurd (not_minus minus i refl)
-  where
-    not_minus : (b : ℕ) → is_digit b ≡ true → b ≡ minus → ⊥
-    not_minus b h e = grind arith
+    absurd (not_minus c d.each.0 (sym (heads minus c t (w ++ rest) e)))
 
 sign_digit : (neg : Bool) (b : ℕ) (t w rest : List ℕ) → is_digit b ≡ true
     → b ∷ t ≡ sign neg ++ (w ++ rest) → (neg ≡ false) × (b ∷ t ≡ w ++ rest)
 sign_digit true b t w rest h e = absurd (not_minus b h (heads b minus t (w ++ rest) e))
-  where
-    not_minus : (b : ℕ) → is_digit b ≡ true → b ≡ minus → ⊥
-    not_minus b h e = grind arith
 sign_digit false b t w rest h e = (refl, e)
 
-integer_after_minus : (t : List ℕ) (n : ℤ) → SpellsInteger (minus ∷ t) n → IntegerAfterSign true t n
+pub integer_after_minus : (t : List ℕ) (n : ℤ) → SpellsInteger (minus ∷ t) n → IntegerAfterSign true t n
 integer_after_minus t n h =
     let s = sign_minus h.0 t h.1 [] 15 (whole_text h.0 (minus ∷ t) h.1 h.2) h.3 in
     let negative = s.0 in
@@ -356,7 +284,7 @@ integer_after_minus t n h =
     let value = h.4 in
     (subst (AreDigits 1 15 0) (sym same) h.3, cc)
 
-integer_at_digit : (b : ℕ) (t : List ℕ) (n : ℤ) → is_digit b ≡ true → SpellsInteger (b ∷ t) n
+pub integer_at_digit : (b : ℕ) (t : List ℕ) (n : ℤ) → is_digit b ≡ true → SpellsInteger (b ∷ t) n
     → IntegerAfterSign false (b ∷ t) n
 integer_at_digit b t n i h =
     let s = sign_digit h.0 b t h.1 [] i (whole_text h.0 (b ∷ t) h.1 h.2) in
@@ -383,23 +311,7 @@ number_at_digit d b t (bare.Decimal m) i h k =
     let positive = s.0 in
     let value = h.6 in
     (h.1, h.2, s.1, h.4, (h.5, cc))
-number_at_digit d b t (bare.Date n) i h k = absurd (apart b (is_rfc9651 d) i k)
-  where
-    apart : (b : ℕ) (c : Bool) → is_digit b ≡ true → (b == at_sign && c) ≡ true → ⊥
-    apart b c h k = grind arith
-number_at_digit d b t (bare.Token s) i h k = absurd (apart b i k)
-  where
-    apart : (b : ℕ) → is_digit b ≡ true → is_token_start b ≡ true → ⊥
-    apart b h k = grind arith
-number_at_digit d b t (bare.Text s) i h k = absurd (apart b i k)
-  where
-    apart : (b : ℕ) → is_digit b ≡ true → (b == quote) ≡ true → ⊥
-    apart b h k = grind arith
-number_at_digit d b t (bare.Boolean s) i h k = absurd (apart b i k)
-  where
-    apart : (b : ℕ) → is_digit b ≡ true → (b == question_mark) ≡ true → ⊥
-    apart b h k = grind arith
-number_at_digit d b t x i h k = absurd h
+number_at_digit d b t x i h k = absurd (grind arith)
 
 spells_number : (d : Dialect) (neg : Bool) (t : List ℕ) (x : Bare) → NumberAfterSign neg t x
     → SpellsLeaf d (sign neg ++ t) x
@@ -434,104 +346,6 @@ pub digit_scans : (d : Dialect) (text more : List ℕ) (b : ℕ) (r : Result (Le
 digit_scans d text more b r e i h =
     begun_scans d (NumberAfterSign false) (SpellsLeaf d) b more text r e
     (is_integer false (b ∷ []) (i, tt) (omega arith) (omega arith)) (digit_texts d b i) h
-
--- Dates
-at_followed : IsFollowed DateAfterAt is_signed_start []
-at_followed = record {
-  viable = let c = started digit_zero refl in (digit_zero ∷ c.0, c.1, c.2);
-  may = started;
-  only = λ b c. by b c.0 c.1 c.2;
-}
-  where
-    started : (b : ℕ) → is_signed_start b ≡ true → Continues DateAfterAt (b ∷ [])
-    started b h = let c = signed_continues b h in (c.0, bare.Date c.1, c.2)
-
-    by : (b : ℕ) (u : List ℕ) (x : Bare) → DateAfterAt (b ∷ u) x → is_signed_start b ≡ true
-    by b u (bare.Date n) h = integer_first b u n h
-    by b u x h = absurd h
-
-no_signed : (t : List ℕ) → FirstIs (λ b. b ≢ minus) t → Lacks is_digit t → Lacks is_signed_start t
-no_signed [] h k = tt
-no_signed (b ∷ t) h k = neither b h k
-  where
-    neither : (b : ℕ) → b ≢ minus → is_digit b ≡ false → is_signed_start b ≡ false
-    neither b h k = grind arith
-
-pub date_start_refused : (d : Dialect) (stop : Stop) → FirstIs (λ b. b ≢ minus) stop.left.now
-    → Lacks is_digit stop.left.now → stop.place ≡ place.Number number.At
-    → RefusesLeaf d DateAfterAt stop.left.now stop
-date_start_refused d stop h k p =
-    refuses_leaf d DateAfterAt stop.left.now [] stop refl (rw p at_followed)
-    (rw p (no_signed stop.left.now h k)) none (rw p refl)
-  where
-    none : (x : Bare) → DateAfterAt [] x → ⊥
-    none (bare.Date n) h = integer_some n h
-    none x h = h
-
-date_minus_texts : SameTexts (DateAfterSign true) (Past (minus ∷ []) DateAfterAt) (λ x. x)
-date_minus_texts = record { up = up; down = down }
-  where
-    up : (t : List ℕ) (x : Bare) → DateAfterSign true t x → DateAfterAt (minus ∷ t) x
-    up t (bare.Date n) h = (true, t, refl, h.0, h.1)
-    up t x h = absurd h
-
-    down : (t : List ℕ) (x : Bare) → DateAfterAt (minus ∷ t) x → (y : Bare) × DateAfterSign true t y
-    down t (bare.Date n) h = (bare.Date n, integer_after_minus t n h)
-    down t x h = absurd h
-
-date_digit_texts : (b : ℕ) → is_digit b ≡ true
-    → SameTexts (Past (b ∷ []) (DateAfterSign false)) (Past (b ∷ []) DateAfterAt) (λ x. x)
-date_digit_texts b i = record { up = up; down = down }
-  where
-    up : (t : List ℕ) (x : Bare) → DateAfterSign false (b ∷ t) x → DateAfterAt (b ∷ t) x
-    up t (bare.Date n) h = (false, b ∷ t, refl, h.0, h.1)
-    up t x h = absurd h
-
-    down : (t : List ℕ) (x : Bare) → DateAfterAt (b ∷ t) x
-        → (y : Bare) × DateAfterSign false (b ∷ t) y
-    down t (bare.Date n) h = (bare.Date n, integer_at_digit b t n i h)
-    down t x h = absurd h
-
-date_of : (d : Dialect) (t : List ℕ) (x : Bare) → SpellsLeaf d (at_sign ∷ t) x
-    → begins d x at_sign ≡ true → DateAfterAt t x
-date_of d t (bare.Date n) h k =
-    subst (λ s. SpellsInteger s n) (sym (tails at_sign at_sign t h.1.0 h.1.1)) h.1.2
-date_of d t x h k = absurd (cc k)
-
-at_texts : (d : Dialect) → is_rfc9651 d ≡ true
-    → SameTexts DateAfterAt (Past (at_sign ∷ []) (SpellsLeaf d)) (λ x. x)
-at_texts d e = record {
-  up = up;
-  down = λ t x h. (x, date_of d t x h (first_byte d at_sign t x h));
-}
-  where
-    up : (t : List ℕ) (x : Bare) → DateAfterAt t x → SpellsLeaf d (at_sign ∷ t) x
-    up t (bare.Date n) h = (e, (t, refl, h))
-    up t x h = absurd h
-
-pub date_minus_scans : (d : Dialect) (text more : List ℕ) (r : Result (Leaf × Stop) Stop)
-    → text ≡ minus ∷ more → ScansLeaf d (DateAfterSign true) more r → ScansLeaf d DateAfterAt text r
-date_minus_scans d text more r e h =
-    past_scans d DateAfterAt (minus ∷ []) more text r e
-    (same_scans d (DateAfterSign true) _ more r date_minus_texts h)
-
-pub date_digit_scans : (d : Dialect) (text more : List ℕ) (value : ℕ)
-    (r : Result (Leaf × Stop) Stop) → BeginsDigit text value more
-    → ScansLeaf d (DateAfterSign false) text r → ScansLeaf d DateAfterAt text r
-date_digit_scans d text more value r g h =
-    begun_scans d (DateAfterSign false) DateAfterAt g.0 more text r g.1
-    (digits_continue 15 (DateAfterSign false) (date_texts false) (g.0 ∷ []) (g.2, tt)
-    (omega arith) (omega arith))
-    (date_digit_texts g.0 g.2) h
-
-pub date_scans : (d : Dialect) (text more : List ℕ) (b : ℕ) (r : Result (Leaf × Stop) Stop)
-    → text ≡ b ∷ more → (b == at_sign && is_rfc9651 d) ≡ true → ScansLeaf d DateAfterAt more r
-    → ScansLeaf d (SpellsLeaf d) text r
-date_scans d text more b r e k h =
-    let j = and_parts (b == at_sign) (is_rfc9651 d) k in
-    past_scans d (SpellsLeaf d) (at_sign ∷ []) more text r
-    (e ∙ ap (λ x. x ∷ more) (eqb-true b at_sign j.0))
-    (same_scans d DateAfterAt _ more r (at_texts d j.1) h)
 
 -- no number begins
 pub no_number_start : (d : Dialect) (b : ℕ) → is_digit b ≡ false → b ≢ minus

@@ -63,7 +63,7 @@ pub record TakesDigits (most : ℕ) (text : List ℕ) (run : Digits) : Type 0 wh
   pub within : run.count ≤ most
   pub longest : run.count < most → Lacks is_digit run.left.now
 
--- a point that may come after so many digits, and the rest
+-- after so many digits a point may come, and the text begins with it, and the rest
 pub record PastPoint (count : ℕ) (text rest : List ℕ) : Type 0 where
   pub some : 1 ≤ count
   pub few : count ≤ 12

@@ -12,8 +12,8 @@ use crate::number::{date, number};
 use crate::number_place::can_start_date;
 use crate::place::{BarePlace, Stop};
 use crate::runs::{short_run, split, strip};
-use sf_value::{Dialect, can_start_token};
 use sf_value::classes::{InToken, Unescaped};
+use sf_value::{Dialect, can_start_token};
 
 /// The bare item that the text begins with, and where it stops: the longest one that is there.
 pub fn bare(dialect: Dialect, text: &[u8]) -> Result<(Leaf<'_>, Stop<'_>), Stop<'_>>
@@ -54,14 +54,23 @@ fn boolean(text: &[u8]) -> Result<(Leaf<'_>, Stop<'_>), Stop<'_>>
     ensures { (d : Which) → ScansLeaf d (Past (question_mark ∷ []) (SpellsLeaf d)) text.now result }
 {
     if let Some(rest) = strip(text, b'0') {
-        let end = Stop { left: rest, place: BarePlace::Complete };
+        let end = Stop {
+            left: rest,
+            place: BarePlace::Complete,
+        };
         return Ok((Leaf::Boolean(false), end));
     }
     if let Some(rest) = strip(text, b'1') {
-        let end = Stop { left: rest, place: BarePlace::Complete };
+        let end = Stop {
+            left: rest,
+            place: BarePlace::Complete,
+        };
         return Ok((Leaf::Boolean(true), end));
     }
-    Err(Stop { left: text, place: BarePlace::QuestionMark })
+    Err(Stop {
+        left: text,
+        place: BarePlace::QuestionMark,
+    })
 }
 
 /// The Token that the text begins with; `more` is the text without its first byte.

@@ -5,8 +5,7 @@ ghost use Rattle.sf_value.specs.Grammar.Classes.{is_digit};
 ghost use Rattle.sf_value.specs.Grammar.Numbers.{signed};
 ghost use Rattle.sf_scan.specs.NumberPlaces.{is_point_after};
 ghost use Rattle.sf_scan.specs.NumberTexts.{NumberAfterSign, NumberAfterPoint, DateAfterAt};
-ghost use Rattle.sf_scan.specs.NumberTexts.{DateAfterSign, BeginsDigit, TakesDigits};
-ghost use Rattle.sf_scan.specs.NumberTexts.{PastPoint};
+ghost use Rattle.sf_scan.specs.NumberTexts.{DateAfterSign, BeginsDigit, TakesDigits, PastPoint};
 ghost use Rattle.sf_scan.specs.Scans.{ScansLeaf};
 ghost use Rattle.sf_scan.specs.Stops.{Lacks};
 
@@ -61,7 +60,7 @@ fn fraction(negative: bool, whole: u64, text: &[u8]) -> Result<(Leaf<'_>, Stop<'
     Ok((Leaf::Decimal(with_sign(negative, thousandths)), stop))
 }
 
-/// How many thousandths a unit of the last digit is, with this many digits behind the point.
+/// How many thousandths one unit of the last digit is, with this many digits behind the point.
 fn scale(count: u8) -> u64
     requires { count ≤ 3 }
     ensures { result ≡ 10 ^ (3 - count) }
@@ -107,7 +106,7 @@ fn date_digits(negative: bool, text: &[u8]) -> Result<(Leaf<'_>, Stop<'_>), Stop
 
 /// The digits that the text begins with, at most this many.
 fn leading_digits(text: &[u8], most: u8) -> Digits<'_>
-    // Their value fits.
+    // The number that so few digits write fits.
     requires { most ≤ 15 }
     ensures { TakesDigits most text.now result }
 {
@@ -116,7 +115,7 @@ fn leading_digits(text: &[u8], most: u8) -> Digits<'_>
     let mut left = text;
     while count < most {
         let Some((digit, more)) = first_digit(left) else {
-            return Digits { count, value, left };
+            break;
         };
         value = 10 * value + digit;
         count += 1;

@@ -10,15 +10,14 @@ use sf_value::Dialect;
 /// A place in an Integer, a Decimal or a Date, after its first byte.
 #[derive(Clone, Copy, Debug, PartialEq, Eq)]
 pub enum NumberPlace {
-    /// After this many digits of an Integer, or of a Decimal before its point; after 0 digits a
-    /// minus sign is before the place.
+    /// After this many digits of an Integer or, before its point, of a Decimal. If there are none,
+    /// after the minus sign.
     Whole(u8),
-    /// After this many digits behind the point of a Decimal; after 0 digits the point is before the
-    /// place.
+    /// After this many digits of a Decimal behind its point. If there are none, after the point.
     Fraction(u8),
     /// After the `@` of a Date.
     At,
-    /// After this many digits of a Date; after 0 digits a minus sign is before the place.
+    /// After this many digits of a Date. If there are none, after its minus sign.
     DateDigits(u8),
 }
 

@@ -2,7 +2,8 @@ use Rattle.std.proofs.Common.{refl, ap, sym, ◌∙◌, ◌∷◌, []}
 use Rattle.sf_value.specs.Ascii.{quote, question_mark}
 use Rattle.sf_scan.specs.Leaves.{SpellsLeaf}
 use Rattle.sf_scan.proofs.Bares.{bare_refused, past_scans, no_byte, no_start}
-use Rattle.sf_scan.proofs.Numbers.{minus_scans, digit_scans, date_scans, no_number_start}
+use Rattle.sf_scan.proofs.Numbers.{minus_scans, digit_scans, no_number_start}
+use Rattle.sf_scan.proofs.Dates.{date_scans}
 use Rattle.sf_scan.proofs.bare.bare.Goals as goal
 
 pub returns-in_default : goal.returns-in_default

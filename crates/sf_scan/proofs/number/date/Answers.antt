@@ -1,5 +1,5 @@
 use Rattle.std.proofs.Common.{refl}
-use Rattle.sf_scan.proofs.Numbers.{date_minus_scans, date_digit_scans, date_start_refused}
+use Rattle.sf_scan.proofs.Dates.{date_minus_scans, date_digit_scans, date_start_refused}
 use Rattle.sf_scan.proofs.number.date.Goals as goal
 
 pub returns-in-Some : goal.returns-in-Some

@@ -1,8 +1,8 @@
-use Rattle.std.proofs.Common.{◌≡◌, refl, ap, ◌∙◌, arith, rules, SFits, w64}
+use Rattle.std.proofs.Common.{ap, ◌∙◌, rules, SFits, w64}
 use Rattle.std.proofs.lemmas.Int.{to_z-of_z}
 use Rattle.sf_value.specs.declared.value.Bare.TheVariants as bare
 use Rattle.sf_scan.proofs.Digits.{fits}
-use Rattle.sf_scan.proofs.Numbers.{date_read, date_refused}
+use Rattle.sf_scan.proofs.Dates.{date_read, date_refused}
 use Rattle.sf_scan.proofs.number.date_digits.Goals as goal
 
 pub returns-then-seconds-eq0 : goal.returns-then-seconds-eq0

@@ -1,7 +1,4 @@
-use Rattle.std.proofs.Common.{◌≡◌, ◌<◌, ◌^◌, arith}
-use Rattle.sf_value.specs.Ascii.{digit_zero}
-use Rattle.sf_value.specs.Grammar.Classes.{is_digit}
-use Rattle.sf_scan.specs.NumberTexts.{BeginsDigit}
+use Rattle.std.proofs.Common.{arith}
 use Rattle.sf_scan.proofs.Digits.{room, begins_small, past_none, past_digit}
 use Rattle.sf_scan.proofs.number.leading_digits.Goals as goal
 

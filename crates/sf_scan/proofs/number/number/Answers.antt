@@ -1,4 +1,4 @@
-use Rattle.std.proofs.Common.{◌≡◌, refl, ap, ◌∙◌, arith, rules, SFits, w64}
+use Rattle.std.proofs.Common.{ap, ◌∙◌, rules, SFits, w64}
 use Rattle.std.proofs.lemmas.Int.{to_z-of_z}
 use Rattle.sf_value.specs.declared.value.Bare.TheVariants as bare
 use Rattle.sf_scan.proofs.Digits.{fits, fits_whole}
