@@ -1,7 +1,8 @@
 -- The bare items, each with the places in it.
 use Rattle.std.proofs.Common.{◌≡◌, ◌≢◌, ℕ, Bool, true, false, List, [], ◌∷◌, ◌++◌, refl, sym, ap, ◌∙◌}
-use Rattle.std.proofs.Common.{if◌then◌else◌, Result, Ok, Err, ◌==◌, ◌&&◌, ◌||◌, subst, append_assoc, append-nil, arith, eqb-true}
+use Rattle.std.proofs.Common.{if◌then◌else◌, Result, Ok, Err, ◌==◌, ◌||◌, ◌&&◌, subst, append_assoc, append-nil, arith, eqb-true}
 use Rattle.sf_value.specs.Ascii.{quote, backslash, question_mark, colon, percent, digit_zero, digit_one}
+use Rattle.sf_value.specs.Ascii.{at_sign}
 use Rattle.sf_value.specs.declared.dialect.Dialect.{Dialect}
 use Rattle.sf_value.specs.declared.value.Bare.{Bare}
 use Rattle.sf_value.specs.declared.value.Bare.TheVariants as bare
@@ -28,22 +29,30 @@ use Rattle.sf_scan.proofs.Escapes.{backslash_first}
 use Rattle.sf_scan.proofs.CodedStarts.{coded_started}
 use Rattle.sf_scan.proofs.Languages.{SameTexts, same_followed, past_followed, past_reads}
 use Rattle.sf_scan.proofs.Languages.{past_refuses}
-use Rattle.sf_scan.proofs.Lists.{heads, tails, cons_nil}
+use Rattle.sf_scan.proofs.Lists.{heads, tails, cons_nil, every_at}
+use Rattle.sf_scan.specs.NumberPlaces.{is_signed_start, is_number_start}
+use Rattle.sf_scan.proofs.NumberStarts.{integer_first, decimal_first, integer_some, decimal_some}
+use Rattle.sf_scan.proofs.NumberStarts.{signed_started, date_started}
 
 -- the first byte tells the type
 abbrev pub begins : Dialect → Bare → ℕ → Bool
+begins d (bare.Integer n) b = is_signed_start b
+begins d (bare.Decimal m) b = is_signed_start b
+begins d (bare.Date n) b = b == at_sign && is_rfc9651 d
 begins d (bare.Text s) b = b == quote
 begins d (bare.Token s) b = is_token_start b
 begins d (bare.Boolean c) b = b == question_mark
 begins d (bare.Blob s) b = b == colon
 begins d (bare.Shown s) b = b == percent && is_rfc9651 d
-begins d x b = false
 
 same_byte : (b c : ℕ) → b ≡ c → (b == c) ≡ true
 same_byte b c e = grind arith
 
 pub first_byte : (d : Dialect) (b : ℕ) (t : List ℕ) (x : Bare) → SpellsLeaf d (b ∷ t) x
     → begins d x b ≡ true
+first_byte d b t (bare.Integer n) h = integer_first b t n h
+first_byte d b t (bare.Decimal m) h = decimal_first b t m h
+first_byte d b t (bare.Date n) h = rw h.0 (rw (same_byte b at_sign (heads b at_sign t _ h.1.1)) refl)
 first_byte d b t (bare.Text s) h = same_byte b quote (heads b quote t _ h.0)
 first_byte d b t (bare.Token s) h = by s h.0 h.1
   where
@@ -53,7 +62,6 @@ first_byte d b t (bare.Token s) h = by s h.0 h.1
 first_byte d b t (bare.Boolean c) h = same_byte b question_mark (heads b question_mark t _ h)
 first_byte d b t (bare.Blob s) h = same_byte b colon (heads b colon t h.0 h.1)
 first_byte d b t (bare.Shown s) h = rw (same_byte b percent (heads b percent t _ h.1.1)) h.0
-first_byte d b t x h = absurd h
 
 boolean_of : (d : Dialect) (t : List ℕ) (x : Bare) → SpellsLeaf d (question_mark ∷ t) x
     → begins d x question_mark ≡ true → (v : Bool) × SpellsBoolean (question_mark ∷ t) v
@@ -207,11 +215,6 @@ boolean_refused d stop h k p =
     cons_nil _ _ (sym (tails question_mark question_mark _ _ v.1))) (rw p refl)
 
 -- Tokens
-every_at : (q : ℕ → Bool) (run : List ℕ) (c : ℕ) (u : List ℕ) → Every q ((run ++ c ∷ []) ++ u)
-    → q c ≡ true
-every_at q [] c u h = h.0
-every_at q (b ∷ run) c u h = every_at q run c u h.1
-
 token_followed : (b : ℕ) (run : List ℕ) → is_token_start b ≡ true → Every is_in_token run
     → IsFollowed (Past (b ∷ []) SpellsToken) is_in_token run
 token_followed b run k h = record {
@@ -335,49 +338,73 @@ string_escape d text s stop h e n p =
     (string_unspelled d s (backslash ∷ []) h no_backslash_tail) (rw p refl)
 
 -- before a bare item
+signed_start : (d : Dialect) (b : ℕ) → is_signed_start b ≡ true → is_bare_start d b ≡ true
+signed_start d b h = grind arith
+
+date_start : (d : Dialect) (b : ℕ) → (b == at_sign && is_rfc9651 d) ≡ true → is_bare_start d b ≡ true
+date_start d b h = grind arith
+
 start_of : (d : Dialect) (x : Bare) (b : ℕ) → begins d x b ≡ true → is_bare_start d b ≡ true
+start_of d (bare.Integer n) b h = signed_start d b h
+start_of d (bare.Decimal m) b h = signed_start d b h
+start_of d (bare.Date n) b h = date_start d b h
 start_of d (bare.Text s) b h = grind arith
 start_of d (bare.Token s) b h = grind arith
 start_of d (bare.Boolean c) b h = grind arith
 start_of d (bare.Blob s) b h = grind arith
 start_of d (bare.Shown s) b h = grind arith
-start_of d x b h = absurd (cc h)
+
+number_started : (d : Dialect) (b : ℕ) → is_number_start d b ≡ true
+    → Continues (SpellsLeaf d) (b ∷ [])
+number_started d b h = by (is_signed_start b) refl
+  where
+    by : (x : Bool) → is_signed_start b ≡ x → Continues (SpellsLeaf d) (b ∷ [])
+    by true e = signed_started d b e
+    by false e =
+        date_started d b (let k : (b == at_sign && is_rfc9651 d) ≡ true = rw e at h in k)
 
 started : (d : Dialect) (b : ℕ) → is_bare_start d b ≡ true → Continues (SpellsLeaf d) (b ∷ [])
-started d b h = by (is_token_start b) refl (b == quote) refl (b == question_mark) refl
+started d b h =
+    by (is_token_start b) refl (b == quote) refl (b == question_mark) refl (is_number_start d b) refl
   where
     by : (x : Bool) → is_token_start b ≡ x → (y : Bool) → (b == quote) ≡ y
-        → (z : Bool) → (b == question_mark) ≡ z → Continues (SpellsLeaf d) (b ∷ [])
-    by true e y f z g = ([], bare.Token (b ∷ []), (refl, (e, tt)))
-    by false e true f z g = (
+        → (z : Bool) → (b == question_mark) ≡ z → (w : Bool) → is_number_start d b ≡ w
+        → Continues (SpellsLeaf d) (b ∷ [])
+    by true e y f z g w i = ([], bare.Token (b ∷ []), (refl, (e, tt)))
+    by false e true f z g w i = (
       quote ∷ [],
       bare.Text [],
       (ap (λ x. x ∷ quote ∷ []) (eqb-true b quote f), tt),
     )
-    by false e false f true g = (
+    by false e false f true g w i = (
       digit_zero ∷ [],
       bare.Boolean false,
       ap (λ x. x ∷ digit_zero ∷ []) (eqb-true b question_mark g),
     )
-    by false e false f false g =
-        coded_started d b (let k : is_coded_start d b ≡ true = rw (e, f, g) at h in k)
+    by false e false f false g true i = number_started d b i
+    by false e false f false g false i =
+        coded_started d b (let k : is_coded_start d b ≡ true = rw (e, f, g, i) at h in k)
 
 unstarted : (d : Dialect) (x : Bare) → SpellsLeaf d [] x → ⊥
+unstarted d (bare.Integer n) h = integer_some n h
+unstarted d (bare.Decimal m) h = decimal_some m h
+unstarted d (bare.Date n) h = cons_nil _ _ (sym h.1.1)
 unstarted d (bare.Text s) h = cons_nil _ _ (sym h.0)
 unstarted d (bare.Token s) h = subst (IsWord is_token_start is_in_token) (sym h.0) h.1
 unstarted d (bare.Boolean c) h = cons_nil _ _ (sym h)
 unstarted d (bare.Blob s) h = cons_nil _ _ (sym h.1)
 unstarted d (bare.Shown s) h = cons_nil _ _ (sym h.1.1)
-unstarted d x h = h
 
 pub no_start : (d : Dialect) (b : ℕ) (t more : List ℕ) → t ≡ b ∷ more → b ≢ quote
-    → b ≢ question_mark → is_token_start b ≡ false → is_coded_start d b ≡ false
-    → Lacks (is_bare_start d) t
-no_start d b t more e q m s n = rw e (none b (is_coded_start d b) q m s n)
+    → b ≢ question_mark → is_token_start b ≡ false → is_number_start d b ≡ false
+    → is_coded_start d b ≡ false → Lacks (is_bare_start d) t
+no_start d b t more e q m s n o =
+    rw e (none b (is_number_start d b) (is_coded_start d b) q m s n o)
   where
-    none : (b : ℕ) (c : Bool) → b ≢ quote → b ≢ question_mark → is_token_start b ≡ false
-        → c ≡ false → ((is_token_start b || (b == quote || b == question_mark)) || c) ≡ false
-    none b c q m s n = grind arith
+    none : (b : ℕ) (c e : Bool) → b ≢ quote → b ≢ question_mark → is_token_start b ≡ false
+        → c ≡ false → e ≡ false
+        → ((is_token_start b || (b == quote || b == question_mark)) || (c || e)) ≡ false
+    none b c e q m s n o = grind arith
 
 pub no_byte : (d : Dialect) (t : List ℕ) → t ≡ [] → Lacks (is_bare_start d) t
 no_byte d t e = rw e tt

@@ -2,8 +2,13 @@ pub mod Sets
 pub mod Lists
 pub mod Languages
 pub mod Escapes
+pub mod Beginnings
+pub mod NumberStarts
 pub mod CodedStarts
 pub mod Bares
+pub mod Digits
+pub mod Numbers
+pub mod Dates
 pub mod Automata
 pub mod Base64
 pub mod Blobs

@@ -44,6 +44,12 @@ two_parts (x ∷ a) u (y ∷ b) v e =
       })
     ]
 
+-- each byte passes, one within the list too
+pub every_at : (q : ℕ → Bool) (run : List ℕ) (c : ℕ) (u : List ℕ) → Every q ((run ++ c ∷ []) ++ u)
+    → q c ≡ true
+every_at q [] c u h = h.0
+every_at q (b ∷ run) c u h = every_at q run c u h.1
+
 -- the longest run of bytes that pass a test is one
 pub record SameSplit (a u b v : List ℕ) : Type 0 where
   pub part : a ≡ b

@@ -1,15 +1,10 @@
 -- Bare items that point into the text.
-use Rattle.std.specs.Prelude.{◌≡◌, ℕ, true, ◌==◌, if◌then◌else◌, List, [], ◌∷◌}
+use Rattle.std.specs.Prelude.{ℕ, ◌==◌, if◌then◌else◌, List, [], ◌∷◌}
 use Rattle.sf_value.specs.Ascii.{backslash}
 use Rattle.sf_value.specs.declared.dialect.Dialect.{Dialect}
 use Rattle.sf_value.specs.declared.value.Bare.{Bare}
 use Rattle.sf_value.specs.declared.value.Bare.TheVariants as bare
-use Rattle.sf_value.specs.Grammar.Strings.{SpellsString}
-use Rattle.sf_value.specs.Grammar.Tokens.{SpellsToken}
-use Rattle.sf_value.specs.Grammar.ByteSequences.{SpellsByteSequence}
-use Rattle.sf_value.specs.Grammar.Booleans.{SpellsBoolean}
-use Rattle.sf_value.specs.Grammar.DisplayStrings.{SpellsDisplayString}
-use Rattle.sf_value.specs.Grammar.Dialects.{is_rfc9651}
+use Rattle.sf_value.specs.Grammar.BareItems.{SpellsBare}
 use Rattle.sf_scan.specs.Blobs.{blob_bytes}
 use Rattle.sf_scan.specs.DisplayStrings.{shown_bytes}
 use Rattle.sf_scan.specs.declared.leaf.Leaf.{Leaf}
@@ -23,6 +18,9 @@ unescaped (b ∷ c ∷ s) = if b == backslash then c ∷ unescaped s else b ∷ 
 
 -- the bare item of a leaf
 abbrev pub leaf_bare : Leaf → Bare
+leaf_bare (leaf.Integer n) = bare.Integer n
+leaf_bare (leaf.Decimal m) = bare.Decimal m
+leaf_bare (leaf.Date n) = bare.Date n
 leaf_bare (leaf.Token t) = bare.Token t.now
 leaf_bare (leaf.Text t) = bare.Text t.now
 leaf_bare (leaf.Escaped t) = bare.Text (unescaped t.now)
@@ -30,11 +28,6 @@ leaf_bare (leaf.Blob t) = bare.Blob (blob_bytes t.now)
 leaf_bare (leaf.Display t) = bare.Shown (shown_bytes t.now)
 leaf_bare (leaf.Boolean b) = bare.Boolean b
 
--- the bare items that are read so far, as `SpellsBare` defines them
+-- the bare items
 abbrev pub SpellsLeaf : Dialect → List ℕ → Bare → Type 0
-SpellsLeaf d t (bare.Text s) = SpellsString t s
-SpellsLeaf d t (bare.Token s) = SpellsToken t s
-SpellsLeaf d t (bare.Blob s) = SpellsByteSequence t s
-SpellsLeaf d t (bare.Shown s) = (is_rfc9651 d ≡ true) × SpellsDisplayString t s
-SpellsLeaf d t (bare.Boolean b) = SpellsBoolean t b
-SpellsLeaf d t x = ⊥
+SpellsLeaf = SpellsBare

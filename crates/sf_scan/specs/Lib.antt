@@ -3,7 +3,9 @@ pub mod Stops
 pub mod Blobs
 pub mod Characters
 pub mod DisplayStrings
+pub mod NumberPlaces
 pub mod Places
 pub mod Leaves
 pub mod Sets
 pub mod Scans
+pub mod NumberTexts

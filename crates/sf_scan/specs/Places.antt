@@ -7,6 +7,7 @@ use Rattle.sf_value.specs.declared.dialect.Dialect.{Dialect}
 use Rattle.sf_value.specs.Grammar.Dialects.{is_rfc9651}
 use Rattle.sf_scan.specs.Blobs.{in_blob}
 use Rattle.sf_scan.specs.DisplayStrings.{in_shown}
+use Rattle.sf_scan.specs.NumberPlaces.{is_number_start, in_number, ends_number}
 use Rattle.sf_scan.specs.declared.place.BarePlace.{BarePlace}
 use Rattle.sf_scan.specs.declared.place.BarePlace.TheVariants as place
 
@@ -14,9 +15,11 @@ use Rattle.sf_scan.specs.declared.place.BarePlace.TheVariants as place
 abbrev pub is_coded_start : Dialect → ℕ → Bool
 is_coded_start d b = b == colon || (b == percent && is_rfc9651 d)
 
--- the first bytes of the bare items that are read so far
+-- the first bytes of bare items
 abbrev pub is_bare_start : Dialect → ℕ → Bool
-is_bare_start d b = (is_token_start b || (b == quote || b == question_mark)) || is_coded_start d b
+is_bare_start d b =
+    (is_token_start b || (b == quote || b == question_mark))
+    || (is_number_start d b || is_coded_start d b)
 
 -- the bytes that may come at a place in a bare item
 abbrev pub in_bare : Dialect → BarePlace → ℕ → Bool
@@ -27,6 +30,7 @@ in_bare d place.InString b = is_visible b
 in_bare d place.Backslash b = is_escaped b
 in_bare d (place.Blob p) b = in_blob p b
 in_bare d (place.Shown p) b = in_shown p b
+in_bare d (place.Number p) b = in_number p b
 in_bare d place.Complete b = false
 
 -- whether the bare item may end there
@@ -38,4 +42,5 @@ ends_bare place.InString = false
 ends_bare place.Backslash = false
 ends_bare (place.Blob p) = false
 ends_bare (place.Shown p) = false
+ends_bare (place.Number p) = ends_number p
 ends_bare place.Complete = true

@@ -10,6 +10,8 @@ ghost use Rattle.sf_scan.specs.Stops.{Past, Lacks};
 use crate::byte_sequence::byte_sequence;
 use crate::display_string::display_string;
 use crate::leaf::Leaf;
+use crate::number::{date, number};
+use crate::number_place::can_start_date;
 use crate::place::{BarePlace, Stop};
 use crate::runs::{short_run, split, strip};
 use sf_value::classes::{InToken, Unescaped};
@@ -36,6 +38,15 @@ pub fn bare(dialect: Dialect, text: &[u8]) -> Result<(Leaf<'_>, Stop<'_>), Stop<
     }
     if first == b'%' {
         return percent(dialect, text, more);
+    }
+    if first.is_ascii_digit() {
+        return number(false, text);
+    }
+    if first == b'-' {
+        return number(true, more);
+    }
+    if can_start_date(dialect, first) {
+        return date(more);
     }
     if can_start_token(first) {
         return Ok(token(text, more));

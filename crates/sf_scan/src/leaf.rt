@@ -3,6 +3,12 @@
 /// A bare item of a text.
 #[derive(Clone, Copy)]
 pub enum Leaf<'a> {
+    /// An Integer.
+    Integer(i64),
+    /// A Decimal, in thousandths.
+    Decimal(i64),
+    /// A Date, in seconds since 1970-01-01T00:00:00Z.
+    Date(i64),
     /// The bytes of a Token.
     Token(&'a [u8]),
     /// The bytes between the quotes of a String that has no backslash: they are its value.

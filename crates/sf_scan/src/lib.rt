@@ -8,6 +8,8 @@ pub mod byte_sequence;
 pub mod char_place;
 pub mod display_string;
 pub mod leaf;
+pub mod number;
+pub mod number_place;
 pub mod place;
 pub mod runs;
 pub mod shown_place;

@@ -4,6 +4,7 @@ ghost use Rattle.sf_scan.specs.Places.{in_bare, ends_bare, is_bare_start};
 ghost use Rattle.sf_scan.specs.Sets.{Marks};
 
 use crate::blob_place::BlobPlace;
+use crate::number_place::{DIGITS, MINUS, NumberPlace};
 use crate::shown_place::ShownPlace;
 use sf_value::Dialect;
 
@@ -24,6 +25,8 @@ pub enum BarePlace {
     Blob(BlobPlace),
     /// In a Display String.
     Shown(ShownPlace),
+    /// After the first byte of an Integer, a Decimal or a Date.
+    Number(NumberPlace),
     /// After a bare item that no further byte can belong to.
     Complete,
 }
@@ -47,19 +50,33 @@ const QUOTE: u128 = 1 << b'"';
 
 const VISIBLE: u128 = (1 << 127) - (1 << b' ');
 
+/// The first bytes of bare items by RFC 8941.
+const START: u128 = TOKEN_START | QUOTE | 1 << b'?' | 1 << b':' | DIGITS | MINUS;
+
+/// The first bytes of bare items, a bit for each.
+fn bare_start(dialect: Dialect) -> u128
+    ensures { Marks result (is_bare_start dialect) }
+{
+    match dialect {
+        Dialect::Rfc8941 => START,
+        Dialect::Rfc9651 => START | 1 << b'@' | 1 << b'%',
+    }
+}
+
 impl BarePlace {
     /// The bytes below 128 that may come, a bit for each.
     pub fn expected(self, dialect: Dialect) -> u128
         ensures { Marks result (in_bare dialect self) }
     {
         match self {
-            BarePlace::Start => first_bytes(dialect),
+            BarePlace::Start => bare_start(dialect),
             BarePlace::QuestionMark => 3 << b'0',
             BarePlace::InToken => TOKEN,
             BarePlace::InString => VISIBLE,
             BarePlace::Backslash => QUOTE | 1 << b'\\',
             BarePlace::Blob(place) => place.expected(),
             BarePlace::Shown(place) => place.expected(),
+            BarePlace::Number(place) => place.expected(),
             BarePlace::Complete => 0,
         }
     }
@@ -68,17 +85,11 @@ impl BarePlace {
     pub fn may_end(self) -> bool
         ensures { result ≡ ends_bare self }
     {
-        matches!(self, BarePlace::InToken | BarePlace::Complete)
-    }
-}
-
-/// The first bytes of bare items.
-fn first_bytes(dialect: Dialect) -> u128
-    ensures { Marks result (is_bare_start dialect) }
-{
-    match dialect {
-        Dialect::Rfc8941 => TOKEN_START | QUOTE | 1 << b'?' | 1 << b':',
-        Dialect::Rfc9651 => TOKEN_START | QUOTE | 1 << b'?' | 1 << b':' | 1 << b'%',
+        match self {
+            BarePlace::InToken | BarePlace::Complete => true,
+            BarePlace::Number(place) => place.may_end(),
+            _ => false,
+        }
     }
 }
 

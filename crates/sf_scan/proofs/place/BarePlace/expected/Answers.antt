@@ -2,6 +2,9 @@ use Rattle.std.proofs.Common.{refl}
 use Rattle.sf_scan.proofs.Sets.{marks_table}
 use Rattle.sf_scan.proofs.place.BarePlace.expected.Goals as goal
 
+pub returns-in-Start : goal.returns-in-Start
+returns-in-Start c = rw c.in-Start.is c.bare_start.ensures
+
 pub returns-in-QuestionMark : goal.returns-in-QuestionMark
 returns-in-QuestionMark c = rw c.in-QuestionMark.is (marks_table _ _ refl)
 
