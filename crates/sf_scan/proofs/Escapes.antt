@@ -73,7 +73,7 @@ rest_of (b ∷ s) rest (c ∷ v) e h =
     by : (escaped s ++ rest ≡ escaped v ++ quote ∷ [] → Rest s rest v) → (x : Bool) → is_escaped b ≡ x → (y : Bool) → is_escaped c ≡ y → Rest (b ∷ s) rest (c ∷ v)
     by more true i true j =
         let f : backslash ∷ (b ∷ (escaped s ++ rest))
-            ≡ backslash ∷ (c ∷ (escaped v ++ quote ∷ [])) = rw (i, j) at e in
+        ≡ backslash ∷ (c ∷ (escaped v ++ quote ∷ [])) = rw (i, j) at e in
         on (more cc) cc
     by more true i false j =
         let f : backslash ∷ (b ∷ (escaped s ++ rest)) ≡ c ∷ (escaped v ++ quote ∷ []) = rw (i, j) at e in
@@ -91,8 +91,8 @@ pub tail_texts : (s : List ℕ) → Every is_visible s
 tail_texts s h = record {
   up = λ t r k. (
     ap (λ x. quote ∷ x) (ap (λ x. escaped s ++ x) k.0
-    ∙ (sym (append_assoc (escaped s) (escaped r) (quote ∷ []))
-    ∙ ap (λ x. x ++ quote ∷ []) (sym (escaped_append s r)))),
+        ∙ (sym (append_assoc (escaped s) (escaped r) (quote ∷ []))
+        ∙ ap (λ x. x ++ quote ∷ []) (sym (escaped_append s r)))),
     every_append is_visible s r h k.1,
   );
   down = λ t v k. let r = rest_of s t v (let e = k.0 in cc) k.1 in (r.bytes, r.tail);

@@ -3,3 +3,4 @@ pub mod Lists
 pub mod Languages
 pub mod Escapes
 pub mod Bares
+pub mod Pairs

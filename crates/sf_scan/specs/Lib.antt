@@ -4,3 +4,5 @@ pub mod Places
 pub mod Leaves
 pub mod Sets
 pub mod Scans
+pub mod Parameters
+pub mod Makers

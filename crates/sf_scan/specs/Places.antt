@@ -1,11 +1,14 @@
 -- The places of the grammar where reading may stop, by the bytes that may come there.
-use Rattle.std.specs.Prelude.{ℕ, Bool, true, false, ◌==◌, ◌||◌}
-use Rattle.sf_value.specs.Ascii.{quote, question_mark, digit_zero, digit_one}
+use Rattle.std.specs.Prelude.{ℕ, Bool, true, false, ◌==◌, ◌||◌, ◌&&◌}
+use Rattle.sf_value.specs.Ascii.{quote, question_mark, digit_zero, digit_one, semicolon, equals}
 use Rattle.sf_value.specs.Grammar.Classes.{is_token_start, is_in_token, is_visible}
+use Rattle.sf_value.specs.Grammar.Classes.{is_sp, is_key_start, is_in_key}
 use Rattle.sf_value.specs.Grammar.Strings.{is_escaped}
 use Rattle.sf_value.specs.declared.dialect.Dialect.{Dialect}
 use Rattle.sf_scan.specs.declared.place.BarePlace.{BarePlace}
 use Rattle.sf_scan.specs.declared.place.BarePlace.TheVariants as place
+use Rattle.sf_scan.specs.declared.place.ParamPlace.{ParamPlace}
+use Rattle.sf_scan.specs.declared.place.ParamPlace.TheVariants as param
 
 -- the first bytes of the bare items that are read so far
 abbrev pub is_bare_start : Dialect → ℕ → Bool
@@ -28,3 +31,21 @@ ends_bare place.InToken = true
 ends_bare place.InString = false
 ends_bare place.Backslash = false
 ends_bare place.Complete = true
+
+-- the bytes that may come at a place in a parameter, as part of it
+abbrev pub in_param : Dialect → ParamPlace → ℕ → Bool
+in_param d param.Before b = false
+in_param d param.Semicolon b = is_sp b || is_key_start b
+in_param d param.InKey b = is_in_key b || b == equals
+in_param d (param.InValue p) b = in_bare d p b
+
+-- whether the parameters may end there
+abbrev pub ends_params : ParamPlace → Bool
+ends_params param.Before = true
+ends_params param.Semicolon = false
+ends_params param.InKey = true
+ends_params (param.InValue p) = ends_bare p
+
+-- the bytes that may come there: another parameter may follow one that may end
+abbrev pub in_params : Dialect → ParamPlace → ℕ → Bool
+in_params d p b = in_param d p b || (ends_params p && b == semicolon)

@@ -10,11 +10,14 @@ ghost use Rattle.sf_scan.specs.Stops.{Past, Lacks};
 use crate::leaf::Leaf;
 use crate::place::{BarePlace, Stop};
 use crate::runs::{short_run, split, strip};
-use sf_value::{Dialect, can_start_token};
 use sf_value::classes::{InToken, Unescaped};
+use sf_value::{Dialect, can_start_token};
 
 /// The bare item that the text begins with, and where it stops: the longest one that is there.
-pub fn bare(dialect: Dialect, text: &[u8]) -> Result<(Leaf<'_>, Stop<'_>), Stop<'_>>
+pub fn bare(
+    dialect: Dialect,
+    text: &[u8],
+) -> Result<(Leaf<'_>, Stop<'_, BarePlace>), Stop<'_, BarePlace>>
     ensures { ScansLeaf dialect (SpellsLeaf dialect) text.now result }
 {
     let Some((first, more)) = split(text) else {
@@ -39,22 +42,31 @@ pub fn bare(dialect: Dialect, text: &[u8]) -> Result<(Leaf<'_>, Stop<'_>), Stop<
 }
 
 /// A Boolean, after its question mark.
-fn boolean(text: &[u8]) -> Result<(Leaf<'_>, Stop<'_>), Stop<'_>>
+fn boolean(text: &[u8]) -> Result<(Leaf<'_>, Stop<'_, BarePlace>), Stop<'_, BarePlace>>
     ensures { (d : Which) → ScansLeaf d (Past (question_mark ∷ []) (SpellsLeaf d)) text.now result }
 {
     if let Some(rest) = strip(text, b'0') {
-        let end = Stop { left: rest, place: BarePlace::Complete };
+        let end = Stop {
+            left: rest,
+            place: BarePlace::Complete,
+        };
         return Ok((Leaf::Boolean(false), end));
     }
     if let Some(rest) = strip(text, b'1') {
-        let end = Stop { left: rest, place: BarePlace::Complete };
+        let end = Stop {
+            left: rest,
+            place: BarePlace::Complete,
+        };
         return Ok((Leaf::Boolean(true), end));
     }
-    Err(Stop { left: text, place: BarePlace::QuestionMark })
+    Err(Stop {
+        left: text,
+        place: BarePlace::QuestionMark,
+    })
 }
 
 /// The Token that the text begins with; `more` is the text without its first byte.
-fn token<'a>(text: &'a [u8], more: &'a [u8]) -> (Leaf<'a>, Stop<'a>)
+fn token<'a>(text: &'a [u8], more: &'a [u8]) -> (Leaf<'a>, Stop<'a, BarePlace>)
     requires { BeginsToken text.now more.now }
     ensures { (d : Which) → ScansLeaf d (SpellsLeaf d) text.now (Ok result) }
 {
@@ -70,7 +82,7 @@ fn token<'a>(text: &'a [u8], more: &'a [u8]) -> (Leaf<'a>, Stop<'a>)
 }
 
 /// A String, after its opening quote.
-fn string(text: &[u8]) -> Result<(Leaf<'_>, Stop<'_>), Stop<'_>>
+fn string(text: &[u8]) -> Result<(Leaf<'_>, Stop<'_, BarePlace>), Stop<'_, BarePlace>>
     ensures { (d : Which) → ScansLeaf d (Past (quote ∷ []) (SpellsLeaf d)) text.now result }
 {
     let (run, left) = short_run::<Unescaped>(text);
@@ -101,7 +113,7 @@ fn string(text: &[u8]) -> Result<(Leaf<'_>, Stop<'_>), Stop<'_>>
 }
 
 /// The rest after the bytes of a String, some of which may be escaped.
-fn after_escapes(text: &[u8]) -> Result<&[u8], Stop<'_>>
+fn after_escapes(text: &[u8]) -> Result<&[u8], Stop<'_, BarePlace>>
     ensures { MatchResult result (λ rest. Escapes text.now rest.now)
         (λ stop. StopsEscaped text.now stop) }
 {

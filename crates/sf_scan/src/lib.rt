@@ -4,5 +4,7 @@
 
 pub mod bare;
 pub mod leaf;
+pub mod maker;
+pub mod param;
 pub mod place;
 pub mod runs;
