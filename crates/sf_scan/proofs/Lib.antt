@@ -4,3 +4,4 @@ pub mod Languages
 pub mod Escapes
 pub mod Bares
 pub mod Pairs
+pub mod Raws
