@@ -94,3 +94,12 @@ module _ {S : Type 0} (next : S → ℕ → Bool) (after : S → ℕ → S) (fin
       → (v : V) → L p v → ⊥
   leads_unspelled L s e p r h f v l =
       let k = leads_final s e p h (r.spells p v l) in absurd cc
+
+  -- no accepted text begins a longer one, if no byte comes in a final state
+  pub accepts_once : ((s : S) (b : ℕ) → final s ≡ true → next s b ≡ false) → (s : S)
+      (t u : List ℕ) (b : ℕ) → Accepts next after final s t
+      → Accepts next after final s ((t ++ b ∷ []) ++ u) → ⊥
+  accepts_once n s [] u b h k =
+      let z = n s b h in
+      let y : true ≡ false = sym k.0 ∙ z in cc
+  accepts_once n s (c ∷ t) u b h k = accepts_once n (after s c) t u b h.1 k.1

@@ -1,6 +1,7 @@
 -- The bare items, each with the places in it.
 use Rattle.std.proofs.Common.{◌≡◌, ◌≢◌, ℕ, Bool, true, false, List, [], ◌∷◌, ◌++◌, refl, sym, ap, ◌∙◌}
-use Rattle.std.proofs.Common.{if◌then◌else◌, Result, Ok, Err, ◌==◌, ◌||◌, ◌&&◌, subst, append_assoc, append-nil, arith, eqb-true}
+use Rattle.std.proofs.Common.{if◌then◌else◌, Result, Ok, Err, ◌==◌, ◌||◌, ◌&&◌, subst, append_assoc}
+use Rattle.std.proofs.Common.{append-nil, arith, eqb-true}
 use Rattle.sf_value.specs.Ascii.{quote, backslash, question_mark, colon, percent, digit_zero, digit_one}
 use Rattle.sf_value.specs.Ascii.{at_sign}
 use Rattle.sf_value.specs.declared.dialect.Dialect.{Dialect}
@@ -23,6 +24,7 @@ use Rattle.sf_scan.specs.Scans.{ReadsLeaf, RefusesLeaf, ScansLeaf}
 use Rattle.sf_scan.specs.declared.leaf.Leaf.{Leaf}
 use Rattle.sf_scan.specs.declared.leaf.Leaf.TheVariants as leaf
 use Rattle.sf_scan.specs.declared.place.Stop.{Stop}
+use Rattle.sf_scan.specs.declared.place.BarePlace.{BarePlace}
 use Rattle.sf_scan.specs.declared.place.BarePlace.TheVariants as place
 use Rattle.sf_scan.proofs.Escapes.{Tail, tail_texts, inside_followed, backslash_followed, closed_followed}
 use Rattle.sf_scan.proofs.Escapes.{backslash_first}
@@ -126,7 +128,7 @@ token_texts d b e = record {
 
 -- a leaf up to the stop, and a stop before its end
 pub reads_leaf : (d : Dialect) (L : List ℕ → Bare → Type 0) (text prefix : List ℕ) (leaf : Leaf)
-    (stop : Stop) → text ≡ prefix ++ stop.left.now → IsFollowed L (in_bare d stop.place) prefix
+    (stop : Stop BarePlace) → text ≡ prefix ++ stop.left.now → IsFollowed L (in_bare d stop.place) prefix
     → Lacks (in_bare d stop.place) stop.left.now → L prefix (leaf_bare leaf)
     → ends_bare stop.place ≡ true → ReadsLeaf d L text leaf stop
 reads_leaf d L text prefix leaf stop e f b s k = record {
@@ -138,7 +140,7 @@ reads_leaf d L text prefix leaf stop e f b s k = record {
 }
 
 pub refuses_leaf : (d : Dialect) (L : List ℕ → Bare → Type 0) (text prefix : List ℕ)
-    (stop : Stop) → text ≡ prefix ++ stop.left.now → IsFollowed L (in_bare d stop.place) prefix
+    (stop : Stop BarePlace) → text ≡ prefix ++ stop.left.now → IsFollowed L (in_bare d stop.place) prefix
     → Lacks (in_bare d stop.place) stop.left.now → ((x : Bare) → L prefix x → ⊥)
     → ends_bare stop.place ≡ false → RefusesLeaf d L text stop
 refuses_leaf d L text prefix stop e f b s k = record {
@@ -172,7 +174,7 @@ mark_followed = record {
   only = λ b h. is_bool_byte b h.1 (heads b _ _ _ (tails question_mark question_mark _ _ h.2));
 }
 
-value_followed : (v : Bool) (t : List ℕ) → t ≡ (if v then digit_one else digit_zero) ∷ []
+pub value_followed : (v : Bool) (t : List ℕ) → t ≡ (if v then digit_one else digit_zero) ∷ []
     → IsFollowed (Past (question_mark ∷ []) SpellsBoolean) (λ b. false) t
 value_followed v t e = record {
   viable = ([], v, ap (λ x. question_mark ∷ x) (append-nil t ∙ e));
@@ -187,7 +189,7 @@ value_followed v t e = record {
         ≡ (if w then digit_one else digit_zero) ∷ [] = rw e at k in
         cons_nil b u (tails _ _ _ _ f)
 
-pub boolean_read : (d : Dialect) (v : Bool) (text : List ℕ) (stop : Stop)
+pub boolean_read : (d : Dialect) (v : Bool) (text : List ℕ) (stop : Stop BarePlace)
     → text ≡ (if v then digit_one else digit_zero) ∷ stop.left.now → stop.place ≡ place.Complete
     → ReadsLeaf d (Past (question_mark ∷ []) (SpellsLeaf d)) text (leaf.Boolean v) stop
 boolean_read d v text stop e p =
@@ -204,7 +206,7 @@ no_digit (b ∷ t) h k = neither b h k
     neither : (b : ℕ) → b ≢ digit_zero → b ≢ digit_one → (b == digit_zero || b == digit_one) ≡ false
     neither b h k = grind arith
 
-pub boolean_refused : (d : Dialect) (stop : Stop) → FirstIs (λ b. b ≢ digit_zero) stop.left.now
+pub boolean_refused : (d : Dialect) (stop : Stop BarePlace) → FirstIs (λ b. b ≢ digit_zero) stop.left.now
     → FirstIs (λ b. b ≢ digit_one) stop.left.now → stop.place ≡ place.QuestionMark
     → RefusesLeaf d (Past (question_mark ∷ []) (SpellsLeaf d)) stop.left.now stop
 boolean_refused d stop h k p =
@@ -215,7 +217,7 @@ boolean_refused d stop h k p =
     cons_nil _ _ (sym (tails question_mark question_mark _ _ v.1))) (rw p refl)
 
 -- Tokens
-token_followed : (b : ℕ) (run : List ℕ) → is_token_start b ≡ true → Every is_in_token run
+pub token_followed : (b : ℕ) (run : List ℕ) → is_token_start b ≡ true → Every is_in_token run
     → IsFollowed (Past (b ∷ []) SpellsToken) is_in_token run
 token_followed b run k h = record {
   viable = ([], b ∷ run, (ap (λ t. b ∷ t) (append-nil run), (k, h)));
@@ -231,7 +233,7 @@ token_followed b run k h = record {
       (subst (IsWord is_token_start is_in_token) (sym e.2.0) e.2.1).1;
 }
 
-pub token_read : (d : Dialect) (b : ℕ) (run text token : List ℕ) (l : Leaf) (stop : Stop)
+pub token_read : (d : Dialect) (b : ℕ) (run text token : List ℕ) (l : Leaf) (stop : Stop BarePlace)
     → is_token_start b ≡ true → Every is_in_token run → text ≡ b ∷ (run ++ stop.left.now)
     → Lacks is_in_token stop.left.now → stop.place ≡ place.InToken
     → leaf_bare l ≡ bare.Token (b ∷ run) → ReadsLeaf d (SpellsLeaf d) text l stop
@@ -242,7 +244,7 @@ token_read d b run text token l stop k h e n p v =
     (rw p n) (rw v (refl, (k, h))) (rw p refl)
 
 -- Strings
-string_followed : (d : Dialect) (s q : List ℕ) (next : ℕ → Bool) → Every is_visible s
+pub string_followed : (d : Dialect) (s q : List ℕ) (next : ℕ → Bool) → Every is_visible s
     → IsFollowed Tail next q
     → IsFollowed (Past (quote ∷ []) (SpellsLeaf d)) next (escaped s ++ q)
 string_followed d s q next h f =
@@ -259,7 +261,7 @@ string_unspelled d s q h n x k =
     n r.0 r.1
 
 -- a closed one
-pub string_read : (d : Dialect) (text s : List ℕ) (l : Leaf) (stop : Stop) → Every is_visible s
+pub string_read : (d : Dialect) (text s : List ℕ) (l : Leaf) (stop : Stop BarePlace) → Every is_visible s
     → text ≡ escaped s ++ quote ∷ stop.left.now → stop.place ≡ place.Complete
     → leaf_bare l ≡ bare.Text s → ReadsLeaf d (Past (quote ∷ []) (SpellsLeaf d)) text l stop
 string_read d text s l stop h e p v =
@@ -298,7 +300,7 @@ no_escape_left (b ∷ t) h = differs b h
     differs : (b : ℕ) → (b == backslash) ≡ false → b ≢ backslash
     differs b h = grind arith
 
-pub string_open : (d : Dialect) (text s : List ℕ) (stop : Stop) → Every is_visible s
+pub string_open : (d : Dialect) (text s : List ℕ) (stop : Stop BarePlace) → Every is_visible s
     → text ≡ escaped s ++ stop.left.now → Lacks is_unescaped stop.left.now
     → FirstIs (λ b. b ≢ quote) stop.left.now → FirstIs (λ b. b ≢ backslash) stop.left.now
     → stop.place ≡ place.InString
@@ -327,7 +329,7 @@ no_backslash_tail (c ∷ v) h = by (is_escaped c) refl
         let f : backslash ∷ [] ≡ c ∷ (escaped v ++ quote ∷ []) = rw i at k in
         backslash_first c i (sym (heads _ _ _ _ f))
 
-pub string_escape : (d : Dialect) (text s : List ℕ) (stop : Stop) → Every is_visible s
+pub string_escape : (d : Dialect) (text s : List ℕ) (stop : Stop BarePlace) → Every is_visible s
     → text ≡ escaped s ++ backslash ∷ stop.left.now → Lacks is_escaped stop.left.now
     → stop.place ≡ place.Backslash
     → RefusesLeaf d (Past (quote ∷ []) (SpellsLeaf d)) text stop
@@ -414,7 +416,10 @@ pub no_percent : (d : Dialect) (t more : List ℕ) → t ≡ percent ∷ more �
     → Lacks (is_bare_start d) t
 no_percent d t more e r = rw (e, r) refl
 
-pub bare_refused : (d : Dialect) (stop : Stop) → Lacks (is_bare_start d) stop.left.now
+pub some_bare : (d : Dialect) → Continues (SpellsLeaf d) []
+some_bare d = (quote ∷ quote ∷ [], bare.Text [], (refl, tt))
+
+pub bare_refused : (d : Dialect) (stop : Stop BarePlace) → Lacks (is_bare_start d) stop.left.now
     → stop.place ≡ place.Start → RefusesLeaf d (SpellsLeaf d) stop.left.now stop
 bare_refused d stop n p =
     refuses_leaf d _ stop.left.now [] stop refl
@@ -427,7 +432,7 @@ bare_refused d stop n p =
 
 -- seen from the first byte on
 pub past_scans : (d : Dialect) (L : List ℕ → Bare → Type 0) (p text whole : List ℕ)
-    (r : Result (Leaf × Stop) Stop) → whole ≡ p ++ text → ScansLeaf d (Past p L) text r
+    (r : Result (Leaf × Stop BarePlace) (Stop BarePlace)) → whole ≡ p ++ text → ScansLeaf d (Past p L) text r
     → ScansLeaf d L whole r
 past_scans d L p text whole (Ok r) e h =
     record { reads = past_reads L _ p text whole _ _ e h.reads; ends = h.ends }

@@ -18,6 +18,7 @@ use Rattle.sf_scan.specs.declared.blob_place.BlobPlace.{BlobPlace}
 use Rattle.sf_scan.specs.declared.blob_place.BlobPlace.TheVariants as blob
 use Rattle.sf_scan.specs.declared.leaf.Leaf.{Leaf}
 use Rattle.sf_scan.specs.declared.place.Stop.{Stop}
+use Rattle.sf_scan.specs.declared.place.BarePlace.{BarePlace}
 use Rattle.sf_scan.specs.declared.place.BarePlace.TheVariants as place
 use Rattle.sf_scan.proofs.Automata.{Recognizes, Went, went_on, leads_end}
 use Rattle.sf_scan.proofs.Automata.{leads_followed, leads_unspelled}
@@ -139,7 +140,7 @@ reached_pad text left more p q r e k =
     }
 
 -- where it stops
-pub blob_refused : (d : Dialect) (text : List ℕ) (p : BlobPlace) (stop : Stop)
+pub blob_refused : (d : Dialect) (text : List ℕ) (p : BlobPlace) (stop : Stop BarePlace)
     → Reached text stop.left.now p → stop.place ≡ place.Blob p
     → Lacks (in_blob p) stop.left.now
     → RefusesLeaf d (Past (colon ∷ []) (SpellsLeaf d)) text stop
@@ -217,7 +218,7 @@ values_front : (t : List ℕ) → values (t ++ colon ∷ []) ≡ values t
 values_front [] = refl
 values_front (b ∷ t) = ap (more_values (sextet b)) (values_front t)
 
-pub blob_read : (d : Dialect) (text left inside : List ℕ) (p : BlobPlace) (l : Leaf) (stop : Stop)
+pub blob_read : (d : Dialect) (text left inside : List ℕ) (p : BlobPlace) (l : Leaf) (stop : Stop BarePlace)
     → Reached text left p → Closes p left stop.left.now
     → inside ≡ take (length text - length left) text → stop.place ≡ place.Complete
     → leaf_bare l ≡ bare.Blob (blob_bytes inside)

@@ -23,6 +23,7 @@ use Rattle.sf_scan.specs.declared.number.Digits.{Digits}
 use Rattle.sf_scan.specs.declared.number_place.NumberPlace.TheVariants as number
 use Rattle.sf_scan.specs.declared.place.BarePlace.TheVariants as place
 use Rattle.sf_scan.specs.declared.place.Stop.{Stop}
+use Rattle.sf_scan.specs.declared.place.BarePlace.{BarePlace}
 use Rattle.sf_scan.proofs.Bares.{refuses_leaf, past_scans, first_byte, begins}
 use Rattle.sf_scan.proofs.Beginnings.{begun_scans, same_scans}
 use Rattle.sf_scan.proofs.Digits.{DigitTexts, digits_read, digits_refused, digits_continue, stop_at}
@@ -78,7 +79,7 @@ no_signed (b ∷ t) h k = neither b h k
     neither : (b : ℕ) → b ≢ minus → is_digit b ≡ false → is_signed_start b ≡ false
     neither b h k = grind arith
 
-pub date_start_refused : (d : Dialect) (stop : Stop) → FirstIs (λ b. b ≢ minus) stop.left.now
+pub date_start_refused : (d : Dialect) (stop : Stop BarePlace) → FirstIs (λ b. b ≢ minus) stop.left.now
     → Lacks is_digit stop.left.now → stop.place ≡ place.Number number.At
     → RefusesLeaf d DateAfterAt stop.left.now stop
 date_start_refused d stop h k p =
@@ -119,7 +120,7 @@ date_of d t (bare.Date n) h k =
     subst (λ s. SpellsInteger s n) (sym (tails at_sign at_sign t h.1.0 h.1.1)) h.1.2
 date_of d t x h k = absurd (cc k)
 
-at_texts : (d : Dialect) → is_rfc9651 d ≡ true
+pub at_texts : (d : Dialect) → is_rfc9651 d ≡ true
     → SameTexts DateAfterAt (Past (at_sign ∷ []) (SpellsLeaf d)) (λ x. x)
 at_texts d e = record {
   up = up;
@@ -130,14 +131,14 @@ at_texts d e = record {
     up t (bare.Date n) h = (e, (t, refl, h))
     up t x h = absurd h
 
-pub date_minus_scans : (d : Dialect) (text more : List ℕ) (r : Result (Leaf × Stop) Stop)
+pub date_minus_scans : (d : Dialect) (text more : List ℕ) (r : Result (Leaf × Stop BarePlace) (Stop BarePlace))
     → text ≡ minus ∷ more → ScansLeaf d (DateAfterSign true) more r → ScansLeaf d DateAfterAt text r
 date_minus_scans d text more r e h =
     past_scans d DateAfterAt (minus ∷ []) more text r e
     (same_scans d (DateAfterSign true) _ more r date_minus_texts h)
 
 pub date_digit_scans : (d : Dialect) (text more : List ℕ) (value : ℕ)
-    (r : Result (Leaf × Stop) Stop) → BeginsDigit text value more
+    (r : Result (Leaf × Stop BarePlace) (Stop BarePlace)) → BeginsDigit text value more
     → ScansLeaf d (DateAfterSign false) text r → ScansLeaf d DateAfterAt text r
 date_digit_scans d text more value r g h =
     begun_scans d (DateAfterSign false) DateAfterAt g.0 more text r g.1
@@ -145,7 +146,7 @@ date_digit_scans d text more value r g h =
     (omega arith) (omega arith))
     (date_digit_texts g.0 g.2) h
 
-pub date_scans : (d : Dialect) (text more : List ℕ) (b : ℕ) (r : Result (Leaf × Stop) Stop)
+pub date_scans : (d : Dialect) (text more : List ℕ) (b : ℕ) (r : Result (Leaf × Stop BarePlace) (Stop BarePlace))
     → text ≡ b ∷ more → (b == at_sign && is_rfc9651 d) ≡ true → ScansLeaf d DateAfterAt more r
     → ScansLeaf d (SpellsLeaf d) text r
 date_scans d text more b r e k h =

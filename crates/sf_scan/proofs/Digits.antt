@@ -21,6 +21,7 @@ use Rattle.sf_scan.specs.declared.number.Digits.{Digits}
 use Rattle.sf_scan.specs.declared.number_place.NumberPlace.{NumberPlace}
 use Rattle.sf_scan.specs.declared.place.BarePlace.TheVariants as place
 use Rattle.sf_scan.specs.declared.place.Stop.{Stop}
+use Rattle.sf_scan.specs.declared.place.BarePlace.{BarePlace}
 use Rattle.sf_scan.proofs.Bares.{reads_leaf, refuses_leaf}
 use Rattle.sf_scan.specs.Stops.{IsFollowed, Lacks}
 use Rattle.sf_scan.proofs.Lists.{every_at}
@@ -137,7 +138,7 @@ digits_blocked n high (b ∷ t) h = blocked n high b h
     blocked n high b h = grind arith
 
 -- the stop after digits
-abbrev pub stop_at : Digits → NumberPlace → Stop
+abbrev pub stop_at : Digits → NumberPlace → Stop BarePlace
 stop_at run p = record { left = run.left; place = place.Number p }
 
 pub some_count : (n : ℕ) → n ≢ 0 → nat_le 1 n ≡ true

@@ -16,3 +16,6 @@ pub mod BlobStops
 pub mod Characters
 pub mod DisplayStrings
 pub mod ShownStops
+pub mod Following
+pub mod Pairs
+pub mod Raws

@@ -24,6 +24,7 @@ use Rattle.sf_scan.specs.declared.leaf.Leaf.{Leaf}
 use Rattle.sf_scan.specs.declared.number.Digits.{Digits}
 use Rattle.sf_scan.specs.declared.number_place.NumberPlace.TheVariants as number
 use Rattle.sf_scan.specs.declared.place.Stop.{Stop}
+use Rattle.sf_scan.specs.declared.place.BarePlace.{BarePlace}
 use Rattle.sf_scan.proofs.Bares.{reads_leaf, refuses_leaf, past_scans, first_byte, begins}
 use Rattle.sf_scan.proofs.Beginnings.{begun_scans, same_scans}
 use Rattle.sf_scan.proofs.Digits.{DigitTexts, digits_read, digits_refused, stop_at}
@@ -246,7 +247,7 @@ point_texts neg w d = record { up = up; down = λ t x h. (x, after_point_of neg 
     up t x h = absurd h
 
 pub point_scans : (d : Dialect) (neg : Bool) (text rest : List ℕ) (run : Digits)
-    (r : Result (Leaf × Stop) Stop) → TakesDigits 15 text run
+    (r : Result (Leaf × Stop BarePlace) (Stop BarePlace)) → TakesDigits 15 text run
     → PastPoint run.count run.left.now rest
     → ScansLeaf d (NumberAfterPoint neg run.value) rest r → ScansLeaf d (NumberAfterSign neg) text r
 point_scans d neg text rest run r t q h =
@@ -320,27 +321,27 @@ spells_number d neg t (bare.Decimal m) h =
     (neg, h.0, h.1, ap (λ y. sign neg ++ y) h.2, h.3, h.4.0, h.4.1)
 spells_number d neg t x h = absurd h
 
-minus_texts : (d : Dialect) → SameTexts (NumberAfterSign true) (Past (minus ∷ []) (SpellsLeaf d)) (λ x. x)
+pub minus_texts : (d : Dialect) → SameTexts (NumberAfterSign true) (Past (minus ∷ []) (SpellsLeaf d)) (λ x. x)
 minus_texts d = record {
   up = λ t x h. spells_number d true t x h;
   down = λ t x h. (x, number_after_minus d t x h (first_byte d minus t x h));
 }
 
-digit_texts : (d : Dialect) (b : ℕ) → is_digit b ≡ true
+pub digit_texts : (d : Dialect) (b : ℕ) → is_digit b ≡ true
     → SameTexts (Past (b ∷ []) (NumberAfterSign false)) (Past (b ∷ []) (SpellsLeaf d)) (λ x. x)
 digit_texts d b i = record {
   up = λ t x h. spells_number d false (b ∷ t) x h;
   down = λ t x h. (x, number_at_digit d b t x i h (first_byte d b t x h));
 }
 
-pub minus_scans : (d : Dialect) (text more : List ℕ) (r : Result (Leaf × Stop) Stop)
+pub minus_scans : (d : Dialect) (text more : List ℕ) (r : Result (Leaf × Stop BarePlace) (Stop BarePlace))
     → text ≡ minus ∷ more → ScansLeaf d (NumberAfterSign true) more r
     → ScansLeaf d (SpellsLeaf d) text r
 minus_scans d text more r e h =
     past_scans d (SpellsLeaf d) (minus ∷ []) more text r e
     (same_scans d (NumberAfterSign true) _ more r (minus_texts d) h)
 
-pub digit_scans : (d : Dialect) (text more : List ℕ) (b : ℕ) (r : Result (Leaf × Stop) Stop)
+pub digit_scans : (d : Dialect) (text more : List ℕ) (b : ℕ) (r : Result (Leaf × Stop BarePlace) (Stop BarePlace))
     → text ≡ b ∷ more → is_digit b ≡ true → ScansLeaf d (NumberAfterSign false) text r
     → ScansLeaf d (SpellsLeaf d) text r
 digit_scans d text more b r e i h =

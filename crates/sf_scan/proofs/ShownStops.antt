@@ -26,6 +26,7 @@ use Rattle.sf_scan.specs.declared.char_place.CharPlace.{CharPlace}
 use Rattle.sf_scan.specs.declared.char_place.CharPlace.TheVariants as chars
 use Rattle.sf_scan.specs.declared.leaf.Leaf.{Leaf}
 use Rattle.sf_scan.specs.declared.place.Stop.{Stop}
+use Rattle.sf_scan.specs.declared.place.BarePlace.{BarePlace}
 use Rattle.sf_scan.specs.declared.place.BarePlace.TheVariants as place
 use Rattle.sf_scan.specs.declared.shown_place.ShownPlace.{ShownPlace}
 use Rattle.sf_scan.specs.declared.shown_place.ShownPlace.TheVariants as shown
@@ -208,7 +209,7 @@ reached_more inside left escape more rest c f r e p u =
 
 -- where it stops
 shown_refused : (d : Dialect) → is_rfc9651 d ≡ true → (text : List ℕ) (s : State) (p : ShownPlace)
-    (stop : Stop) → (w : Goes Opening s text stop.left.now)
+    (stop : Stop BarePlace) → (w : Goes Opening s text stop.left.now)
     → IsFollowed (Past (percent ∷ []) (SpellsLeaf d)) (in_shown p) w.part → final s ≡ false
     → stop.place ≡ place.Shown p → Lacks (in_shown p) stop.left.now
     → RefusesLeaf d (Past (percent ∷ []) (SpellsLeaf d)) text stop
@@ -218,7 +219,7 @@ shown_refused d e text s p stop w f n k l =
     leads_unspelled next after final _ Opening s w.part shown_recognized w.path n v.0 v.1)
     (rw k refl)
 
-pub refused_quote : (d : Dialect) → is_rfc9651 d ≡ true → (stop : Stop)
+pub refused_quote : (d : Dialect) → is_rfc9651 d ≡ true → (stop : Stop BarePlace)
     → FirstIs (λ b. b ≢ quote) stop.left.now → stop.place ≡ place.Shown shown.Quote
     → RefusesLeaf d (Past (percent ∷ []) (SpellsLeaf d)) stop.left.now stop
 refused_quote d e stop n k =
@@ -258,7 +259,7 @@ lacks_between c (b ∷ left) u h o = by c b u h o
     by chars.AfterF4 b u h o = differs b h
 
 pub refused_between : (d : Dialect) → is_rfc9651 d ≡ true → (text inside : List ℕ) (c : CharPlace)
-    (stop : Stop) → text ≡ quote ∷ inside → Reached inside stop.left.now c
+    (stop : Stop BarePlace) → text ≡ quote ∷ inside → Reached inside stop.left.now c
     → FirstIs (λ b. b ≢ percent) stop.left.now → StaysOpen c stop.left.now
     → stop.place ≡ place.Shown (shown.Between c)
     → RefusesLeaf d (Past (percent ∷ []) (SpellsLeaf d)) text stop
@@ -275,7 +276,7 @@ to_percent text inside left escape c q r p =
     went_on (went_on (quote_went text inside q) r.went) (percent_went c left escape p)
 
 pub refused_escape : (d : Dialect) → is_rfc9651 d ≡ true → (text inside left escape : List ℕ)
-    (c : CharPlace) (stop : Stop) → text ≡ quote ∷ inside → Reached inside left c
+    (c : CharPlace) (stop : Stop BarePlace) → text ≡ quote ∷ inside → Reached inside left c
     → left ≡ percent ∷ escape → StopsEscape c escape stop
     → RefusesLeaf d (Past (percent ∷ []) (SpellsLeaf d)) text stop
 refused_escape d e text inside left escape c stop q r p (inl (same, k, n)) =
@@ -325,7 +326,7 @@ inside_of (b ∷ s) t (u, inr (k, e), f) =
     }
 
 pub shown_read : (d : Dialect) → is_rfc9651 d ≡ true
-    → (text inside left bytes : List ℕ) (c : CharPlace) (l : Leaf) (stop : Stop)
+    → (text inside left bytes : List ℕ) (c : CharPlace) (l : Leaf) (stop : Stop BarePlace)
     → text ≡ quote ∷ inside → Reached inside left c → Closes c left stop.left.now
     → bytes ≡ take (length inside - length left) inside → stop.place ≡ place.Complete
     → leaf_bare l ≡ bare.Shown (shown_bytes bytes)

@@ -12,6 +12,7 @@ use Rattle.sf_scan.specs.declared.char_place.CharPlace.{CharPlace}
 use Rattle.sf_scan.specs.declared.char_place.CharPlace.TheVariants as chars
 use Rattle.sf_scan.specs.declared.char_place.LowDigits.{LowDigits}
 use Rattle.sf_scan.specs.declared.place.Stop.{Stop}
+use Rattle.sf_scan.specs.declared.place.BarePlace.{BarePlace}
 use Rattle.sf_scan.specs.declared.place.BarePlace.TheVariants.{Shown}
 use Rattle.sf_scan.specs.declared.shown_place.ShownPlace.{ShownPlace}
 use Rattle.sf_scan.specs.declared.shown_place.ShownPlace.TheVariants as shown
@@ -82,7 +83,7 @@ PastEscape c text next rest = (h : ℕ) × (more : List ℕ)
     × BeginsByte c h more next rest
 
 -- the text does not: its first byte can't be the first digit, or the one after that the second
-abbrev pub StopsEscape : CharPlace → List ℕ → Stop → Type 0
+abbrev pub StopsEscape : CharPlace → List ℕ → Stop BarePlace → Type 0
 StopsEscape c text stop =
     ((stop.left.now ≡ text) × (stop.place ≡ Shown (shown.Percent c))
     × Lacks (is_first_digit c) text)

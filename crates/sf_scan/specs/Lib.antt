@@ -9,3 +9,5 @@ pub mod Leaves
 pub mod Sets
 pub mod Scans
 pub mod NumberTexts
+pub mod Parameters
+pub mod Makers

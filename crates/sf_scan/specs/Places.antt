@@ -1,7 +1,9 @@
 -- The places of the grammar where reading may stop, by the bytes that may come there.
-use Rattle.std.specs.Prelude.{ℕ, Bool, true, false, ◌==◌, ◌&&◌, ◌||◌}
+use Rattle.std.specs.Prelude.{ℕ, List, Bool, true, false, ◌==◌, ◌||◌, ◌&&◌, [], ◌∷◌}
 use Rattle.sf_value.specs.Ascii.{quote, question_mark, colon, percent, digit_zero, digit_one}
+use Rattle.sf_value.specs.Ascii.{tab, space, close_bracket, comma, semicolon, equals}
 use Rattle.sf_value.specs.Grammar.Classes.{is_token_start, is_in_token, is_visible}
+use Rattle.sf_value.specs.Grammar.Classes.{is_one_of, is_sp, is_key_start, is_in_key}
 use Rattle.sf_value.specs.Grammar.Strings.{is_escaped}
 use Rattle.sf_value.specs.declared.dialect.Dialect.{Dialect}
 use Rattle.sf_value.specs.Grammar.Dialects.{is_rfc9651}
@@ -10,6 +12,15 @@ use Rattle.sf_scan.specs.DisplayStrings.{in_shown}
 use Rattle.sf_scan.specs.NumberPlaces.{is_number_start, in_number, ends_number}
 use Rattle.sf_scan.specs.declared.place.BarePlace.{BarePlace}
 use Rattle.sf_scan.specs.declared.place.BarePlace.TheVariants as place
+use Rattle.sf_scan.specs.declared.place.ParamPlace.{ParamPlace}
+use Rattle.sf_scan.specs.declared.place.ParamPlace.TheVariants as param
+
+-- the bytes that may follow a bare item without being part of it
+abbrev pub follow : List ℕ
+follow = tab ∷ space ∷ close_bracket ∷ comma ∷ semicolon ∷ []
+
+abbrev pub is_follow : ℕ → Bool
+is_follow = is_one_of follow
 
 -- the first bytes of Byte Sequences and, by RFC 9651, of Display Strings
 abbrev pub is_coded_start : Dialect → ℕ → Bool
@@ -44,3 +55,21 @@ ends_bare (place.Blob p) = false
 ends_bare (place.Shown p) = false
 ends_bare (place.Number p) = ends_number p
 ends_bare place.Complete = true
+
+-- the bytes that may come at a place in a parameter, as part of it
+abbrev pub in_param : Dialect → ParamPlace → ℕ → Bool
+in_param d param.Before b = false
+in_param d param.Semicolon b = is_sp b || is_key_start b
+in_param d param.InKey b = is_in_key b || b == equals
+in_param d (param.InValue p) b = in_bare d p b
+
+-- whether the parameters may end there
+abbrev pub ends_params : ParamPlace → Bool
+ends_params param.Before = true
+ends_params param.Semicolon = false
+ends_params param.InKey = true
+ends_params (param.InValue p) = ends_bare p
+
+-- the bytes that may come there: another parameter may follow one that may end
+abbrev pub in_params : Dialect → ParamPlace → ℕ → Bool
+in_params d p b = in_param d p b || (ends_params p && b == semicolon)

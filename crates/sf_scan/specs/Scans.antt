@@ -11,22 +11,23 @@ use Rattle.sf_scan.specs.Places.{in_bare, ends_bare}
 use Rattle.sf_scan.specs.Stops.{Lacks, Reads, Refuses}
 use Rattle.sf_scan.specs.declared.leaf.Leaf.{Leaf}
 use Rattle.sf_scan.specs.declared.place.Stop.{Stop}
+use Rattle.sf_scan.specs.declared.place.BarePlace.{BarePlace}
 use Rattle.sf_scan.specs.declared.place.BarePlace.TheVariants.{Backslash}
 
 -- the leaf is the bare item up to the stop, and the place says what could lengthen it
 pub record ReadsLeaf (d : Dialect) (L : List ℕ → Bare → Type 0) (text : List ℕ) (leaf : Leaf)
-    (stop : Stop)
+    (stop : Stop BarePlace)
     : Type 0 where
   pub reads : Reads L (in_bare d stop.place) text (leaf_bare leaf) stop.left.now
   pub ends : ends_bare stop.place ≡ true
 
 -- the text begins with no bare item: it goes wrong at the stop, and the place says what could come
-pub record RefusesLeaf (d : Dialect) (L : List ℕ → Bare → Type 0) (text : List ℕ) (stop : Stop)
+pub record RefusesLeaf (d : Dialect) (L : List ℕ → Bare → Type 0) (text : List ℕ) (stop : Stop BarePlace)
     : Type 0 where
   pub refuses : Refuses L (in_bare d stop.place) text stop.left.now
   pub open_still : ends_bare stop.place ≡ false
 
-abbrev pub ScansLeaf : Dialect → (List ℕ → Bare → Type 0) → List ℕ → Result (Leaf × Stop) Stop → Type 0
+abbrev pub ScansLeaf : Dialect → (List ℕ → Bare → Type 0) → List ℕ → Result (Leaf × Stop BarePlace) (Stop BarePlace) → Type 0
 ScansLeaf d L text (Ok r) = ReadsLeaf d L text r.0 r.1
 ScansLeaf d L text (Err stop) = RefusesLeaf d L text stop
 
@@ -43,7 +44,7 @@ pub record Escapes (text rest : List ℕ) : Type 0 where
   pub no_escape : Lacks (λ b. b == backslash) rest
 
 -- a backslash follows, and then none of the bytes that may be escaped
-pub record StopsEscaped (text : List ℕ) (stop : Stop) : Type 0 where
+pub record StopsEscaped (text : List ℕ) (stop : Stop BarePlace) : Type 0 where
   pub past : PastEscaped text (backslash ∷ stop.left.now)
   pub no_escaped : Lacks is_escaped stop.left.now
   pub place : stop.place ≡ Backslash

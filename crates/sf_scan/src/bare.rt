@@ -18,7 +18,10 @@ use sf_value::classes::{InToken, Unescaped};
 use sf_value::{Dialect, can_start_token};
 
 /// The bare item that the text begins with, and where it stops: the longest one that is there.
-pub fn bare(dialect: Dialect, text: &[u8]) -> Result<(Leaf<'_>, Stop<'_>), Stop<'_>>
+pub fn bare(
+    dialect: Dialect,
+    text: &[u8],
+) -> Result<(Leaf<'_>, Stop<'_, BarePlace>), Stop<'_, BarePlace>>
     ensures { ScansLeaf dialect (SpellsLeaf dialect) text.now result }
 {
     let Some((first, more)) = split(text) else {
@@ -62,7 +65,7 @@ fn percent<'a>(
     dialect: Dialect,
     text: &'a [u8],
     more: &'a [u8],
-) -> Result<(Leaf<'a>, Stop<'a>), Stop<'a>>
+) -> Result<(Leaf<'a>, Stop<'a, BarePlace>), Stop<'a, BarePlace>>
     requires { text.now ≡ percent_sign ∷ more.now }
     ensures { ScansLeaf dialect (SpellsLeaf dialect) text.now result }
 {
@@ -76,7 +79,7 @@ fn percent<'a>(
 }
 
 /// A Boolean, after its question mark.
-fn boolean(text: &[u8]) -> Result<(Leaf<'_>, Stop<'_>), Stop<'_>>
+fn boolean(text: &[u8]) -> Result<(Leaf<'_>, Stop<'_, BarePlace>), Stop<'_, BarePlace>>
     ensures { (d : Which) → ScansLeaf d (Past (question_mark ∷ []) (SpellsLeaf d)) text.now result }
 {
     if let Some(rest) = strip(text, b'0') {
@@ -100,7 +103,7 @@ fn boolean(text: &[u8]) -> Result<(Leaf<'_>, Stop<'_>), Stop<'_>>
 }
 
 /// The Token that the text begins with; `more` is the text without its first byte.
-fn token<'a>(text: &'a [u8], more: &'a [u8]) -> (Leaf<'a>, Stop<'a>)
+fn token<'a>(text: &'a [u8], more: &'a [u8]) -> (Leaf<'a>, Stop<'a, BarePlace>)
     requires { BeginsToken text.now more.now }
     ensures { (d : Which) → ScansLeaf d (SpellsLeaf d) text.now (Ok result) }
 {
@@ -116,7 +119,7 @@ fn token<'a>(text: &'a [u8], more: &'a [u8]) -> (Leaf<'a>, Stop<'a>)
 }
 
 /// A String, after its opening quote.
-fn string(text: &[u8]) -> Result<(Leaf<'_>, Stop<'_>), Stop<'_>>
+fn string(text: &[u8]) -> Result<(Leaf<'_>, Stop<'_, BarePlace>), Stop<'_, BarePlace>>
     ensures { (d : Which) → ScansLeaf d (Past (quote ∷ []) (SpellsLeaf d)) text.now result }
 {
     let (run, left) = short_run::<Unescaped>(text);
@@ -147,7 +150,7 @@ fn string(text: &[u8]) -> Result<(Leaf<'_>, Stop<'_>), Stop<'_>>
 }
 
 /// The rest after the bytes of a String, some of which may be escaped.
-fn after_escapes(text: &[u8]) -> Result<&[u8], Stop<'_>>
+fn after_escapes(text: &[u8]) -> Result<&[u8], Stop<'_, BarePlace>>
     ensures { MatchResult result (λ rest. Escapes text.now rest.now)
         (λ stop. StopsEscaped text.now stop) }
 {

@@ -4,6 +4,8 @@ ghost use Rattle.sf_value.specs.Ascii.{colon};
 ghost use Rattle.sf_scan.specs.Blobs.{in_blob, padded as padded_place};
 ghost use Rattle.sf_scan.specs.Sets.{Marks};
 
+use crate::byte_sets::{DIGITS, LETTERS};
+
 /// A place in a Byte Sequence, after its opening colon. Four characters of base64 are a group; `=`
 /// may complete the last one.
 #[derive(Clone, Copy, Debug, PartialEq, Eq)]
@@ -22,11 +24,7 @@ pub enum BlobPlace {
     Padded,
 }
 
-const BASE64: u128 = 0x3ff_ffff << b'a'
-    | 0x3ff_ffff << b'A'
-    | 0x3ff << b'0'
-    | 1 << b'+'
-    | 1 << b'/';
+const BASE64: u128 = LETTERS | DIGITS | 1 << b'+' | 1 << b'/';
 
 const COLON: u128 = 1 << b':';
 

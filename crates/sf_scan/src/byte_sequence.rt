@@ -16,7 +16,7 @@ use crate::runs::{short_run, strip};
 use sf_value::classes::{Base64, long_prefix};
 
 /// A Byte Sequence, after its opening colon.
-pub fn byte_sequence(text: &[u8]) -> Result<(Leaf<'_>, Stop<'_>), Stop<'_>>
+pub fn byte_sequence(text: &[u8]) -> Result<(Leaf<'_>, Stop<'_, BarePlace>), Stop<'_, BarePlace>>
     ensures { (d : Which) → ScansLeaf d (Past (colon ∷ []) (SpellsLeaf d)) text.now result }
 {
     let (run, after_run) = characters(text);

@@ -20,7 +20,7 @@ use sf_value::classes::UnencodedByte;
 use sf_value::unhex;
 
 /// A Display String, after its percent sign.
-pub fn display_string(text: &[u8]) -> Result<(Leaf<'_>, Stop<'_>), Stop<'_>>
+pub fn display_string(text: &[u8]) -> Result<(Leaf<'_>, Stop<'_, BarePlace>), Stop<'_, BarePlace>>
     ensures { (d : Which) → is_rfc9651 d ≡ true
         → ScansLeaf d (Past (percent ∷ []) (SpellsLeaf d)) text.now result }
 {
@@ -79,7 +79,7 @@ fn after_quote(chars: CharPlace, text: &[u8]) -> Option<&[u8]>
 
 /// The place in UTF-8 after the byte of an escape, and the rest, given the text after the percent
 /// sign.
-fn after_escape(chars: CharPlace, text: &[u8]) -> Result<(CharPlace, &[u8]), Stop<'_>>
+fn after_escape(chars: CharPlace, text: &[u8]) -> Result<(CharPlace, &[u8]), Stop<'_, BarePlace>>
     ensures { MatchResult result (λ r. PastEscape chars text.now r.0 r.1.now)
         (λ stop. StopsEscape chars text.now stop) }
 {

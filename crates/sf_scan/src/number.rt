@@ -26,7 +26,10 @@ struct Digits<'a> {
 }
 
 /// An Integer or a Decimal, after its sign.
-pub fn number(negative: bool, text: &[u8]) -> Result<(Leaf<'_>, Stop<'_>), Stop<'_>>
+pub fn number(
+    negative: bool,
+    text: &[u8],
+) -> Result<(Leaf<'_>, Stop<'_, BarePlace>), Stop<'_, BarePlace>>
     ensures { (d : Which) → ScansLeaf d (NumberAfterSign negative) text.now result }
 {
     let whole = leading_digits(text, 15);
@@ -44,7 +47,11 @@ pub fn number(negative: bool, text: &[u8]) -> Result<(Leaf<'_>, Stop<'_>), Stop<
 }
 
 /// A Decimal after its point; `whole` is the number before it.
-fn fraction(negative: bool, whole: u64, text: &[u8]) -> Result<(Leaf<'_>, Stop<'_>), Stop<'_>>
+fn fraction(
+    negative: bool,
+    whole: u64,
+    text: &[u8],
+) -> Result<(Leaf<'_>, Stop<'_, BarePlace>), Stop<'_, BarePlace>>
     requires { whole < 10 ^ 12 }
     ensures { (d : Which) → ScansLeaf d (NumberAfterPoint negative whole) text.now result }
 {
@@ -74,7 +81,7 @@ fn scale(count: u8) -> u64
 }
 
 /// A Date, after its `@`.
-pub fn date(text: &[u8]) -> Result<(Leaf<'_>, Stop<'_>), Stop<'_>>
+pub fn date(text: &[u8]) -> Result<(Leaf<'_>, Stop<'_, BarePlace>), Stop<'_, BarePlace>>
     ensures { (d : Which) → ScansLeaf d DateAfterAt text.now result }
 {
     if let Some(rest) = strip(text, b'-') {
@@ -90,7 +97,10 @@ pub fn date(text: &[u8]) -> Result<(Leaf<'_>, Stop<'_>), Stop<'_>>
 }
 
 /// A Date, after its sign.
-fn date_digits(negative: bool, text: &[u8]) -> Result<(Leaf<'_>, Stop<'_>), Stop<'_>>
+fn date_digits(
+    negative: bool,
+    text: &[u8],
+) -> Result<(Leaf<'_>, Stop<'_, BarePlace>), Stop<'_, BarePlace>>
     ensures { (d : Which) → ScansLeaf d (DateAfterSign negative) text.now result }
 {
     let seconds = leading_digits(text, 15);

@@ -1,10 +1,11 @@
 //! The places in Integers, Decimals and Dates, and the bytes that may come there.
-ghost use Rattle.std.specs.Prelude.{◌≡◌, ◌==◌, ◌&&◌, if◌then◌else◌};
+ghost use Rattle.std.specs.Prelude.{◌≡◌, ◌==◌, ◌&&◌};
 ghost use Rattle.sf_value.specs.Ascii.{at_sign};
 ghost use Rattle.sf_value.specs.Grammar.Dialects.{is_rfc9651};
 ghost use Rattle.sf_scan.specs.NumberPlaces.{in_number, ends_number};
 ghost use Rattle.sf_scan.specs.Sets.{Marks};
 
+use crate::byte_sets::{DIGITS, MINUS, set_if};
 use sf_value::Dialect;
 
 /// A place in an Integer, a Decimal or a Date, after its first byte.
@@ -21,18 +22,7 @@ pub enum NumberPlace {
     DateDigits(u8),
 }
 
-pub const DIGITS: u128 = 0x3ff << b'0';
-
-pub const MINUS: u128 = 1 << b'-';
-
 const POINT: u128 = 1 << b'.';
-
-/// The set where the condition holds, and else the empty one.
-fn set_if(condition: bool, set: u128) -> u128
-    ensures { result ≡ (if condition then set else 0) }
-{
-    if condition { set } else { 0 }
-}
 
 /// Whether a Date begins with this byte: RFC 8941 has none.
 pub fn can_start_date(dialect: Dialect, byte: u8) -> bool

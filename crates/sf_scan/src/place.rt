@@ -1,10 +1,12 @@
 //! The places of the grammar where reading may stop, and the bytes that may come there.
 ghost use Rattle.std.specs.Prelude.{◌≡◌};
 ghost use Rattle.sf_scan.specs.Places.{in_bare, ends_bare, is_bare_start};
+ghost use Rattle.sf_scan.specs.Places.{in_params, ends_params};
 ghost use Rattle.sf_scan.specs.Sets.{Marks};
 
 use crate::blob_place::BlobPlace;
-use crate::number_place::{DIGITS, MINUS, NumberPlace};
+use crate::byte_sets::{DIGITS, LETTERS, MINUS, QUOTE, VISIBLE, set_if};
+use crate::number_place::NumberPlace;
 use crate::shown_place::ShownPlace;
 use sf_value::Dialect;
 
@@ -31,12 +33,10 @@ pub enum BarePlace {
     Complete,
 }
 
-const LETTERS: u128 = 0x3ff_ffff << b'a' | 0x3ff_ffff << b'A';
-
 const TOKEN_START: u128 = LETTERS | 1 << b'*';
 
 const TOKEN: u128 = TOKEN_START
-    | 0x3ff << b'0'
+    | DIGITS
     | 1 << b'!'
     | 0x1f << b'#'
     | 1 << b'+'
@@ -45,10 +45,6 @@ const TOKEN: u128 = TOKEN_START
     | 7 << b'^'
     | 1 << b'|'
     | 1 << b'~';
-
-const QUOTE: u128 = 1 << b'"';
-
-const VISIBLE: u128 = (1 << 127) - (1 << b' ');
 
 /// The first bytes of bare items by RFC 8941.
 const START: u128 = TOKEN_START | QUOTE | 1 << b'?' | 1 << b':' | DIGITS | MINUS;
@@ -93,11 +89,66 @@ impl BarePlace {
     }
 }
 
+/// A place in parameters.
+#[derive(Clone, Copy, Debug, PartialEq, Eq)]
+pub enum ParamPlace {
+    /// Before the first parameter.
+    Before,
+    /// After the semicolon of a parameter, and spaces.
+    Semicolon,
+    /// After a byte of a key.
+    InKey,
+    /// In a value, or after its equals sign.
+    InValue(BarePlace),
+}
+
+const KEY_START: u128 = 0x3ff_ffff << b'a' | 1 << b'*';
+
+const KEY: u128 = KEY_START | DIGITS | 1 << b'_' | 1 << b'-' | 1 << b'.';
+
+const SEMICOLON: u128 = 1 << b';';
+
+impl ParamPlace {
+    /// The bytes below 128 that may come, a bit for each.
+    pub fn expected(self, dialect: Dialect) -> u128
+        ensures { Marks result (in_params dialect self) }
+    {
+        match self {
+            ParamPlace::Before => SEMICOLON,
+            ParamPlace::Semicolon => KEY_START | 1 << b' ',
+            ParamPlace::InKey => KEY | 1 << b'=' | SEMICOLON,
+            ParamPlace::InValue(place) => {
+                place.expected(dialect) | set_if(place.may_end(), SEMICOLON)
+            }
+        }
+    }
+
+    /// Whether the parameters may end here.
+    pub fn may_end(self) -> bool
+        ensures { result ≡ ends_params self }
+    {
+        match self {
+            ParamPlace::Before | ParamPlace::InKey => true,
+            ParamPlace::Semicolon => false,
+            ParamPlace::InValue(place) => place.may_end(),
+        }
+    }
+}
+
 /// Where reading stopped: what is left of the text, and the place before it.
 #[derive(Clone, Copy)]
-pub struct Stop<'a> {
+pub struct Stop<'a, P> {
     /// The rest of the text. Its first byte can't come at the place.
     pub left: &'a [u8],
     /// The place.
-    pub place: BarePlace,
+    pub place: P,
+}
+
+/// Why reading ended before the end of what was to be read.
+#[derive(Drop)]
+pub enum Halt<'a, P, F: Drop> {
+    /// The text is refused here.
+    Refused(Stop<'a, P>),
+    /// The maker failed.
+    Fault(F),
 }

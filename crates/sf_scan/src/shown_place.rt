@@ -3,6 +3,7 @@ ghost use Rattle.sf_scan.specs.DisplayStrings.{in_shown, in_between, is_first_di
 ghost use Rattle.sf_scan.specs.DisplayStrings.{is_second_digit};
 ghost use Rattle.sf_scan.specs.Sets.{Marks};
 
+use crate::byte_sets::{QUOTE, VISIBLE};
 use crate::char_place::{CharPlace, LowDigits};
 
 /// A place in a Display String, after its percent sign.
@@ -18,11 +19,7 @@ pub enum ShownPlace {
     Digit(LowDigits),
 }
 
-const QUOTE: u128 = 1 << b'"';
-
 const PERCENT: u128 = 1 << b'%';
-
-const VISIBLE: u128 = (1 << 127) - (1 << b' ');
 
 const A_TO_B: u128 = 3 << b'a';
 
