@@ -1,8 +1,9 @@
 -- Languages: where their texts stop, seen from other languages.
-use Rattle.std.proofs.Common.{◌≡◌, ℕ, Bool, List, [], ◌∷◌, ◌++◌, sym, ap, ◌∙◌}
-use Rattle.std.proofs.Common.{subst, append_assoc}
+use Rattle.std.proofs.Common.{◌≡◌, ℕ, Bool, true, List, [], ◌∷◌, ◌++◌, sym, ap, ◌∙◌, subst}
+use Rattle.std.proofs.Common.{inl, inr, append_assoc}
 use Rattle.sf_value.specs.Grammar.Lines.{Continues}
-use Rattle.sf_scan.specs.Stops.{Past, IsFollowed, Stops, Reads, Refuses}
+use Rattle.sf_scan.specs.Stops.{Past, IsFollowed, Stops, Reads, Refuses, FirstIs}
+use Rattle.sf_scan.proofs.Lists.{Longer, Shorter, two_parts}
 
 -- what continues a prefix and a byte continues the prefix
 pub continues_before : {V : Type 0} (L : List ℕ → V → Type 0) (p u : List ℕ)
@@ -89,4 +90,31 @@ pub same_refuses : {V W : Type 0} (L : List ℕ → V → Type 0) (M : List ℕ 
 same_refuses L M into s next text left h = record {
   stops = same_stops L M into s next text left h.stops;
   unspelled = λ w k. let d = s.down (h.stops.prefix) w k in h.unspelled d.0 d.1;
+}
+
+-- no text of L is followed by such a byte within a longer one: so where a text of L ends and such a
+-- byte comes, L ends
+abbrev pub Apart : {V : Type 0} → (List ℕ → V → Type 0) → (ℕ → Bool) → Type 0
+Apart {V = V} L F = (a : List ℕ) (v : V) (b : ℕ) → L a v → F b ≡ true → Continues L (a ++ b ∷ []) → ⊥
+
+-- a prefix of L, and what comes after it, read as a text of L and a rest that is empty or begins
+-- with such a byte: the text of L is the prefix or a longer one
+pub cut : {V : Type 0} (L : List ℕ → V → Type 0) (F : ℕ → Bool) → Apart L F
+    → (a u b v : List ℕ) (x : V) → Continues L a → L b x → FirstIs (λ c. F c ≡ true) v
+    → a ++ u ≡ b ++ v → Longer a u b v
+cut L F apart a u b v x h k f e = elim (two_parts a u b v e) [
+  | inl l ↦ l
+  | inr s ↦ absurd (apart b x s.byte k (subst (FirstIs (λ c. F c ≡ true)) s.rest f)
+      (continues_before L (b ++ s.byte ∷ []) s.more
+      (subst (Continues L) (s.part ∙ sym (append_assoc b (s.byte ∷ []) s.more)) h)))
+]
+
+-- the same prefixes with a test that is the same
+pub followed_as : {V : Type 0} (L : List ℕ → V → Type 0) (next other : ℕ → Bool) (p : List ℕ)
+    → ((b : ℕ) → other b ≡ true → next b ≡ true) → ((b : ℕ) → next b ≡ true → other b ≡ true)
+    → IsFollowed L next p → IsFollowed L other p
+followed_as L next other p f g h = record {
+  viable = h.viable;
+  may = λ b e. h.may b (f b e);
+  only = λ b e. g b (h.only b e);
 }

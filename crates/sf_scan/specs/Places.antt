@@ -1,14 +1,22 @@
 -- The places of the grammar where reading may stop, by the bytes that may come there.
-use Rattle.std.specs.Prelude.{ℕ, Bool, true, false, ◌==◌, ◌||◌, ◌&&◌}
+use Rattle.std.specs.Prelude.{ℕ, List, Bool, true, false, ◌==◌, ◌||◌, ◌&&◌, [], ◌∷◌}
 use Rattle.sf_value.specs.Ascii.{quote, question_mark, digit_zero, digit_one, semicolon, equals}
+use Rattle.sf_value.specs.Ascii.{tab, space, close_bracket, comma}
 use Rattle.sf_value.specs.Grammar.Classes.{is_token_start, is_in_token, is_visible}
-use Rattle.sf_value.specs.Grammar.Classes.{is_sp, is_key_start, is_in_key}
+use Rattle.sf_value.specs.Grammar.Classes.{is_one_of, is_sp, is_key_start, is_in_key}
 use Rattle.sf_value.specs.Grammar.Strings.{is_escaped}
 use Rattle.sf_value.specs.declared.dialect.Dialect.{Dialect}
 use Rattle.sf_scan.specs.declared.place.BarePlace.{BarePlace}
 use Rattle.sf_scan.specs.declared.place.BarePlace.TheVariants as place
 use Rattle.sf_scan.specs.declared.place.ParamPlace.{ParamPlace}
 use Rattle.sf_scan.specs.declared.place.ParamPlace.TheVariants as param
+
+-- the bytes that may follow a bare item without being part of it
+abbrev pub follow : List ℕ
+follow = tab ∷ space ∷ close_bracket ∷ comma ∷ semicolon ∷ []
+
+abbrev pub is_follow : ℕ → Bool
+is_follow = is_one_of follow
 
 -- the first bytes of the bare items that are read so far
 abbrev pub is_bare_start : Dialect → ℕ → Bool
