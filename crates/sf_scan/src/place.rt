@@ -113,7 +113,7 @@ impl ParamPlace {
 
 /// The set if this holds, otherwise the empty set.
 #[inline]
-fn set_if(holds: bool, set: u128) -> u128
+pub fn set_if(holds: bool, set: u128) -> u128
     ensures { result ≡ (if holds then set else 0) }
 {
     if holds { set } else { 0 }
