@@ -13,7 +13,7 @@ use Rattle.sf_value.specs.Grammar.Tokens.{SpellsToken}
 use Rattle.sf_value.specs.Grammar.Lines.{Continues}
 use Rattle.sf_value.proofs.Runs.{every_append}
 use Rattle.sf_scan.specs.Leaves.{SpellsLeaf, leaf_bare}
-use Rattle.sf_scan.specs.Places.{in_bare, ends_bare, is_bare_start}
+use Rattle.sf_scan.specs.Places.{is_follow, in_bare, ends_bare, is_bare_start}
 use Rattle.sf_scan.specs.Stops.{Past, IsFollowed, Lacks, FirstIs}
 use Rattle.sf_scan.specs.Scans.{ReadsLeaf, RefusesLeaf, ScansLeaf}
 use Rattle.sf_scan.specs.declared.leaf.Leaf.{Leaf}
@@ -24,8 +24,8 @@ use Rattle.sf_scan.specs.declared.place.BarePlace.TheVariants as place
 use Rattle.sf_scan.proofs.Escapes.{Tail, tail_texts, inside_followed, backslash_followed, closed_followed}
 use Rattle.sf_scan.proofs.Escapes.{backslash_first}
 use Rattle.sf_scan.proofs.Languages.{SameTexts, same_followed, past_followed, past_reads}
-use Rattle.sf_scan.proofs.Languages.{past_refuses}
-use Rattle.sf_scan.proofs.Lists.{heads, tails, cons_nil}
+use Rattle.sf_scan.proofs.Languages.{past_refuses, Apart}
+use Rattle.sf_scan.proofs.Lists.{heads, tails, cons_nil, no_follow}
 
 -- the first byte tells the type
 abbrev pub begins : Bare → ℕ → Bool
@@ -375,3 +375,46 @@ past_scans d L p text whole (Ok r) e h =
     record { reads = past_reads L _ p text whole _ _ e h.reads; ends = h.ends }
 past_scans d L p text whole (Err s) e h =
     record { refuses = past_refuses L _ p text whole _ e h.refuses; open_still = h.open_still }
+
+-- what follows a bare item is not part of it
+not_in_token : (b : ℕ) → is_follow b ≡ true → is_in_token b ≡ false
+not_in_token = no_follow is_in_token (refl, (refl, (refl, (refl, (refl, tt)))))
+
+-- the bytes that come next in a bare item
+pub record Next (d : Dialect) (a : List ℕ) : Type 0 where
+  pub next : ℕ → Bool
+  pub followed : IsFollowed (SpellsLeaf d) next a
+  pub not_follow : (b : ℕ) → is_follow b ≡ true → next b ≡ false
+
+next_of : (d : Dialect) (a : List ℕ) (x : Bare) → SpellsLeaf d a x → Next d a
+next_of d a (bare.Text s) h = record {
+  next = λ b. false;
+  followed = subst (IsFollowed (SpellsLeaf d) (λ b. false)) (sym h.0)
+      (past_followed (SpellsLeaf d) _ (quote ∷ []) _
+      (string_followed d s (quote ∷ []) _ h.1 closed_followed));
+  not_follow = λ b f. refl;
+}
+next_of d a (bare.Token s) h = by a s h.0 h.1
+  where
+    by : (a s : List ℕ) → a ≡ s → IsWord is_token_start is_in_token s → Next d a
+    by a [] e w = absurd w
+    by a (b ∷ s) e w = record {
+      next = is_in_token;
+      followed = subst (IsFollowed (SpellsLeaf d) is_in_token) (sym e)
+          (past_followed (SpellsLeaf d) is_in_token (b ∷ []) s
+          (same_followed _ _ _ (token_texts d b w.0) _ _ (token_followed b s w.0 w.1)));
+      not_follow = not_in_token;
+    }
+next_of d a (bare.Boolean c) h = record {
+  next = λ b. false;
+  followed = subst (IsFollowed (SpellsLeaf d) (λ b. false)) (sym h)
+      (past_followed (SpellsLeaf d) _ (question_mark ∷ []) _
+      (same_followed _ _ _ (boolean_texts d) _ _ (value_followed c _ refl)));
+  not_follow = λ b f. refl;
+}
+next_of d a x h = absurd h
+
+pub bare_apart : (d : Dialect) → Apart (SpellsLeaf d) is_follow
+bare_apart d a x b h f c =
+    let n = next_of d a x h in
+    let z : true ≡ false = sym (n.followed.only b c) ∙ n.not_follow b f in cc

@@ -3,7 +3,7 @@ use Rattle.std.proofs.Common.{◌≡◌, ℕ, Bool, true, List, [], ◌∷◌, �
 use Rattle.std.proofs.Common.{inl, inr, append_assoc}
 use Rattle.sf_value.specs.Grammar.Lines.{Continues}
 use Rattle.sf_scan.specs.Stops.{Past, IsFollowed, Stops, Reads, Refuses, FirstIs}
-use Rattle.sf_scan.proofs.Lists.{Longer, Shorter, two_parts}
+use Rattle.sf_scan.proofs.Lists.{Longer, two_parts}
 
 -- what continues a prefix and a byte continues the prefix
 pub continues_before : {V : Type 0} (L : List ℕ → V → Type 0) (p u : List ℕ)

@@ -6,3 +6,4 @@ pub mod Items
 pub mod Escapes
 pub mod Bares
 pub mod Pairs
+pub mod Raws

@@ -1,8 +1,10 @@
 -- Splits of one text, and runs of bytes in them.
 use Rattle.std.proofs.Common.{◌≡◌, ℕ, Bool, true, false, List, [], ◌∷◌, ◌++◌, refl, sym, ap}
-use Rattle.std.proofs.Common.{◌⊎◌, inl, inr, length, take, ◌-◌, length-append, arith}
+use Rattle.std.proofs.Common.{not, ◌∙◌, ◌==◌, eqb-true, ◌⊎◌, inl, inr, length, take, ◌-◌, length-append, arith}
 use Rattle.std.proofs.Math.Seq.{take-append_seam}
 use Rattle.sf_value.specs.Grammar.Words.{Every}
+use Rattle.sf_value.specs.Grammar.Classes.{is_one_of}
+use Rattle.sf_scan.specs.Places.{follow, is_follow}
 use Rattle.sf_scan.specs.Stops.{Lacks}
 
 -- the parts of equal lists
@@ -82,3 +84,22 @@ front_before text part rest e = front_of text part rest _ e (before text part re
     before : (text part rest : List ℕ) → text ≡ part ++ rest → length text - length rest ≡ length part
     before text part rest e =
         let k = ap length e in omega (arith, k, length-append part rest)
+
+-- what holds of each byte of a list holds of one of them
+pub each_of : (p : ℕ → Bool) (cs : List ℕ) → Every p cs → (b : ℕ) → is_one_of cs b ≡ true
+    → p b ≡ true
+each_of p [] h b k = absurd (let f : false ≡ true = k in cc)
+each_of p (c ∷ cs) h b k = by (b == c) refl (each_of p cs h.1 b)
+  where
+    by : (x : Bool) → (b == c) ≡ x → (is_one_of cs b ≡ true → p b ≡ true) → p b ≡ true
+    by true e rest = ap p (eqb-true b c e) ∙ h.0
+    by false e rest = rest (rw e at k)
+
+pub not_true : (x : Bool) → not x ≡ true → x ≡ false
+not_true true e = sym e
+not_true false e = refl
+
+-- bytes that are none of those that may follow a bare item
+pub no_follow : (p : ℕ → Bool) → Every (λ b. not (p b)) follow → (b : ℕ) → is_follow b ≡ true
+    → p b ≡ false
+no_follow p h b f = not_true (p b) (each_of (λ b. not (p b)) follow h b f)

@@ -1,18 +1,20 @@
 -- One parameter after its semicolon: what follows its spaces, its key and its equals sign.
 use Rattle.std.proofs.Common.{◌≡◌, ◌≢◌, ℕ, Bool, true, false, List, [], ◌∷◌, ◌++◌, refl, sym, ap, ◌∙◌}
-use Rattle.std.proofs.Common.{◌⊎◌, inl, inr, ◌==◌, ◌||◌, subst, append_assoc, append-nil, arith, eqb-true}
+use Rattle.std.proofs.Common.{inl, inr, ◌==◌, ◌||◌, subst, append_assoc, append-nil, arith, eqb-true}
 use Rattle.sf_value.specs.Ascii.{semicolon, equals}
 use Rattle.sf_value.specs.declared.value.Bare.{Bare}
 use Rattle.sf_value.specs.declared.value.Bare.TheVariants.{Boolean}
-use Rattle.sf_value.specs.Grammar.Words.{Every, IsWord}
+use Rattle.sf_value.specs.Grammar.Words.{Every}
 use Rattle.sf_value.specs.Grammar.Classes.{is_sp, is_key_start, is_in_key}
 use Rattle.sf_value.specs.Grammar.Tokens.{IsKey}
 use Rattle.sf_value.specs.Grammar.Lines.{Continues}
 use Rattle.sf_value.proofs.Runs.{every_append}
 use Rattle.sf_scan.specs.Parameters.{SpellsValueBy, SpellsParamBy, SpellsPair}
-use Rattle.sf_scan.specs.Stops.{Past, IsFollowed, Stops, Reads, Refuses, Lacks, FirstIs}
+use Rattle.sf_scan.specs.Stops.{Past, IsFollowed, Reads, Refuses, Lacks, FirstIs}
 use Rattle.sf_scan.proofs.Languages.{SameTexts, same_reads, same_refuses, past_reads, past_refuses}
-use Rattle.sf_scan.proofs.Lists.{heads, tails, cons_nil, two_parts, run_once, Longer, Shorter}
+use Rattle.sf_scan.proofs.Languages.{Apart}
+use Rattle.sf_scan.specs.Places.{is_follow}
+use Rattle.sf_scan.proofs.Lists.{heads, tails, cons_nil, no_follow}
 
 key_no_space : (b : ℕ) → is_key_start b ≡ true → is_sp b ≡ false
 key_no_space b h = grind arith
@@ -289,3 +291,41 @@ module _ (B : List ℕ → Bare → Type 0) where
       lift_refuses next text gap key after left (whole text gap named key after e f) h w
       (past_refuses Keyed next (equals ∷ []) value after left v
       (same_refuses _ _ _ value_texts next value left r))
+
+  -- what ends a bare item ends a parameter
+  pub pair_apart : Apart B is_follow → Apart (SpellsPair B) is_follow
+  pair_apart apart a p b h f c =
+      by a p b h.0 h.1 (tails semicolon semicolon a _ h.2) h.3 h.4 h.5 f c
+    where
+      no_key_follow : (b : ℕ) → is_follow b ≡ true → (is_in_key b || b == equals) ≡ false
+      no_key_follow = no_follow (λ b. is_in_key b || b == equals)
+          (refl, (refl, (refl, (refl, (refl, tt)))))
+
+      ends : (value : List ℕ) (x : Bare) (b : ℕ) → SpellsValueBy B value x → is_follow b ≡ true
+          → Continues Keyed (value ++ b ∷ []) → ⊥
+      ends value x b (inl s) f c =
+          let d : Continues Keyed (b ∷ []) = subst (λ t. Continues Keyed (t ++ b ∷ [])) s.1 c in
+          let k = key_only b d.0 d.1.0 d.2.0 d.1.1 d.2.1 d.2.2 d.2.3 in
+          let n = no_key_follow b f in
+          (let z : true ≡ false = sym k ∙ n in cc)
+      ends value x b (inr s) f c =
+          let d : Continues Keyed (equals ∷ (s.0 ++ b ∷ [])) =
+          subst (λ t. Continues Keyed (t ++ b ∷ [])) s.1 c in
+          let y = value_texts.down ((s.0 ++ b ∷ []) ++ d.0) d.1 d.2 in
+          apart s.0 x b s.2 f (d.0, y.0, y.1)
+
+      by : (a : List ℕ) (p : List ℕ × Bare) (b : ℕ) (gap value : List ℕ)
+          → a ≡ gap ++ (p.0 ++ value) → Every is_sp gap → IsKey p.0 → SpellsValueBy B value p.1
+          → is_follow b ≡ true → Continues (SpellsPair B) (a ++ b ∷ []) → ⊥
+      by a p b gap value e i w s f c =
+          let key = p.0 in
+          let t : List ℕ = (value ++ b ∷ []) ++ c.0 in
+          let moved : (a ++ b ∷ []) ++ c.0 ≡ gap ++ (key ++ t) = shift gap key value b c.0 a e in
+          let y = (gap_texts gap i).down (key ++ t) c.1 (subst (λ z. SpellsPair B z c.1) moved c.2) in
+          let z = (key_texts key w).down t y.0 y.1 in
+          ends value p.1 b s f (c.0, z.0, z.1)
+        where
+          shift : (gap key value : List ℕ) (b : ℕ) (u a : List ℕ) → a ≡ gap ++ (key ++ value)
+              → (a ++ b ∷ []) ++ u ≡ gap ++ (key ++ ((value ++ b ∷ []) ++ u))
+          shift gap key value b u a e =
+              ap (λ z. (z ++ b ∷ []) ++ u) e ∙ simp append_assoc

@@ -88,8 +88,7 @@ peel L next c more [] left v e f b = absurd (by left e b)
         let n : next d ≡ false = b in
         cc
 peel L next c more (d ∷ q) left v e f b =
-    let same : d ≡ c = sym (heads c d more _ e) in
-    (
+    let same : d ≡ c = sym (heads c d more _ e) in (
       q,
       ap (λ x. x ∷ q) same,
       tails c d more _ e,
@@ -242,7 +241,7 @@ module _ {V W : Type 0} (L : List ℕ → V → Type 0) (R : List ℕ → W → 
     stops = ended_stops next starts text v left r g n;
     unspelled = λ x k.
         let s = same_cut r.stops.prefix [] k.0 k.1 v x.0 r.spelled k.3 tt (first k.1 x.1 k.4)
-            (append-nil r.stops.prefix ∙ k.2) in
+        (append-nil r.stops.prefix ∙ k.2) in
         h x.1 (subst (λ t. R t x.1) (sym s.rest) k.4);
   }
 
@@ -253,7 +252,7 @@ module _ {V W : Type 0} (L : List ℕ → V → Type 0) (R : List ℕ → W → 
     up = λ t w k. (p, c ∷ t, append_assoc p (c ∷ []) t, h, k);
     down = λ t x k.
         let s = same_cut p (c ∷ t) k.0 k.1 v x.0 h k.3 f (first k.1 x.1 k.4)
-            (sym (append_assoc p (c ∷ []) t) ∙ k.2) in
+        (sym (append_assoc p (c ∷ []) t) ∙ k.2) in
         (x.1, subst (λ y. R y x.1) (sym s.rest) k.4);
   }
 
@@ -291,7 +290,7 @@ module _ {V W : Type 0} (L : List ℕ → V → Type 0) (R : List ℕ → W → 
       ∙ (ap (λ x. x ++ c.0) (sym (append_assoc h.0 h.1 (b ∷ [])))
       ∙ (ap (λ x. (x ++ b ∷ []) ++ c.0) (sym h.2) ∙ c.2.2)) in
       let s = same_cut h.0 ((h.1 ++ b ∷ []) ++ c.0) c.2.0 c.2.1 v.0 c.1.0 h.3 c.2.3
-          (starts h.1 (first h.1 v.1 h.4)) (first c.2.1 c.1.1 c.2.4) moved in
+      (starts h.1 (first h.1 v.1 h.4)) (first c.2.1 c.1.1 c.2.4) moved in
       apart_after h.1 v.1 b h.4 g (c.0, c.1.1, subst (λ y. R y c.1.1) (sym s.rest) c.2.4)
     where
       starts : (s : List ℕ) → FirstIs (λ x. F x ≡ true) s

@@ -1,5 +1,7 @@
 -- What is made of parameters.
 use Rattle.std.specs.Prelude.{◌≡◌, ℕ, true, false, List, [], ◌∷◌, ◌++◌, Result, Ok, Err}
+use Rattle.std.specs.Prelude.{Option, Some, if◌then◌else◌}
+use Rattle.std.specs.Str.{bytes_eq}
 use Rattle.sf_value.specs.declared.dialect.Dialect.{Dialect}
 use Rattle.sf_value.specs.declared.value.Bare.{Bare}
 use Rattle.sf_value.specs.Ascii.{semicolon}
@@ -44,3 +46,7 @@ abbrev pub ScansParams : {M : Type 0} → (M → List ℕ → Bare → M) → Di
     → Result (Stop ParamPlace) (Stop ParamPlace) → Type 0
 ScansParams with d B text old new (Ok stop) = MakesParams with d B text old new stop
 ScansParams with d B text old new (Err stop) = RefusesParams with d B text old new stop
+
+-- the value of a key after one more parameter
+abbrev pub found_or : List ℕ → List ℕ → Bare → Option Bare → Option Bare
+found_or wanted key x old = if bytes_eq key wanted then Some x else old

@@ -6,7 +6,7 @@ ghost use Rattle.sf_scan.specs.Outcomes.{Scans};
 ghost use Rattle.sf_scan.specs.Sets.{Marks};
 
 use crate::bare::bare;
-use crate::maker::Maker;
+use crate::builder::Builder;
 use crate::param::params;
 use crate::place::{BarePlace, ParamPlace, Stop, set_if};
 use crate::runs::strip;
@@ -46,7 +46,7 @@ impl ItemPlace {
 }
 
 /// Gives the maker the Item that the text begins with, and returns where it stops.
-pub fn item<'a, M: Maker>(
+pub fn item<'a, M: Builder<'a>>(
     dialect: Dialect,
     text: &'a [u8],
     maker: &mut M,

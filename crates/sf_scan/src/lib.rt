@@ -3,6 +3,7 @@
 #![tactic(auto)]
 
 pub mod bare;
+pub mod builder;
 pub mod item;
 pub mod leaf;
 pub mod maker;

@@ -1,37 +1,72 @@
 //! What is made of the parts of a text while it is read.
-ghost use Rattle.std.specs.Prelude.{◌≡◌, ℕ, List};
+ghost use Rattle.std.specs.Prelude.{◌≡◌, ℕ, List, None};
 ghost use Rattle.sf_value.specs.declared.value.Bare.{Bare};
 ghost use Rattle.sf_scan.specs.Leaves.{leaf_bare};
+ghost use Rattle.std.specs.Option.{option_map};
+ghost use Rattle.sf_scan.specs.Makers.{found_or};
 
 use crate::leaf::Leaf;
 use crate::param::Param;
+use std::marker::Model;
 
-/// What is made of the parts of a text, which it gets one by one.
-pub trait Maker {
-    // The value after the bare item of one more Item.
-    ghost bare: { Self → Bare → Self };
-
+/// What is made of the parameters of a text, which it gets one by one.
+pub trait Maker<'a> {
     // The value after one more parameter with this key and this bare item.
     ghost with: { Self → List ℕ → Bare → Self };
 
-    /// Takes the bare item of one more Item.
-    fn bare_item(&mut self, leaf: Leaf<'_>)
-        ensures { self.new ≡ bare self.old (leaf_bare leaf.entry) };
-
     /// Takes one more parameter.
-    fn parameter(&mut self, param: Param<'_>)
+    fn parameter(&mut self, param: Param<'a>)
         ensures { self.new ≡ with self.old param.entry.key.now (leaf_bare param.entry.leaf) };
 }
 
 /// Makes nothing: for a text that is only tested.
 pub struct Nothing;
 
-impl Maker for Nothing {
-    ghost bare = { λ m x. m };
-
+impl<'a> Maker<'a> for Nothing {
     ghost with = { λ m key x. m };
 
-    fn bare_item(&mut self, _leaf: Leaf<'_>) {}
+    fn parameter(&mut self, _param: Param<'a>) {}
+}
 
-    fn parameter(&mut self, _param: Param<'_>) {}
+/// Finds the value of one key, which is its last one (RFC 9651 section 4.2.3.2).
+pub struct Find<'k, 'a> {
+    key: &'k [u8],
+    found: Option<Leaf<'a>>,
+}
+
+impl<'k, 'a> Model for Find<'k, 'a> {
+    ghost use Rattle.std.specs.Prelude.{ℕ, List, Option};
+    ghost use Rattle.std.specs.Option.{option_map};
+    ghost use Rattle.sf_value.specs.declared.value.Bare.{Bare};
+    ghost use Rattle.sf_scan.specs.Leaves.{leaf_bare};
+
+    ghost Value = { List ℕ × Option Bare };
+
+    ghost view = { λ f. (f.key.now, option_map leaf_bare f.found) };
+}
+
+impl<'k, 'a> Find<'k, 'a> {
+    /// A look-up of this key in no parameters.
+    pub fn new(key: &'k [u8]) -> Find<'k, 'a>
+        ensures { result ≡ (key.now, None) }
+    {
+        Find { key, found: None }
+    }
+
+    /// The value that was found.
+    pub fn found(&self) -> Option<Leaf<'a>>
+        ensures { option_map leaf_bare result ≡ self.now.1 }
+    {
+        self.found
+    }
+}
+
+impl<'k, 'a> Maker<'a> for Find<'k, 'a> {
+    ghost with = { λ m key x. (m.0, found_or m.0 key x m.1) };
+
+    fn parameter(&mut self, param: Param<'a>) {
+        if param.key == self.key {
+            self.found = Some(param.leaf);
+        }
+    }
 }

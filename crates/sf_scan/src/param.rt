@@ -26,7 +26,7 @@ pub struct Param<'a> {
 
 /// Gives the maker each parameter that the text begins with, and returns where they stop: all that
 /// are there.
-pub fn params<'a, M: Maker>(
+pub fn params<'a, M: Maker<'a>>(
     dialect: Dialect,
     text: &'a [u8],
     maker: &mut M,

@@ -1,4 +1,4 @@
-use Rattle.std.proofs.Common.{refl, ap, sym, bit_or, subst, ◌==◌, ◌&&◌}
+use Rattle.std.proofs.Common.{refl, ◌==◌, ◌&&◌}
 use Rattle.sf_value.specs.Ascii.{semicolon}
 use Rattle.sf_scan.specs.Places.{in_bare, ends_bare}
 use Rattle.sf_scan.specs.Sets.{Marks}

@@ -1,0 +1,24 @@
+//! What is made of the Items, members and fields of a text while it is read.
+ghost use Rattle.std.specs.Prelude.{◌≡◌};
+ghost use Rattle.sf_value.specs.declared.value.Bare.{Bare};
+ghost use Rattle.sf_scan.specs.Leaves.{leaf_bare};
+
+use crate::leaf::Leaf;
+use crate::maker::{Maker, Nothing};
+
+/// What is made of the parts of a text, which it gets one by one in their order: an Item is its bare
+/// item and then its parameters.
+pub trait Builder<'a>: Maker<'a> {
+    // The value after the bare item of one more Item.
+    ghost bare: { Self → Bare → Self };
+
+    /// Takes the bare item of one more Item.
+    fn bare_item(&mut self, leaf: Leaf<'a>)
+        ensures { self.new ≡ bare self.old (leaf_bare leaf.entry) };
+}
+
+impl<'a> Builder<'a> for Nothing {
+    ghost bare = { λ m x. m };
+
+    fn bare_item(&mut self, _leaf: Leaf<'a>) {}
+}
