@@ -312,13 +312,13 @@ string_escape d text s stop h e n p =
     (string_unspelled d s (backslash ∷ []) h no_backslash_tail) (rw p refl)
 
 -- before a bare item
-start_of : (d : Dialect) (x : Bare) (b : ℕ) → begins x b ≡ true → is_bare_start d b ≡ true
+pub start_of : (d : Dialect) (x : Bare) (b : ℕ) → begins x b ≡ true → is_bare_start d b ≡ true
 start_of d (bare.Text s) b h = grind arith
 start_of d (bare.Token s) b h = grind arith
 start_of d (bare.Boolean c) b h = grind arith
 start_of d x b h = absurd (cc h)
 
-started : (d : Dialect) (b : ℕ) → is_bare_start d b ≡ true → Continues (SpellsLeaf d) (b ∷ [])
+pub started : (d : Dialect) (b : ℕ) → is_bare_start d b ≡ true → Continues (SpellsLeaf d) (b ∷ [])
 started d b h = by (is_token_start b) refl (b == quote) refl
   where
     by : (x : Bool) → is_token_start b ≡ x → (y : Bool) → (b == quote) ≡ y
@@ -336,7 +336,7 @@ started d b h = by (is_token_start b) refl (b == quote) refl
           ap (λ x. x ∷ digit_zero ∷ []) (eqb-true b question_mark k),
         )
 
-unstarted : (d : Dialect) (x : Bare) → SpellsLeaf d [] x → ⊥
+pub unstarted : (d : Dialect) (x : Bare) → SpellsLeaf d [] x → ⊥
 unstarted d (bare.Text s) h = cons_nil _ _ (sym h.0)
 unstarted d (bare.Token s) h = subst (IsWord is_token_start is_in_token) (sym h.0) h.1
 unstarted d (bare.Boolean c) h = cons_nil _ _ (sym h)

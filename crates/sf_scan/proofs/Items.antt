@@ -31,11 +31,11 @@ no_semicolon (b ∷ t) h = differs b h
     differs : (b : ℕ) → b ≢ semicolon → (b == semicolon) ≡ false
     differs b h = grind arith
 
-open_test : (x y z : Bool) → y ≡ false → (x || (y && z)) ≡ x
+pub open_test : (x y z : Bool) → y ≡ false → (x || (y && z)) ≡ x
 open_test true y z h = refl
 open_test false y z h = rw h refl
 
-closed_test : (x y z : Bool) → y ≡ true → (x || (y && z)) ≡ (x || z)
+pub closed_test : (x y z : Bool) → y ≡ true → (x || (y && z)) ≡ (x || z)
 closed_test x y z h = rw h refl
 
 module _ (B : List ℕ → Bare → Type 0) where

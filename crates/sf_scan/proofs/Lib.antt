@@ -2,7 +2,11 @@ pub mod Sets
 pub mod Lists
 pub mod Languages
 pub mod Sequences
+pub mod Lifts
+pub mod Enclosed
 pub mod Items
+pub mod Starts
+pub mod InnerLists
 pub mod Escapes
 pub mod Bares
 pub mod Pairs

@@ -14,6 +14,11 @@ pub continues_itself : {V : Type 0} (L : List ℕ → V → Type 0) (p : List �
     → Continues L p
 continues_itself L p v h = ([], v, subst (λ t. L t v) (sym (append-nil p)) h)
 
+-- the first byte of a prefix is one
+pub continues_before_first : {V : Type 0} (L : List ℕ → V → Type 0) (c : ℕ) (p : List ℕ)
+    → Continues L (c ∷ p) → Continues L (c ∷ [])
+continues_before_first L c p h = (p ++ h.0, h.1, h.2)
+
 -- either of two tests
 pub or_left : (x y : Bool) → x ≡ true → (x || y) ≡ true
 or_left x y h = rw h refl
@@ -60,6 +65,16 @@ pub refuses_as : {V : Type 0} (L : List ℕ → V → Type 0) (next other : ℕ 
     → Refuses L other text left
 refuses_as L next other text left e r =
     record { stops = stops_as L next other text left e r.stops; unspelled = r.unspelled }
+
+-- two exact tests at one prefix
+pub same_lacks : {V : Type 0} (L : List ℕ → V → Type 0) (next other : ℕ → Bool) (p t : List ℕ)
+    → IsFollowed L next p → IsFollowed L other p → Lacks next t → Lacks other t
+same_lacks L next other p [] f g n = tt
+same_lacks L next other p (b ∷ t) f g n = by (other b) refl
+  where
+    by : (x : Bool) → other b ≡ x → other b ≡ false
+    by false e = e
+    by true e = let k = f.only b (g.may b e) in absurd cc
 
 -- the empty text has no parts but empty ones
 pub none_left : (m s : List ℕ) → [] ≡ m ++ s → m ≡ []
@@ -170,20 +185,24 @@ module _ {V W : Type 0} (L : List ℕ → V → Type 0) (R : List ℕ → W → 
   then_begins p v q h k = (k.0, (v, k.1), (p, q ++ k.0, append_assoc p q k.0, h, k.2))
 
   -- the text goes wrong in L
+  pub refused_followed : (next : ℕ → Bool) (p : List ℕ) → Continues R [] → IsFollowed L next p
+      → ((x : V) → L p x → ⊥) → IsFollowed (Then L R) next p
+  refused_followed next p some f n = record {
+    viable = then_continues some p f.viable;
+    may = λ b h. then_continues some (p ++ b ∷ []) (f.may b h);
+    only = λ b c. elim (next_byte p b c.0 c.1 f.viable c.2) [
+      | inl k ↦ f.only b k
+      | inr k ↦ absurd (n c.1.0 k.0)
+    ];
+  }
+
   pub then_refuses : (next : ℕ → Bool) (text left : List ℕ) → Continues R []
       → Refuses L next text left → Refuses (Then L R) next text left
   then_refuses next text left some r = record {
     stops = record {
       prefix = r.stops.prefix;
       split = r.stops.split;
-      followed = record {
-        viable = then_continues some r.stops.prefix r.stops.followed.viable;
-        may = λ b h. then_continues some (r.stops.prefix ++ b ∷ []) (r.stops.followed.may b h);
-        only = λ b c. elim (next_byte r.stops.prefix b c.0 c.1 r.stops.followed.viable c.2) [
-          | inl k ↦ r.stops.followed.only b k
-          | inr k ↦ absurd (r.unspelled c.1.0 k.0)
-        ];
-      };
+      followed = refused_followed next r.stops.prefix some r.stops.followed r.unspelled;
       blocked = r.stops.blocked;
     };
     unspelled = λ v h. none v h;

@@ -9,3 +9,5 @@ pub mod Scans
 pub mod Parameters
 pub mod Makers
 pub mod Items
+pub mod Lifts
+pub mod InnerLists

@@ -6,19 +6,41 @@ ghost use Rattle.sf_scan.specs.Leaves.{leaf_bare};
 use crate::leaf::Leaf;
 use crate::maker::{Maker, Nothing};
 
-/// What is made of the parts of a text, which it gets one by one in their order: an Item is its bare
-/// item and then its parameters.
+/// What is made of the parts of a text, which it gets one by one in their order. An Item is its bare
+/// item and then its parameters; an Inner List is its beginning, its Items, its end and then its
+/// parameters.
 pub trait Builder<'a>: Maker<'a> {
     // The value after the bare item of one more Item.
     ghost bare: { Self → Bare → Self };
 
+    // The value after the beginning of one more Inner List, and after its end.
+    ghost opened: { Self → Self };
+
+    ghost closed: { Self → Self };
+
     /// Takes the bare item of one more Item.
     fn bare_item(&mut self, leaf: Leaf<'a>)
         ensures { self.new ≡ bare self.old (leaf_bare leaf.entry) };
+
+    /// Begins one more Inner List.
+    fn begin_inner(&mut self)
+        ensures { self.new ≡ opened self.old };
+
+    /// Ends the Inner List that was begun last.
+    fn end_inner(&mut self)
+        ensures { self.new ≡ closed self.old };
 }
 
 impl<'a> Builder<'a> for Nothing {
     ghost bare = { λ m x. m };
 
+    ghost opened = { λ m. m };
+
+    ghost closed = { λ m. m };
+
     fn bare_item(&mut self, _leaf: Leaf<'a>) {}
+
+    fn begin_inner(&mut self) {}
+
+    fn end_inner(&mut self) {}
 }

@@ -4,6 +4,7 @@
 
 pub mod bare;
 pub mod builder;
+pub mod inner;
 pub mod item;
 pub mod leaf;
 pub mod maker;
