@@ -2,18 +2,18 @@
 use Rattle.std.proofs.Common.{◌≡◌, ◌≢◌, ℕ, Bool, true, false, List, [], ◌∷◌, ◌++◌, refl, sym, ap, ◌∙◌}
 use Rattle.std.proofs.Common.{◌⊎◌, inl, inr, ◌==◌, ◌||◌, ◌≤◌, ◌+◌, length, subst, append_assoc, append-nil}
 use Rattle.std.proofs.Common.{arith, eqb-true, length-append}
-use Rattle.sf_value.specs.Ascii.{space, close_bracket}
+use Rattle.sf_value.specs.Ascii.{space, open_bracket, close_bracket}
 use Rattle.sf_value.specs.Grammar.Classes.{is_sp}
 use Rattle.sf_value.specs.Grammar.Lines.{Continues}
 use Rattle.sf_value.specs.Grammar.Words.{Every}
 use Rattle.sf_value.proofs.Runs.{every_append}
-use Rattle.sf_scan.specs.InnerLists.{SpellsItemsBy, SpellsRestBy}
+use Rattle.sf_scan.specs.InnerLists.{SpellsItemsBy, SpellsRestBy, SpellsInnerBy}
 use Rattle.sf_scan.specs.Languages.{Then}
 use Rattle.sf_scan.specs.Lifts.{Lifts}
 use Rattle.sf_scan.specs.Places.{is_after}
 use Rattle.sf_scan.specs.Stops.{Past, IsFollowed, Reads, Refuses, Lacks, FirstIs}
 use Rattle.sf_scan.proofs.Languages.{SameTexts, Apart}
-use Rattle.sf_scan.proofs.Lifts.{same_then, same_more, lifts_past, lifts_first}
+use Rattle.sf_scan.proofs.Lifts.{same_then, same_more, lifts_past, lifts_first, past_continues}
 use Rattle.sf_scan.proofs.Lists.{heads, tails, cons_nil}
 use Rattle.sf_scan.proofs.Sequences.{or_left, or_right, or_cases, lacks_both, then_texts, then_stuck}
 use Rattle.sf_scan.proofs.Sequences.{then_refuses, then_continues, continues_before_first}
@@ -383,4 +383,104 @@ module _ {X W : Type 0} (I : List ℕ → X → Type 0) (R : List ℕ → W → 
       blocked = lacks_both begin (λ b. is_sp b || b == close_bracket) at n k;
     };
     unspelled = no_rest 0;
+  }
+
+  -- what ends the parameters ends the Inner List
+  item_continues : (p : List ℕ) (x : X) (t u : List ℕ) → I p x
+      → FirstIs (λ b. is_after b ≡ true) t → t ≢ [] → Continues (Rest 0) (p ++ (t ++ u))
+      → Continues (Rest 1) (t ++ u)
+  item_continues p x [] u h f n c = absurd (n refl)
+  item_continues p x (b ∷ t) u h f n c =
+      past_continues (Past (b ∷ []) (Rest 1)) (Rest 0) (λ v. (x ∷ v.0, v.1)) (p ++ b ∷ []) (t ++ u)
+      (item_texts p x b h f)
+      (subst (Continues (Rest 0)) (sym (append_assoc p (b ∷ []) (t ++ u))) c)
+
+  not_closed : (body s : List ℕ) → body ++ close_bracket ∷ s ≢ []
+  not_closed [] s e = cons_nil close_bracket s e
+  not_closed (b ∷ body) s e = cons_nil b _ e
+
+  one_space : (k : ℕ) (d : ℕ) (body : List ℕ) → k ≤ 1 → k ≤ length (d ∷ body)
+  one_space k d body l = omega arith
+
+  abbrev RestEnds : ℕ → List X → Type 0
+  RestEnds k is =
+      (t : List ℕ) (w : W) (b : ℕ) → Rest k t (is, w) → is_after b ≡ true
+      → Continues (Rest k) (t ++ b ∷ []) → ⊥
+
+  rest_ends : Apart R is_after → (k : ℕ) → k ≤ 1 → (is : List X) → RestEnds k is
+  rest_ends after k l [] t w b h f c = by h.0 h.2 h.3
+    where
+      by : (body : List ℕ) → t ≡ body ++ close_bracket ∷ h.1 → Every is_sp body → ⊥
+      by [] e i =
+          after h.1 w b h.4 f (past_continues R (Rest k) (λ z. ([], z)) (close_bracket ∷ [])
+          (h.1 ++ b ∷ []) (close_texts k) (subst (λ z. Continues (Rest k) (z ++ b ∷ [])) e c))
+      by (d ∷ body) e i =
+          let moved : Continues (Rest k) (d ∷ (body ++ (close_bracket ∷ (h.1 ++ b ∷ [])))) =
+          subst (Continues (Rest k)) (append_assoc (d ∷ body) (close_bracket ∷ h.1) (b ∷ []))
+          (subst (λ z. Continues (Rest k) (z ++ b ∷ [])) e c) in
+          after h.1 w b h.4 f (past_continues R (Rest 0) (λ z. ([], z)) (close_bracket ∷ [])
+          (h.1 ++ b ∷ []) (close_texts 0)
+          (past_continues (Rest 0) (Rest k) (λ z. z) (d ∷ body) (close_bracket ∷ (h.1 ++ b ∷ []))
+          (gap_texts k (d ∷ body) i (one_space k d body l)) moved))
+  rest_ends after k l (x ∷ is) t w b h f c =
+      let m : Items k h.0 (x ∷ is) = h.3 in
+      let rest : List ℕ = m.2 ++ close_bracket ∷ h.1 in
+      let spelled : Rest 1 rest (is, w) = (m.2, h.1, refl, m.7, h.4) in
+      let whole : t ++ b ∷ [] ≡ m.0 ++ (m.1 ++ (rest ++ b ∷ [])) = moved m.0 m.1 m.2 m.3 in
+      rest_ends after 1 (at_least 1 1 0 (omega arith)) is rest w b spelled f
+      (item_continues m.1 x rest (b ∷ []) m.6 (rest_first rest (is, w) spelled)
+      (not_closed m.2 h.1)
+      (past_continues (Rest 0) (Rest k) (λ z. z) m.0 (m.1 ++ (rest ++ b ∷ []))
+      (gap_texts k m.0 m.4 m.5) (subst (Continues (Rest k)) whole c)))
+    where
+      moved : (gap p q : List ℕ) → h.0 ≡ gap ++ (p ++ q)
+          → t ++ b ∷ [] ≡ gap ++ (p ++ ((q ++ close_bracket ∷ h.1) ++ b ∷ []))
+      moved gap p q e =
+          ap (λ z. z ++ b ∷ []) (h.2 ∙ ap (λ z. z ++ close_bracket ∷ h.1) e) ∙ simp append_assoc
+
+  abbrev Inner : List ℕ → List X × W → Type 0
+  Inner = SpellsInnerBy I R
+
+  pub inner_texts : SameTexts (Rest 0) (Past (open_bracket ∷ []) Inner) (λ v. v)
+  inner_texts = record {
+    up = λ t v h. (h.0, h.1, ap (λ z. open_bracket ∷ z) h.2, h.3, h.4);
+    down = λ t v h. (v, (h.0, h.1, tails open_bracket open_bracket t _ h.2, h.3, h.4));
+  }
+
+  pub inner_apart : Apart R is_after → Apart Inner is_after
+  inner_apart after a v b h f c =
+      rest_ends after 0 (none_at_least 1) v.0 (h.0 ++ close_bracket ∷ h.1) v.1 b
+      (h.0, h.1, refl, h.3, h.4) f
+      (past_continues (Rest 0) Inner (λ z. z) (open_bracket ∷ [])
+      ((h.0 ++ close_bracket ∷ h.1) ++ b ∷ []) inner_texts
+      (subst (λ z. Continues Inner (z ++ b ∷ [])) h.2 c))
+
+  pub inner_first : (c : ℕ) (t : List ℕ) (v : List X × W) → Inner (c ∷ t) v → c ≡ open_bracket
+  inner_first c t v h = heads c open_bracket t _ h.2
+
+  pub no_inner : (v : List X × W) → Inner [] v → ⊥
+  no_inner v h = cons_nil open_bracket _ (sym h.2)
+
+  open_test : (b : ℕ) → b ≡ open_bracket → (b == open_bracket) ≡ true
+  open_test b e = grind arith
+
+  pub inner_followed : IsFollowed Inner (λ b. b == open_bracket) []
+  inner_followed = record {
+    viable = (
+      open_bracket ∷ (close_bracket ∷ some.0),
+      ([], some.1),
+      ([], some.0, refl, tt, some.2),
+    );
+    may = λ b h. (
+      close_bracket ∷ some.0,
+      ([], some.1),
+      (
+        [],
+        some.0,
+        ap (λ x. x ∷ (close_bracket ∷ some.0)) (eqb-true b open_bracket h),
+        tt,
+        some.2,
+      ),
+    );
+    only = λ b c. open_test b (inner_first b c.0 c.1 c.2);
   }

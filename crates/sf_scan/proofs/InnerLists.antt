@@ -23,12 +23,12 @@ use Rattle.sf_scan.specs.declared.item.ItemPlace.{ItemPlace}
 use Rattle.sf_scan.specs.declared.inner.InnerPlace.{InnerPlace}
 use Rattle.sf_scan.specs.declared.inner.InnerPlace.TheVariants as place
 use Rattle.sf_scan.proofs.Enclosed.{Begun, gap_lifts, close_lifts, item_space_lifts}
-use Rattle.sf_scan.proofs.Enclosed.{item_close_lifts, item_stuck, item_broken, open_refused}
+use Rattle.sf_scan.proofs.Enclosed.{item_close_lifts, item_stuck, item_broken, open_refused, inner_texts}
 use Rattle.sf_scan.proofs.Items.{open_test, closed_test}
 use Rattle.sf_scan.proofs.Languages.{Apart, SameTexts}
 use Rattle.sf_scan.proofs.Lifts.{lifts_past, lifts_then, lifts_self}
 use Rattle.sf_scan.proofs.Lists.{tails}
-use Rattle.sf_scan.proofs.Sequences.{lacks_both, reads_as, refuses_as, same_lacks}
+use Rattle.sf_scan.proofs.Sequences.{lacks_both, reads_as, refuses_as, same_lacks, none_read}
 use Rattle.sf_scan.proofs.Starts.{item_apart, item_begun, item_start}
 
 -- what is read of the rest of an Inner List while its Items are read: whatever follows is read of it
@@ -50,13 +50,6 @@ no_space_first (b ∷ t) h = differs b space h
 no_close : (t : List ℕ) → FirstIs (λ b. b ≢ close_bracket) t → Lacks (λ b. b == close_bracket) t
 no_close [] h = tt
 no_close (b ∷ t) h = differs b close_bracket h
-
--- nothing was read, if as much is left
-pub none_read : (at prefix left : List ℕ) → at ≡ prefix ++ left → length left ≡ length at
-    → prefix ≡ []
-none_read at [] left e k = refl
-none_read at (c ∷ prefix) left e k =
-    absurd (let f = ap length e in let g = length-append (c ∷ prefix) left in omega arith)
 
 module _ (B : List ℕ → Bare → Type 0) (apart : Apart B is_follow)
     (begun : (t : List ℕ) (x : Bare) → B t x → Begun t) (d : Dialect) {M : Type 0}
@@ -174,17 +167,11 @@ module _ (B : List ℕ → Bare → Type 0) (apart : Apart B is_follow)
         }
 
   -- after the brackets
-  inner_texts : SameTexts (SpellsRawRest B) (Past (open_bracket ∷ []) (SpellsRawInner B)) (λ v. v)
-  inner_texts = record {
-    up = λ t v h. (h.0, h.1, ap (λ z. open_bracket ∷ z) h.2, h.3, h.4);
-    down = λ t v h. (v, (h.0, h.1, tails open_bracket open_bracket t _ h.2, h.3, h.4));
-  }
-
   pub inner_lifts : Lifts (SpellsRawRest B) text (Past (open_bracket ∷ []) (SpellsRawInner B)) text
       (λ v. v)
   inner_lifts =
       lifts_past (SpellsRawRest B) (Past (open_bracket ∷ []) (SpellsRawInner B)) (λ v. v) [] text
-      text inner_texts refl
+      text (inner_texts I R (item_apart B apart) (item_begun B apart begun) no_params) refl
 
   pub inner_read : (opened : M → M) (first : M) (after : List ℕ) (between ready new : M)
       (end : Stop ParamPlace) (stop : Stop InnerPlace) → old ≡ opened first

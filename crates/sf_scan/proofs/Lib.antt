@@ -6,7 +6,10 @@ pub mod Lifts
 pub mod Enclosed
 pub mod Items
 pub mod Starts
+pub mod Alternatives
 pub mod InnerLists
+pub mod Members
+pub mod Series
 pub mod Escapes
 pub mod Bares
 pub mod Pairs

@@ -1,6 +1,6 @@
 -- Sequences: a text of one language and then a text of another, where no byte that begins the second
 -- can continue a text of the first.
-use Rattle.std.proofs.Common.{◌≡◌, ℕ, Bool, true, false, List, [], ◌∷◌, ◌++◌, refl, sym, ap, ◌∙◌}
+use Rattle.std.proofs.Common.{◌≡◌, ◌≢◌, length, length-append, ℕ, Bool, true, false, List, [], ◌∷◌, ◌++◌, refl, sym, ap, ◌∙◌}
 use Rattle.std.proofs.Common.{◌⊎◌, inl, inr, ◌||◌, subst, append_assoc, append-nil, arith}
 use Rattle.sf_value.specs.Grammar.Lines.{Continues}
 use Rattle.sf_scan.specs.Languages.{Then}
@@ -75,6 +75,43 @@ same_lacks L next other p (b ∷ t) f g n = by (other b) refl
     by : (x : Bool) → other b ≡ x → other b ≡ false
     by false e = e
     by true e = let k = f.only b (g.may b e) in absurd cc
+
+-- nothing was read, if as much is left
+pub none_read : (at prefix left : List ℕ) → at ≡ prefix ++ left → length left ≡ length at
+    → prefix ≡ []
+none_read at [] left e k = refl
+none_read at (c ∷ prefix) left e k =
+    absurd (let f = ap length e in let g = length-append (c ∷ prefix) left in omega arith)
+
+pub all_left : (text prefix left : List ℕ) → text ≡ prefix ++ left → length left ≡ length text
+    → left ≡ text
+all_left text prefix left e k =
+    sym (e ∙ ap (λ z. z ++ left) (none_read text prefix left e k))
+
+pub some_left : (text prefix left : List ℕ) → text ≡ prefix ++ left → length left ≢ length text
+    → prefix ≢ []
+some_left text prefix left e n z = n (sym (ap length (e ∙ ap (λ q. q ++ left) z)))
+
+-- then the text does not begin as texts of L do
+pub unread : {V : Type 0} (L : List ℕ → V → Type 0) (next begin : ℕ → Bool) (text left : List ℕ)
+    → Refuses L next text left → length left ≡ length text → IsFollowed L begin []
+    → Lacks begin text
+unread L next begin text left r k f =
+    let z : r.stops.prefix ≡ [] = none_read text r.stops.prefix left r.stops.split k in
+    same_lacks L next begin [] text (subst (IsFollowed L next) z r.stops.followed) f
+    (subst (Lacks next) (all_left text r.stops.prefix left r.stops.split k) r.stops.blocked)
+
+-- something was read, so not all is left
+pub read_some : (text p rest q left : List ℕ) → text ≡ p ++ rest → rest ≡ q ++ left → p ≢ []
+    → left ≡ text → ⊥
+read_some text [] rest q left e f n same = n refl
+read_some text (c ∷ p) rest q left e f n same =
+    let i = ap length e in
+    let j = ap length f in
+    let k = ap length same in
+    let l = length-append (c ∷ p) rest in
+    let m = length-append q left in
+    omega arith
 
 -- the empty text has no parts but empty ones
 pub none_left : (m s : List ℕ) → [] ≡ m ++ s → m ≡ []

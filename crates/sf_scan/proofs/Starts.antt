@@ -1,7 +1,7 @@
 -- What bare items, parameters and Items begin with, and what can't follow them as part of them.
-use Rattle.std.proofs.Common.{◌≡◌, ℕ, Bool, true, false, List, [], ◌∷◌, ◌++◌, refl, sym, ap, ◌∙◌}
+use Rattle.std.proofs.Common.{◌≡◌, ◌≢◌, ℕ, Bool, true, false, List, [], ◌∷◌, ◌++◌, refl, sym, ap, ◌∙◌}
 use Rattle.std.proofs.Common.{subst, append_assoc, arith}
-use Rattle.sf_value.specs.Ascii.{semicolon}
+use Rattle.sf_value.specs.Ascii.{semicolon, open_bracket}
 use Rattle.sf_value.specs.declared.dialect.Dialect.{Dialect}
 use Rattle.sf_value.specs.declared.value.Bare.{Bare}
 use Rattle.sf_value.specs.Grammar.Pairs.{Pairs}
@@ -34,6 +34,12 @@ start_after d b h = grind arith
 pub bare_begun : (d : Dialect) (t : List ℕ) (x : Bare) → SpellsLeaf d t x → Begun t
 bare_begun d [] x h = unstarted d x h
 bare_begun d (b ∷ t) x h = start_after d b (start_of d x b (first_byte d b t x h))
+
+pub bare_some : (d : Dialect) (t : List ℕ) (x : Bare) → SpellsLeaf d t x → t ≢ []
+bare_some d t x h e = bare_begun d [] x (subst (λ z. SpellsLeaf d z x) e h)
+
+pub bare_no_bracket : (d : Dialect) → in_bare d place.Start open_bracket ≡ false
+bare_no_bracket d = refl
 
 -- what follows an Item ends its bare item
 after_follow : (b : ℕ) → is_after b ≡ true → is_follow b ≡ true

@@ -11,3 +11,5 @@ pub mod Makers
 pub mod Items
 pub mod Lifts
 pub mod InnerLists
+pub mod Members
+pub mod Series

@@ -25,3 +25,8 @@ abbrev pub Scans : {V M P : Type 0} → (List ℕ → V → Type 0) → (P → �
     → (M → V → M) → List ℕ → M → M → Result (Stop P) (Stop P) → Type 0
 Scans L next ends build text old new (Ok stop) = Accepts L next ends build text old new stop
 Scans L next ends build text old new (Err stop) = Rejects L next ends text stop
+
+-- a text that goes wrong at its first byte leaves the maker as it was
+abbrev pub Keeps : {M P : Type 0} → List ℕ → M → M → Result (Stop P) (Stop P) → Type 0
+Keeps text old new (Ok stop) = Unit {0}
+Keeps text old new (Err stop) = stop.left.now ≡ text → new ≡ old

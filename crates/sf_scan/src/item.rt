@@ -2,7 +2,7 @@
 ghost use Rattle.std.specs.Prelude.{◌≡◌};
 ghost use Rattle.sf_scan.specs.Items.{SpellsRawItem, made_item, in_item, ends_item};
 ghost use Rattle.sf_scan.specs.Leaves.{SpellsLeaf};
-ghost use Rattle.sf_scan.specs.Outcomes.{Scans};
+ghost use Rattle.sf_scan.specs.Outcomes.{Scans, Keeps};
 ghost use Rattle.sf_scan.specs.Sets.{Marks};
 
 use crate::bare::bare;
@@ -51,8 +51,9 @@ pub fn item<'a, M: Builder<'a>>(
     text: &'a [u8],
     maker: &mut M,
 ) -> Result<Stop<'a, ItemPlace>, Stop<'a, ItemPlace>>
-    ensures { Scans (SpellsRawItem (SpellsLeaf dialect)) (in_item dialect) ends_item
+    ensures scans { Scans (SpellsRawItem (SpellsLeaf dialect)) (in_item dialect) ends_item
         (made_item M.bare M.with) text.now maker.old maker.new result }
+    ensures kept { Keeps text.now maker.old maker.new result }
 {
     let (leaf, end) = match bare(dialect, text) {
         Ok(found) => found,

@@ -23,7 +23,7 @@ pub returns-then-stop-at : goal.returns-then-stop-at
 returns-then-stop-at g c =
     let d = c.args.dialect in
     let r = c.short_run.ensures in
-    let e = c.in-Err.ensures in
+    let e = c.in-Err.ensures.scans in
     going_open (SpellsLeaf d) (bare_apart d) (bare_begun d) d g.M.Builder.bare g.M.Maker.with
     g.M.Builder.closed _ _ _ _ _ _ c.loop-after.invariant r.whole r.every c.in-Err.stop.place _ _
     (bare_start d) e.refuses c.if-stop-at.true r.longest c.in_default.ensures refl refl
@@ -32,7 +32,7 @@ pub returns-in-Err : goal.returns-in-Err
 returns-in-Err g c =
     let d = c.args.dialect in
     let r = c.short_run.ensures in
-    let e = c.in-Err.ensures in
+    let e = c.in-Err.ensures.scans in
     going_broken (SpellsLeaf d) (bare_apart d) (bare_begun d) d g.M.Builder.bare g.M.Maker.with
     g.M.Builder.closed _ _ _ _ _ _ c.loop-after.invariant r.whole r.every c.in-Err.stop.place _ _
     e.refuses e.open_still c.if-stop-at.false refl refl
@@ -41,7 +41,7 @@ pub returns-in-Some-strip : goal.returns-in-Some-strip
 returns-in-Some-strip g c =
     let d = c.args.dialect in
     let r = c.short_run.ensures in
-    let i = c.in-Ok.ensures in
+    let i = c.in-Ok.ensures.scans in
     going_last (SpellsLeaf d) (bare_apart d) (bare_begun d) d g.M.Builder.bare g.M.Maker.with
     g.M.Builder.closed _ _ _ _ _ _ c.loop-after.invariant r.whole r.every _ i.value _ _ _ i.reads
     c.in-Some-strip.ensures i.made
@@ -50,7 +50,7 @@ pub returns-in_default-strip-2 : goal.returns-in_default-strip-2
 returns-in_default-strip-2 g c =
     let d = c.args.dialect in
     let r = c.short_run.ensures in
-    let i = c.in-Ok.ensures in
+    let i = c.in-Ok.ensures.scans in
     going_stuck (SpellsLeaf d) (bare_apart d) (bare_begun d) d g.M.Builder.bare g.M.Maker.with
     g.M.Builder.closed _ _ _ _ _ _ c.loop-after.invariant r.whole r.every c.in-Ok.end.place i.value
     _ _ i.reads i.ended c.in_default-strip.ensures c.in_default-strip-2.ensures refl refl
@@ -58,14 +58,14 @@ returns-in_default-strip-2 g c =
 pub loop-after-smaller : goal.loop-after-smaller
 loop-after-smaller g c =
     let r = c.short_run.ensures in
-    let i = c.in-Ok.ensures in
+    let i = c.in-Ok.ensures.scans in
     less_left _ _ _ i.reads.stops.prefix _ _ _ r.whole i.reads.stops.split c.in-Some-strip-2.ensures
 
 pub loop-after-preserved : goal.loop-after-preserved
 loop-after-preserved g c =
     let d = c.args.dialect in
     let r = c.short_run.ensures in
-    let i = c.in-Ok.ensures in
+    let i = c.in-Ok.ensures.scans in
     going_more (SpellsLeaf d) (bare_apart d) (bare_begun d) d g.M.Builder.bare g.M.Maker.with
     g.M.Builder.closed _ _ _ _ _ _ c.loop-after.invariant r.whole r.every _ i.value _ _ _ i.reads
     c.in-Some-strip-2.ensures i.made
