@@ -136,17 +136,17 @@ module _ (B : List ℕ → Bare → Type 0) (apart : Apart B is_follow)
       let same : text ≡ left = r.stops.split ∙ ap (λ q. q ++ left) z in
       record {
         refuses = rw (e, f, ← same) (record {
-              stops = record {
-                prefix = [];
-                split = refl;
-                followed = member_start;
-                blocked = lacks_both (in_bare d bare_place.Start) (λ b. b == open_bracket) text
-                    (same_lacks I next (in_bare d bare_place.Start) [] text
-                    (subst (IsFollowed I next) z r.stops.followed) starts_item
-                    (subst (Lacks next) (sym same) r.stops.blocked)) (no_open text n);
-              };
-              unspelled = λ v h. member_begun [] v h;
-            });
+          stops = record {
+            prefix = [];
+            split = refl;
+            followed = member_start;
+            blocked = lacks_both (in_bare d bare_place.Start) (λ b. b == open_bracket) text
+                (same_lacks I next (in_bare d bare_place.Start) [] text
+                (subst (IsFollowed I next) z r.stops.followed) starts_item
+                (subst (Lacks next) (sym same) r.stops.blocked)) (no_open text n);
+          };
+          unspelled = λ v h. member_begun [] v h;
+        });
         open_still = rw f refl;
       }
 

@@ -1,6 +1,6 @@
 -- Members with commas between them: what follows in a List or a Dictionary, whatever its members are.
 use Rattle.std.proofs.Common.{◌≡◌, ◌≢◌, ℕ, Bool, true, false, List, [], ◌∷◌, ◌++◌, refl, sym, ap, ◌∙◌}
-use Rattle.std.proofs.Common.{◌⊎◌, inl, inr, ◌==◌, ◌||◌, subst, append_assoc, append-nil, arith, eqb-true}
+use Rattle.std.proofs.Common.{◌⊎◌, inl, inr, ◌==◌, ◌||◌, ◌<◌, suc, length, length-append, subst, append_assoc, append-nil, arith, eqb-true}
 use Rattle.sf_value.specs.Ascii.{comma}
 use Rattle.sf_value.specs.Grammar.Classes.{is_sp, is_ows}
 use Rattle.sf_value.specs.Grammar.Lines.{Continues}
@@ -266,11 +266,11 @@ module _ {X : Type 0} (P : List ℕ → X → Type 0) (apart : Apart P is_after)
     viable = (some.0, (some.1, []), ([], some.0, [], sym (append-nil some.0), tt, some.2, after_none));
     may = λ b h. elim (or_cases (begin b) (is_ows b) h) [
       | inl k ↦
-        let c = f.may b k in (
-          c.0,
-          (c.1, []),
-          ([], b ∷ c.0, [], sym (append-nil (b ∷ c.0)), tt, c.2, after_none),
-        )
+          let c = f.may b k in (
+            c.0,
+            (c.1, []),
+            ([], b ∷ c.0, [], sym (append-nil (b ∷ c.0)), tt, c.2, after_none),
+          )
       | inr k ↦ (
         some.0,
         (some.1, []),
@@ -369,19 +369,19 @@ module _ {X : Type 0} (P : List ℕ → X → Type 0) (apart : Apart P is_after)
     viable = ([], [], tt);
     may = λ b h. elim (or_cases (begin b) (is_sp b) h) [
       | inl k ↦
-        let c = f.may b k in (
-          c.0,
-          c.1 ∷ [],
-          (
-            [],
-            b ∷ c.0,
-            [],
-            sym (append-nil (b ∷ c.0)),
-            tt,
-            (b ∷ c.0, [], sym (append-nil (b ∷ c.0)), c.2, refl),
-            tt,
-          ),
-        )
+          let c = f.may b k in (
+            c.0,
+            c.1 ∷ [],
+            (
+              [],
+              b ∷ c.0,
+              [],
+              sym (append-nil (b ∷ c.0)),
+              tt,
+              (b ∷ c.0, [], sym (append-nil (b ∷ c.0)), c.2, refl),
+              tt,
+            ),
+          )
       | inr k ↦ ([], [], (k, tt))
     ];
     only = λ b c. elim (whole_view b c.0 c.1 c.2) [
@@ -458,107 +458,150 @@ module _ {X : Type 0} (P : List ℕ → X → Type 0) (apart : Apart P is_after)
 
     -- what comes after a member
     module _ (next : ℕ → Bool) (left : List ℕ) (now : M) (has : Has make next text left old now)
-        where
-      after_lifts : (c : ℕ) (l : List ℕ) → left ≡ c ∷ l → (is_ows c || c == comma) ≡ true
-          → Lifts After left Whole text (λ xs. has.into (has.member, xs))
-      after_lifts c l e k =
-          lifts_then After Opens Whole (λ xs. (has.member, xs)) has.into left has.before text
-          (record {
-            reads = λ after xs end r.
-                then_reads P After is_after apart after_first next after has.before has.member left c
-                l xs end has.reads e (after_test c k) (after_followed.may c k) r;
-            refuses = λ after end r.
-                then_refuses_after P After is_after apart after_first next after has.before has.member
-                left c l end has.reads e (after_test c k) (after_followed.may c k) r;
-          })
-          has.lifts
-
-      pub ends_there : Lacks (λ b. is_ows b || b == comma) left
-          → Reads Whole (λ b. next b || (is_ows b || b == comma)) text (has.into (has.member, [])) left
-      ends_there n =
-          has.lifts.reads _ _ left
-          (then_ends P After is_after apart after_first next (λ b. is_ows b || b == comma) has.before
-          has.member [] left has.reads after_followed n after_none)
-
-      module _ (run at : List ℕ) (behind : left ≡ run ++ at) (spaces : Every is_ows run) where
-        run_lifts : run ≢ [] → Lifts After at Whole text (λ xs. has.into (has.member, xs))
-        run_lifts n = by run behind spaces n
-          where
-            by : (run : List ℕ) → left ≡ run ++ at → Every is_ows run → run ≢ []
-                → Lifts After at Whole text (λ xs. has.into (has.member, xs))
-            by [] e w n = absurd (n refl)
-            by (c ∷ run) e w n =
-                lifts_then After After Whole (λ v. v) (λ xs. has.into (has.member, xs)) at left text
-                (lifts_past After After (λ v. v) (c ∷ run) at left (after_gap (c ∷ run) w) e)
-                (after_lifts c (run ++ at) e (or_left (is_ows c) (c == comma) w.0))
-
-        pub ends_behind : run ≢ [] → Lacks (λ b. is_ows b || b == comma) at
-            → Reads Whole (λ b. is_ows b || b == comma) text (has.into (has.member, [])) at
-        ends_behind n k =
-            (run_lifts n).reads _ [] at (record {
-              stops = record { prefix = []; split = refl; followed = after_followed; blocked = k };
-              spelled = after_none;
+      where
+        after_lifts : (c : ℕ) (l : List ℕ) → left ≡ c ∷ l → (is_ows c || c == comma) ≡ true
+            → Lifts After left Whole text (λ xs. has.into (has.member, xs))
+        after_lifts c l e k =
+            lifts_then After Opens Whole (λ xs. (has.member, xs)) has.into left has.before text
+            (record {
+              reads = λ after xs end r.
+                  then_reads P After is_after apart after_first next after has.before has.member left c
+                  l xs end has.reads e (after_test c k) (after_followed.may c k) r;
+              refuses = λ after end r.
+                  then_refuses_after P After is_after apart after_first next after has.before has.member
+                  left c l end has.reads e (after_test c k) (after_followed.may c k) r;
             })
+            has.lifts
 
-        -- a comma
-        module _ (more gap due : List ℕ) (found : at ≡ comma ∷ more) (split : more ≡ gap ++ due)
-            (blanks : Every is_ows gap) where
-          comma_lifts : Lifts After at Whole text (λ xs. has.into (has.member, xs))
-          comma_lifts = by run behind spaces
+        pub ends_there : Lacks (λ b. is_ows b || b == comma) left
+            → Reads Whole (λ b. next b || (is_ows b || b == comma)) text (has.into (has.member, [])) left
+        ends_there n =
+            has.lifts.reads _ _ left
+            (then_ends P After is_after apart after_first next (λ b. is_ows b || b == comma) has.before
+            has.member [] left has.reads after_followed n after_none)
+
+        module _ (run at : List ℕ) (behind : left ≡ run ++ at) (spaces : Every is_ows run) where
+          run_lifts : run ≢ [] → Lifts After at Whole text (λ xs. has.into (has.member, xs))
+          run_lifts n = by run behind spaces n
             where
-              by : (run : List ℕ) → left ≡ run ++ at → Every is_ows run
+              by : (run : List ℕ) → left ≡ run ++ at → Every is_ows run → run ≢ []
                   → Lifts After at Whole text (λ xs. has.into (has.member, xs))
-              by [] e w =
-                  lifts_then After After Whole (λ v. v) (λ xs. has.into (has.member, xs)) at left text
-                  (lifts_past After After (λ v. v) [] at left (after_gap [] tt) e)
-                  (after_lifts comma more (e ∙ found) refl)
-              by (c ∷ run) e w =
+              by [] e w n = absurd (n refl)
+              by (c ∷ run) e w n =
                   lifts_then After After Whole (λ v. v) (λ xs. has.into (has.member, xs)) at left text
                   (lifts_past After After (λ v. v) (c ∷ run) at left (after_gap (c ∷ run) w) e)
                   (after_lifts c (run ++ at) e (or_left (is_ows c) (c == comma) w.0))
 
-          due_lifts : Lifts Due due Whole text (λ v. has.into (has.member, v.0 ∷ v.1))
-          due_lifts =
-              lifts_then Due After Whole (λ v. v.0 ∷ v.1) (λ xs. has.into (has.member, xs)) due at
-              text
-              (lifts_then Due Due After (λ v. v) (λ v. v.0 ∷ v.1) due more at
-              (lifts_past Due Due (λ v. v) gap due more (due_gap gap blanks) split)
-              (lifts_past Due After (λ v. v.0 ∷ v.1) (comma ∷ []) more at comma_texts found))
-              comma_lifts
-
-          next_lifts : (p end : List ℕ) → Continues P p → due ≡ p ++ end → p ≢ []
-              → Lifts Opens due Whole text (λ v. has.into (has.member, v.0 ∷ v.1))
-          next_lifts p end k e n =
-              lifts_then Opens Due Whole (λ v. v) (λ v. has.into (has.member, v.0 ∷ v.1)) due due text
-              (opens_lifts Due (λ v. v) due_open p due end k e n) due_lifts
-
-          pub more_has : (after : ℕ → Bool) (x : X) (end : List ℕ) (new : M)
-              → Reads P after due x end → new ≡ make now x → Has make after text end old new
-          more_has after x end new r m = record {
-            before = due;
-            member = x;
-            reads = r;
-            into = λ v. has.into (has.member, v.0 ∷ v.1);
-            lifts = next_lifts r.stops.prefix end r.stops.followed.viable r.stops.split
-                (not_none r.stops.prefix x r.spelled);
-            made = λ xs. ap (λ z. made_each make z xs) m ∙ has.made (x ∷ xs);
-          }
-
-          pub due_broken : (after : ℕ → Bool) (end : List ℕ) → (r : Refuses P after due end)
-              → r.stops.prefix ≢ [] → Refuses Whole after text end
-          due_broken after end r n =
-              (next_lifts r.stops.prefix end r.stops.followed.viable r.stops.split n).refuses after end
-              (then_refuses P After is_after apart after_first after due end after_followed.viable r)
-
-          pub due_refused : (begin : ℕ → Bool) → IsFollowed P begin [] → Lacks begin due
-              → Lacks is_ows due → Refuses Whole (λ b. begin b || is_ows b) text due
-          due_refused begin f n k =
-              due_lifts.refuses _ due (record {
-                stops = record {
-                  prefix = [];
-                  split = refl;
-                  followed = due_followed begin f;
-                  blocked = lacks_both begin is_ows due n k;
-                };
-                unspelled = no_due;
+          pub ends_behind : run ≢ [] → Lacks (λ b. is_ows b || b == comma) at
+              → Reads Whole (λ b. is_ows b || b == comma) text (has.into (has.member, [])) at
+          ends_behind n k =
+              (run_lifts n).reads _ [] at (record {
+                stops = record { prefix = []; split = refl; followed = after_followed; blocked = k };
+                spelled = after_none;
               })
+
+          -- a comma
+          module _ (more gap due : List ℕ) (found : at ≡ comma ∷ more) (split : more ≡ gap ++ due)
+              (blanks : Every is_ows gap) where
+            comma_lifts : Lifts After at Whole text (λ xs. has.into (has.member, xs))
+            comma_lifts = by run behind spaces
+              where
+                by : (run : List ℕ) → left ≡ run ++ at → Every is_ows run
+                    → Lifts After at Whole text (λ xs. has.into (has.member, xs))
+                by [] e w =
+                    lifts_then After After Whole (λ v. v) (λ xs. has.into (has.member, xs)) at left text
+                    (lifts_past After After (λ v. v) [] at left (after_gap [] tt) e)
+                    (after_lifts comma more (e ∙ found) refl)
+                by (c ∷ run) e w =
+                    lifts_then After After Whole (λ v. v) (λ xs. has.into (has.member, xs)) at left text
+                    (lifts_past After After (λ v. v) (c ∷ run) at left (after_gap (c ∷ run) w) e)
+                    (after_lifts c (run ++ at) e (or_left (is_ows c) (c == comma) w.0))
+
+            due_lifts : Lifts Due due Whole text (λ v. has.into (has.member, v.0 ∷ v.1))
+            due_lifts =
+                lifts_then Due After Whole (λ v. v.0 ∷ v.1) (λ xs. has.into (has.member, xs)) due at
+                text
+                (lifts_then Due Due After (λ v. v) (λ v. v.0 ∷ v.1) due more at
+                (lifts_past Due Due (λ v. v) gap due more (due_gap gap blanks) split)
+                (lifts_past Due After (λ v. v.0 ∷ v.1) (comma ∷ []) more at comma_texts found))
+                comma_lifts
+
+            next_lifts : (p end : List ℕ) → Continues P p → due ≡ p ++ end → p ≢ []
+                → Lifts Opens due Whole text (λ v. has.into (has.member, v.0 ∷ v.1))
+            next_lifts p end k e n =
+                lifts_then Opens Due Whole (λ v. v) (λ v. has.into (has.member, v.0 ∷ v.1)) due due text
+                (opens_lifts Due (λ v. v) due_open p due end k e n) due_lifts
+
+            pub more_has : (after : ℕ → Bool) (x : X) (end : List ℕ) (new : M)
+                → Reads P after due x end → new ≡ make now x → Has make after text end old new
+            more_has after x end new r m = record {
+              before = due;
+              member = x;
+              reads = r;
+              into = λ v. has.into (has.member, v.0 ∷ v.1);
+              lifts = next_lifts r.stops.prefix end r.stops.followed.viable r.stops.split
+                  (not_none r.stops.prefix x r.spelled);
+              made = λ xs. ap (λ z. made_each make z xs) m ∙ has.made (x ∷ xs);
+            }
+
+            pub due_broken : (after : ℕ → Bool) (end : List ℕ) → (r : Refuses P after due end)
+                → r.stops.prefix ≢ [] → Refuses Whole after text end
+            due_broken after end r n =
+                (next_lifts r.stops.prefix end r.stops.followed.viable r.stops.split n).refuses after end
+                (then_refuses P After is_after apart after_first after due end after_followed.viable r)
+
+            pub due_refused : (begin : ℕ → Bool) → IsFollowed P begin [] → Lacks begin due
+                → Lacks is_ows due → Refuses Whole (λ b. begin b || is_ows b) text due
+            due_refused begin f n k =
+                due_lifts.refuses _ due (record {
+                  stops = record {
+                    prefix = [];
+                    split = refl;
+                    followed = due_followed begin f;
+                    blocked = lacks_both begin is_ows due n k;
+                  };
+                  unspelled = no_due;
+                })
+
+differs : (b c : ℕ) → b ≢ c → (b == c) ≡ false
+differs b c h = grind arith
+
+no_comma : (t : List ℕ) → FirstIs (λ b. b ≢ comma) t → Lacks (λ b. b == comma) t
+no_comma [] h = tt
+no_comma (b ∷ t) h = differs b comma h
+
+pub lacks_more : (t : List ℕ) → Lacks is_ows t → FirstIs (λ b. b ≢ comma) t
+    → Lacks (λ b. is_ows b || b == comma) t
+lacks_more t h k = lacks_both is_ows (λ b. b == comma) t h (no_comma t k)
+
+-- less is left after a comma
+pub less_after : (left run at more gap due prefix end : List ℕ) → left ≡ run ++ at
+    → at ≡ comma ∷ more → more ≡ gap ++ due → due ≡ prefix ++ end → length end < length left
+less_after left run at more gap due prefix end e f g h =
+    let p = ap length e in
+    let q = ap length f in
+    let r = ap length g in
+    let s = ap length h in
+    let t = length-append run at in
+    let u = length-append gap due in
+    let v = length-append prefix end in
+    omega arith
+
+-- the test of an empty run
+pub empty_run : (x : Bool) (t : List ℕ) → x ≡ (length t == 0) → x ≡ true → t ≡ []
+empty_run x [] e h = refl
+empty_run x (b ∷ t) e h = absurd (some x (length t) e h)
+  where
+    some : (x : Bool) (n : ℕ) → x ≡ (suc n == 0) → x ≡ true → ⊥
+    some x n e h = grind arith
+
+pub some_run : (x : Bool) (t : List ℕ) → x ≡ (length t == 0) → x ≡ false → t ≢ []
+some_run x t e h z = by (subst (λ s. x ≡ (length s == 0)) z e)
+  where
+    by : x ≡ (length {A = ℕ} [] == 0) → ⊥
+    by e = cc
+
+pub lacks_behind : (left run at : List ℕ) → left ≡ run ++ at → run ≡ []
+    → Lacks (λ b. is_ows b || b == comma) at → Lacks (λ b. is_ows b || b == comma) left
+lacks_behind left run at e z n =
+    subst (Lacks (λ b. is_ows b || b == comma)) (sym (e ∙ ap (λ r. r ++ at) z)) n
