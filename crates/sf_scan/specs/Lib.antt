@@ -13,3 +13,4 @@ pub mod Lifts
 pub mod InnerLists
 pub mod Members
 pub mod Series
+pub mod Entries

@@ -1,5 +1,5 @@
 //! What is made of the Items, members and fields of a text while it is read.
-ghost use Rattle.std.specs.Prelude.{◌≡◌};
+ghost use Rattle.std.specs.Prelude.{◌≡◌, ℕ, List};
 ghost use Rattle.sf_value.specs.declared.value.Bare.{Bare};
 ghost use Rattle.sf_scan.specs.Leaves.{leaf_bare};
 
@@ -8,7 +8,7 @@ use crate::maker::{Maker, Nothing};
 
 /// What is made of the parts of a text, which it gets one by one in their order. An Item is its bare
 /// item and then its parameters; an Inner List is its beginning, its Items, its end and then its
-/// parameters.
+/// parameters; a member of a Dictionary is its key and then its value.
 pub trait Builder<'a>: Maker<'a> {
     // The value after the bare item of one more Item.
     ghost bare: { Self → Bare → Self };
@@ -17,6 +17,9 @@ pub trait Builder<'a>: Maker<'a> {
     ghost opened: { Self → Self };
 
     ghost closed: { Self → Self };
+
+    // The value after the key of one more member of a Dictionary.
+    ghost named: { Self → List ℕ → Self };
 
     /// Takes the bare item of one more Item.
     fn bare_item(&mut self, leaf: Leaf<'a>)
@@ -29,6 +32,10 @@ pub trait Builder<'a>: Maker<'a> {
     /// Ends the Inner List that was begun last.
     fn end_inner(&mut self)
         ensures { self.new ≡ closed self.old };
+
+    /// Takes the key of one more member of a Dictionary, before its value.
+    fn key(&mut self, key: &'a [u8])
+        ensures { self.new ≡ named self.old key.entry.now };
 }
 
 impl<'a> Builder<'a> for Nothing {
@@ -38,9 +45,13 @@ impl<'a> Builder<'a> for Nothing {
 
     ghost closed = { λ m. m };
 
+    ghost named = { λ m key. m };
+
     fn bare_item(&mut self, _leaf: Leaf<'a>) {}
 
     fn begin_inner(&mut self) {}
 
     fn end_inner(&mut self) {}
+
+    fn key(&mut self, _key: &'a [u8]) {}
 }

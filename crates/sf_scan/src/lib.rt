@@ -4,6 +4,8 @@
 
 pub mod bare;
 pub mod builder;
+pub mod dict;
+pub mod entry;
 pub mod inner;
 pub mod item;
 pub mod leaf;
