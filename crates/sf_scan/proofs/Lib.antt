@@ -9,6 +9,7 @@ pub mod Starts
 pub mod Alternatives
 pub mod InnerLists
 pub mod Members
+pub mod Spaced
 pub mod Entries
 pub mod Series
 pub mod Escapes

@@ -14,3 +14,4 @@ pub mod InnerLists
 pub mod Members
 pub mod Series
 pub mod Entries
+pub mod ItemFields

@@ -6,6 +6,7 @@ pub mod bare;
 pub mod builder;
 pub mod dict;
 pub mod entry;
+pub mod field;
 pub mod inner;
 pub mod item;
 pub mod leaf;
