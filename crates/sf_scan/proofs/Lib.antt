@@ -16,3 +16,5 @@ pub mod Escapes
 pub mod Bares
 pub mod Pairs
 pub mod Raws
+pub mod Grammar
+pub mod Wholes

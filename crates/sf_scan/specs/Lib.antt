@@ -15,3 +15,4 @@ pub mod Members
 pub mod Series
 pub mod Entries
 pub mod ItemFields
+pub mod Settled
