@@ -346,7 +346,7 @@ signed_start d b h = grind arith
 date_start : (d : Dialect) (b : ℕ) → (b == at_sign && is_rfc9651 d) ≡ true → is_bare_start d b ≡ true
 date_start d b h = grind arith
 
-start_of : (d : Dialect) (x : Bare) (b : ℕ) → begins d x b ≡ true → is_bare_start d b ≡ true
+pub start_of : (d : Dialect) (x : Bare) (b : ℕ) → begins d x b ≡ true → is_bare_start d b ≡ true
 start_of d (bare.Integer n) b h = signed_start d b h
 start_of d (bare.Decimal m) b h = signed_start d b h
 start_of d (bare.Date n) b h = date_start d b h
@@ -365,7 +365,7 @@ number_started d b h = by (is_signed_start b) refl
     by false e =
         date_started d b (let k : (b == at_sign && is_rfc9651 d) ≡ true = rw e at h in k)
 
-started : (d : Dialect) (b : ℕ) → is_bare_start d b ≡ true → Continues (SpellsLeaf d) (b ∷ [])
+pub started : (d : Dialect) (b : ℕ) → is_bare_start d b ≡ true → Continues (SpellsLeaf d) (b ∷ [])
 started d b h =
     by (is_token_start b) refl (b == quote) refl (b == question_mark) refl (is_number_start d b) refl
   where
@@ -387,7 +387,7 @@ started d b h =
     by false e false f false g false i =
         coded_started d b (let k : is_coded_start d b ≡ true = rw (e, f, g, i) at h in k)
 
-unstarted : (d : Dialect) (x : Bare) → SpellsLeaf d [] x → ⊥
+pub unstarted : (d : Dialect) (x : Bare) → SpellsLeaf d [] x → ⊥
 unstarted d (bare.Integer n) h = integer_some n h
 unstarted d (bare.Decimal m) h = decimal_some m h
 unstarted d (bare.Date n) h = cons_nil _ _ (sym h.1.1)

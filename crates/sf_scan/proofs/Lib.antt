@@ -1,6 +1,17 @@
 pub mod Sets
 pub mod Lists
 pub mod Languages
+pub mod Sequences
+pub mod Lifts
+pub mod Enclosed
+pub mod Items
+pub mod Starts
+pub mod Alternatives
+pub mod InnerLists
+pub mod Members
+pub mod Spaced
+pub mod Entries
+pub mod Series
 pub mod Escapes
 pub mod Beginnings
 pub mod NumberStarts
@@ -19,3 +30,5 @@ pub mod ShownStops
 pub mod Following
 pub mod Pairs
 pub mod Raws
+pub mod Grammar
+pub mod Wholes

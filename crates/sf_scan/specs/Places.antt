@@ -73,3 +73,7 @@ ends_params (param.InValue p) = ends_bare p
 -- the bytes that may come there: another parameter may follow one that may end
 abbrev pub in_params : Dialect → ParamPlace → ℕ → Bool
 in_params d p b = in_param d p b || (ends_params p && b == semicolon)
+
+-- the bytes that may follow an Item, an Inner List or parameters without being part of them
+abbrev pub is_after : ℕ → Bool
+is_after b = is_one_of (tab ∷ space ∷ close_bracket ∷ comma ∷ []) b

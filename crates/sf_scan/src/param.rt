@@ -91,7 +91,7 @@ fn next_param(
 }
 
 /// The longest key that the text begins with, and the rest; `None` if it begins with none.
-fn find_key(text: &[u8]) -> Option<(&[u8], &[u8])>
+pub fn find_key(text: &[u8]) -> Option<(&[u8], &[u8])>
     ensures { MatchOption result (Lacks is_key_start text.now)
         (λ r. (text.now ≡ r.0.now ++ r.1.now) × IsKey r.0.now × Lacks is_in_key r.1.now) }
 {
