@@ -17,7 +17,8 @@ use Rattle.sf_value.specs.Grammar.DisplayStrings.{SpellsDisplayString}
 use Rattle.sf_value.specs.Grammar.Dialects.{is_rfc9651}
 use Rattle.sf_value.specs.Grammar.Lines.{Continues}
 use Rattle.sf_value.proofs.Runs.{every_append}
-use Rattle.sf_scan.specs.Leaves.{SpellsLeaf, leaf_bare}
+use Rattle.sf_value.specs.Grammar.BareItems.{SpellsBare}
+use Rattle.sf_scan.specs.Leaves.{leaf_bare}
 use Rattle.sf_scan.specs.Places.{in_bare, ends_bare, is_bare_start, is_coded_start}
 use Rattle.sf_scan.specs.Stops.{Past, IsFollowed, Lacks, FirstIs}
 use Rattle.sf_scan.specs.Scans.{ReadsLeaf, RefusesLeaf, ScansLeaf}
@@ -50,7 +51,7 @@ begins d (bare.Shown s) b = b == percent && is_rfc9651 d
 same_byte : (b c : ℕ) → b ≡ c → (b == c) ≡ true
 same_byte b c e = grind arith
 
-pub first_byte : (d : Dialect) (b : ℕ) (t : List ℕ) (x : Bare) → SpellsLeaf d (b ∷ t) x
+pub first_byte : (d : Dialect) (b : ℕ) (t : List ℕ) (x : Bare) → SpellsBare d (b ∷ t) x
     → begins d x b ≡ true
 first_byte d b t (bare.Integer n) h = integer_first b t n h
 first_byte d b t (bare.Decimal m) h = decimal_first b t m h
@@ -65,49 +66,49 @@ first_byte d b t (bare.Boolean c) h = same_byte b question_mark (heads b questio
 first_byte d b t (bare.Blob s) h = same_byte b colon (heads b colon t h.0 h.1)
 first_byte d b t (bare.Shown s) h = rw (same_byte b percent (heads b percent t _ h.1.1)) h.0
 
-boolean_of : (d : Dialect) (t : List ℕ) (x : Bare) → SpellsLeaf d (question_mark ∷ t) x
+boolean_of : (d : Dialect) (t : List ℕ) (x : Bare) → SpellsBare d (question_mark ∷ t) x
     → begins d x question_mark ≡ true → (v : Bool) × SpellsBoolean (question_mark ∷ t) v
 boolean_of d t (bare.Boolean c) h k = (c, h)
 boolean_of d t x h k = absurd (cc k)
 
 pub boolean_texts : (d : Dialect) → SameTexts (Past (question_mark ∷ []) SpellsBoolean)
-    (Past (question_mark ∷ []) (SpellsLeaf d)) bare.Boolean
+    (Past (question_mark ∷ []) (SpellsBare d)) bare.Boolean
 boolean_texts d = record {
   up = λ t v h. h;
   down = λ t x h. boolean_of d t x h (first_byte d question_mark t x h);
 }
 
-string_of : (d : Dialect) (t : List ℕ) (x : Bare) → SpellsLeaf d (quote ∷ t) x
+string_of : (d : Dialect) (t : List ℕ) (x : Bare) → SpellsBare d (quote ∷ t) x
     → begins d x quote ≡ true → (v : List ℕ) × SpellsString (quote ∷ t) v
 string_of d t (bare.Text s) h k = (s, h)
 string_of d t x h k = absurd (cc k)
 
 pub string_texts : (d : Dialect) → SameTexts (Past (quote ∷ []) SpellsString)
-    (Past (quote ∷ []) (SpellsLeaf d)) bare.Text
+    (Past (quote ∷ []) (SpellsBare d)) bare.Text
 string_texts d = record {
   up = λ t v h. h;
   down = λ t x h. string_of d t x h (first_byte d quote t x h);
 }
 
-blob_of : (d : Dialect) (t : List ℕ) (x : Bare) → SpellsLeaf d (colon ∷ t) x
+blob_of : (d : Dialect) (t : List ℕ) (x : Bare) → SpellsBare d (colon ∷ t) x
     → begins d x colon ≡ true → (v : List ℕ) × SpellsByteSequence (colon ∷ t) v
 blob_of d t (bare.Blob s) h k = (s, h)
 blob_of d t x h k = absurd (cc k)
 
 pub blob_texts : (d : Dialect) → SameTexts (Past (colon ∷ []) SpellsByteSequence)
-    (Past (colon ∷ []) (SpellsLeaf d)) bare.Blob
+    (Past (colon ∷ []) (SpellsBare d)) bare.Blob
 blob_texts d = record {
   up = λ t v h. h;
   down = λ t x h. blob_of d t x h (first_byte d colon t x h);
 }
 
-shown_of : (d : Dialect) (t : List ℕ) (x : Bare) → SpellsLeaf d (percent ∷ t) x
+shown_of : (d : Dialect) (t : List ℕ) (x : Bare) → SpellsBare d (percent ∷ t) x
     → begins d x percent ≡ true → (v : List ℕ) × SpellsDisplayString (percent ∷ t) v
 shown_of d t (bare.Shown s) h k = (s, h.1)
 shown_of d t x h k = absurd (cc k)
 
 pub shown_texts : (d : Dialect) → is_rfc9651 d ≡ true
-    → SameTexts (Past (percent ∷ []) SpellsDisplayString) (Past (percent ∷ []) (SpellsLeaf d))
+    → SameTexts (Past (percent ∷ []) SpellsDisplayString) (Past (percent ∷ []) (SpellsBare d))
     bare.Shown
 shown_texts d e = record {
   up = λ t v h. (e, h);
@@ -115,12 +116,12 @@ shown_texts d e = record {
 }
 
 token_of : (d : Dialect) (b : ℕ) (t : List ℕ) (x : Bare) → is_token_start b ≡ true
-    → SpellsLeaf d (b ∷ t) x → begins d x b ≡ true → (v : List ℕ) × SpellsToken (b ∷ t) v
+    → SpellsBare d (b ∷ t) x → begins d x b ≡ true → (v : List ℕ) × SpellsToken (b ∷ t) v
 token_of d b t (bare.Token s) e h k = (s, h)
 token_of d b t x e h k = absurd (grind arith)
 
 pub token_texts : (d : Dialect) (b : ℕ) → is_token_start b ≡ true
-    → SameTexts (Past (b ∷ []) SpellsToken) (Past (b ∷ []) (SpellsLeaf d)) bare.Token
+    → SameTexts (Past (b ∷ []) SpellsToken) (Past (b ∷ []) (SpellsBare d)) bare.Token
 token_texts d b e = record {
   up = λ t v h. h;
   down = λ t x h. token_of d b t x e h (first_byte d b t x h);
@@ -191,7 +192,7 @@ value_followed v t e = record {
 
 pub boolean_read : (d : Dialect) (v : Bool) (text : List ℕ) (stop : Stop BarePlace)
     → text ≡ (if v then digit_one else digit_zero) ∷ stop.left.now → stop.place ≡ place.Complete
-    → ReadsLeaf d (Past (question_mark ∷ []) (SpellsLeaf d)) text (leaf.Boolean v) stop
+    → ReadsLeaf d (Past (question_mark ∷ []) (SpellsBare d)) text (leaf.Boolean v) stop
 boolean_read d v text stop e p =
     let digit : ℕ = if v then digit_one else digit_zero in
     reads_leaf d _ text (digit ∷ []) (leaf.Boolean v) stop e
@@ -208,7 +209,7 @@ no_digit (b ∷ t) h k = neither b h k
 
 pub boolean_refused : (d : Dialect) (stop : Stop BarePlace) → FirstIs (λ b. b ≢ digit_zero) stop.left.now
     → FirstIs (λ b. b ≢ digit_one) stop.left.now → stop.place ≡ place.QuestionMark
-    → RefusesLeaf d (Past (question_mark ∷ []) (SpellsLeaf d)) stop.left.now stop
+    → RefusesLeaf d (Past (question_mark ∷ []) (SpellsBare d)) stop.left.now stop
 boolean_refused d stop h k p =
     refuses_leaf d _ stop.left.now [] stop refl
     (rw p (same_followed _ _ _ (boolean_texts d) _ _ mark_followed))
@@ -236,17 +237,17 @@ token_followed b run k h = record {
 pub token_read : (d : Dialect) (b : ℕ) (run text token : List ℕ) (l : Leaf) (stop : Stop BarePlace)
     → is_token_start b ≡ true → Every is_in_token run → text ≡ b ∷ (run ++ stop.left.now)
     → Lacks is_in_token stop.left.now → stop.place ≡ place.InToken
-    → leaf_bare l ≡ bare.Token (b ∷ run) → ReadsLeaf d (SpellsLeaf d) text l stop
+    → leaf_bare l ≡ bare.Token (b ∷ run) → ReadsLeaf d (SpellsBare d) text l stop
 token_read d b run text token l stop k h e n p v =
     reads_leaf d _ text (b ∷ run) l stop e
-    (rw p (past_followed (SpellsLeaf d) is_in_token (b ∷ []) run
+    (rw p (past_followed (SpellsBare d) is_in_token (b ∷ []) run
     (same_followed _ _ _ (token_texts d b k) _ _ (token_followed b run k h))))
     (rw p n) (rw v (refl, (k, h))) (rw p refl)
 
 -- Strings
 pub string_followed : (d : Dialect) (s q : List ℕ) (next : ℕ → Bool) → Every is_visible s
     → IsFollowed Tail next q
-    → IsFollowed (Past (quote ∷ []) (SpellsLeaf d)) next (escaped s ++ q)
+    → IsFollowed (Past (quote ∷ []) (SpellsBare d)) next (escaped s ++ q)
 string_followed d s q next h f =
     same_followed _ _ _ (string_texts d) _ _
     (past_followed (Past (quote ∷ []) SpellsString) next (escaped s) q
@@ -254,7 +255,7 @@ string_followed d s q next h f =
 
 string_unspelled : (d : Dialect) (s q : List ℕ) → Every is_visible s
     → ((v : List ℕ) → Tail q v → ⊥) → (x : Bare)
-    → Past (quote ∷ []) (SpellsLeaf d) (escaped s ++ q) x → ⊥
+    → Past (quote ∷ []) (SpellsBare d) (escaped s ++ q) x → ⊥
 string_unspelled d s q h n x k =
     let v = (string_texts d).down (escaped s ++ q) x k in
     let r = (tail_texts s h).down q v.0 v.1 in
@@ -263,7 +264,7 @@ string_unspelled d s q h n x k =
 -- a closed one
 pub string_read : (d : Dialect) (text s : List ℕ) (l : Leaf) (stop : Stop BarePlace) → Every is_visible s
     → text ≡ escaped s ++ quote ∷ stop.left.now → stop.place ≡ place.Complete
-    → leaf_bare l ≡ bare.Text s → ReadsLeaf d (Past (quote ∷ []) (SpellsLeaf d)) text l stop
+    → leaf_bare l ≡ bare.Text s → ReadsLeaf d (Past (quote ∷ []) (SpellsBare d)) text l stop
 string_read d text s l stop h e p v =
     reads_leaf d _ text (escaped s ++ quote ∷ []) l stop
     (e ∙ sym (append_assoc (escaped s) (quote ∷ []) stop.left.now))
@@ -304,7 +305,7 @@ pub string_open : (d : Dialect) (text s : List ℕ) (stop : Stop BarePlace) → 
     → text ≡ escaped s ++ stop.left.now → Lacks is_unescaped stop.left.now
     → FirstIs (λ b. b ≢ quote) stop.left.now → FirstIs (λ b. b ≢ backslash) stop.left.now
     → stop.place ≡ place.InString
-    → RefusesLeaf d (Past (quote ∷ []) (SpellsLeaf d)) text stop
+    → RefusesLeaf d (Past (quote ∷ []) (SpellsBare d)) text stop
 string_open d text s stop h e n q b p =
     refuses_leaf d _ text (escaped s ++ []) stop
     (e ∙ ap (λ t. t ++ stop.left.now) (sym (append-nil (escaped s))))
@@ -332,7 +333,7 @@ no_backslash_tail (c ∷ v) h = by (is_escaped c) refl
 pub string_escape : (d : Dialect) (text s : List ℕ) (stop : Stop BarePlace) → Every is_visible s
     → text ≡ escaped s ++ backslash ∷ stop.left.now → Lacks is_escaped stop.left.now
     → stop.place ≡ place.Backslash
-    → RefusesLeaf d (Past (quote ∷ []) (SpellsLeaf d)) text stop
+    → RefusesLeaf d (Past (quote ∷ []) (SpellsBare d)) text stop
 string_escape d text s stop h e n p =
     refuses_leaf d _ text (escaped s ++ backslash ∷ []) stop
     (e ∙ sym (append_assoc (escaped s) (backslash ∷ []) stop.left.now))
@@ -357,21 +358,21 @@ start_of d (bare.Blob s) b h = grind arith
 start_of d (bare.Shown s) b h = grind arith
 
 number_started : (d : Dialect) (b : ℕ) → is_number_start d b ≡ true
-    → Continues (SpellsLeaf d) (b ∷ [])
+    → Continues (SpellsBare d) (b ∷ [])
 number_started d b h = by (is_signed_start b) refl
   where
-    by : (x : Bool) → is_signed_start b ≡ x → Continues (SpellsLeaf d) (b ∷ [])
+    by : (x : Bool) → is_signed_start b ≡ x → Continues (SpellsBare d) (b ∷ [])
     by true e = signed_started d b e
     by false e =
         date_started d b (let k : (b == at_sign && is_rfc9651 d) ≡ true = rw e at h in k)
 
-pub started : (d : Dialect) (b : ℕ) → is_bare_start d b ≡ true → Continues (SpellsLeaf d) (b ∷ [])
+pub started : (d : Dialect) (b : ℕ) → is_bare_start d b ≡ true → Continues (SpellsBare d) (b ∷ [])
 started d b h =
     by (is_token_start b) refl (b == quote) refl (b == question_mark) refl (is_number_start d b) refl
   where
     by : (x : Bool) → is_token_start b ≡ x → (y : Bool) → (b == quote) ≡ y
         → (z : Bool) → (b == question_mark) ≡ z → (w : Bool) → is_number_start d b ≡ w
-        → Continues (SpellsLeaf d) (b ∷ [])
+        → Continues (SpellsBare d) (b ∷ [])
     by true e y f z g w i = ([], bare.Token (b ∷ []), (refl, (e, tt)))
     by false e true f z g w i = (
       quote ∷ [],
@@ -387,7 +388,7 @@ started d b h =
     by false e false f false g false i =
         coded_started d b (let k : is_coded_start d b ≡ true = rw (e, f, g, i) at h in k)
 
-pub unstarted : (d : Dialect) (x : Bare) → SpellsLeaf d [] x → ⊥
+pub unstarted : (d : Dialect) (x : Bare) → SpellsBare d [] x → ⊥
 unstarted d (bare.Integer n) h = integer_some n h
 unstarted d (bare.Decimal m) h = decimal_some m h
 unstarted d (bare.Date n) h = cons_nil _ _ (sym h.1.1)
@@ -416,11 +417,11 @@ pub no_percent : (d : Dialect) (t more : List ℕ) → t ≡ percent ∷ more �
     → Lacks (is_bare_start d) t
 no_percent d t more e r = rw (e, r) refl
 
-pub some_bare : (d : Dialect) → Continues (SpellsLeaf d) []
+pub some_bare : (d : Dialect) → Continues (SpellsBare d) []
 some_bare d = (quote ∷ quote ∷ [], bare.Text [], (refl, tt))
 
 pub bare_refused : (d : Dialect) (stop : Stop BarePlace) → Lacks (is_bare_start d) stop.left.now
-    → stop.place ≡ place.Start → RefusesLeaf d (SpellsLeaf d) stop.left.now stop
+    → stop.place ≡ place.Start → RefusesLeaf d (SpellsBare d) stop.left.now stop
 bare_refused d stop n p =
     refuses_leaf d _ stop.left.now [] stop refl
     (rw p (record {

@@ -11,7 +11,8 @@ use Rattle.sf_value.specs.Grammar.Words.{Every}
 use Rattle.sf_value.specs.Grammar.ByteSequences.{is_base64}
 use Rattle.sf_value.specs.Grammar.ByteSequences.{Sextets, SpellsByteSequence}
 use Rattle.sf_scan.specs.Blobs.{in_blob, padded, place_at, values, more_values, octets, blob_bytes}
-use Rattle.sf_scan.specs.Leaves.{SpellsLeaf, leaf_bare}
+use Rattle.sf_value.specs.Grammar.BareItems.{SpellsBare}
+use Rattle.sf_scan.specs.Leaves.{leaf_bare}
 use Rattle.sf_scan.specs.Stops.{Past, Lacks, FirstIs, IsFollowed}
 use Rattle.sf_scan.specs.Scans.{ReadsLeaf, RefusesLeaf}
 use Rattle.sf_scan.specs.declared.blob_place.BlobPlace.{BlobPlace}
@@ -53,7 +54,7 @@ lives (At blob.Padded) = (colon ∷ [], (refl, refl))
 lives Closed = ([], refl)
 
 pub blob_followed : (d : Dialect) (s : State) (p : List ℕ) → Path (At blob.Whole) p s
-    → IsFollowed (Past (colon ∷ []) (SpellsLeaf d)) (next s) p
+    → IsFollowed (Past (colon ∷ []) (SpellsBare d)) (next s) p
 blob_followed d s p h = same_followed _ _ _ (blob_texts d) _ _
     (leads_followed next after final _ (At blob.Whole) s p blob_recognized h (lives s)
     (λ b n. lives (after s b)))
@@ -143,7 +144,7 @@ reached_pad text left more p q r e k =
 pub blob_refused : (d : Dialect) (text : List ℕ) (p : BlobPlace) (stop : Stop BarePlace)
     → Reached text stop.left.now p → stop.place ≡ place.Blob p
     → Lacks (in_blob p) stop.left.now
-    → RefusesLeaf d (Past (colon ∷ []) (SpellsLeaf d)) text stop
+    → RefusesLeaf d (Past (colon ∷ []) (SpellsBare d)) text stop
 blob_refused d text p stop r e n =
     let w = r.went in
     refuses_leaf d _ text w.part stop w.split (rw e (blob_followed d (At p) w.part w.path)) (rw e n)
@@ -222,7 +223,7 @@ pub blob_read : (d : Dialect) (text left inside : List ℕ) (p : BlobPlace) (l :
     → Reached text left p → Closes p left stop.left.now
     → inside ≡ take (length text - length left) text → stop.place ≡ place.Complete
     → leaf_bare l ≡ bare.Blob (blob_bytes inside)
-    → ReadsLeaf d (Past (colon ∷ []) (SpellsLeaf d)) text l stop
+    → ReadsLeaf d (Past (colon ∷ []) (SpellsBare d)) text l stop
 blob_read d text left inside p l stop r c i k v =
     reads_leaf d _ text went.part l stop went.split
     (rw k (blob_followed d Closed went.part went.path)) (rw k (lacks_none stop.left.now))

@@ -85,9 +85,6 @@ character_text p x t g l h =
     (k.0, subst (λ s. Text s t) (sym k.1) h)
 
 -- the end of a Byte Sequence: at most this many =, and the colon
-closed_text : Text Closed []
-closed_text = refl
-
 pads_text : (p : BlobPlace) (n : ℕ) (t : List ℕ) → Pads n t
     → ((m : ℕ) → m ≤ n → Text (At p) (replicate m equals ++ colon ∷ [])) → Text (At p) t
 pads_text p n t (m, l, e) f = subst (Text (At p)) (sym e) (f m l)

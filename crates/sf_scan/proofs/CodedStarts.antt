@@ -7,15 +7,15 @@ use Rattle.sf_value.specs.declared.dialect.Dialect.{Dialect}
 use Rattle.sf_value.specs.declared.value.Bare.TheVariants as bare
 use Rattle.sf_value.specs.Grammar.Dialects.{is_rfc9651}
 use Rattle.sf_value.specs.Grammar.Lines.{Continues}
-use Rattle.sf_scan.specs.Leaves.{SpellsLeaf}
+use Rattle.sf_value.specs.Grammar.BareItems.{SpellsBare}
 use Rattle.sf_scan.specs.Places.{is_coded_start}
 
 -- each of them begins a bare item
 pub coded_started : (d : Dialect) (b : ℕ) → is_coded_start d b ≡ true
-    → Continues (SpellsLeaf d) (b ∷ [])
+    → Continues (SpellsBare d) (b ∷ [])
 coded_started d b h = by (b == colon) refl
   where
-    by : (x : Bool) → (b == colon) ≡ x → Continues (SpellsLeaf d) (b ∷ [])
+    by : (x : Bool) → (b == colon) ≡ x → Continues (SpellsBare d) (b ∷ [])
     by true e = (
       colon ∷ [],
       bare.Blob [],

@@ -12,7 +12,8 @@ use Rattle.sf_value.specs.Grammar.Dialects.{is_rfc9651}
 use Rattle.sf_value.specs.Grammar.Lines.{Continues}
 use Rattle.sf_value.specs.Grammar.Numbers.{signed, value_from, AreDigits}
 use Rattle.sf_value.specs.Grammar.Numbers.{SpellsInteger}
-use Rattle.sf_scan.specs.Leaves.{SpellsLeaf, leaf_bare}
+use Rattle.sf_value.specs.Grammar.BareItems.{SpellsBare}
+use Rattle.sf_scan.specs.Leaves.{leaf_bare}
 use Rattle.sf_scan.specs.NumberPlaces.{is_signed_start}
 use Rattle.sf_scan.specs.NumberTexts.{DateAfterAt, DateAfterSign, TakesDigits}
 use Rattle.sf_scan.specs.NumberTexts.{BeginsDigit}
@@ -114,20 +115,20 @@ date_digit_texts b i = record { up = up; down = down }
     down t (bare.Date n) h = (bare.Date n, integer_at_digit b t n i h)
     down t x h = absurd h
 
-date_of : (d : Dialect) (t : List ℕ) (x : Bare) → SpellsLeaf d (at_sign ∷ t) x
+date_of : (d : Dialect) (t : List ℕ) (x : Bare) → SpellsBare d (at_sign ∷ t) x
     → begins d x at_sign ≡ true → DateAfterAt t x
 date_of d t (bare.Date n) h k =
     subst (λ s. SpellsInteger s n) (sym (tails at_sign at_sign t h.1.0 h.1.1)) h.1.2
 date_of d t x h k = absurd (cc k)
 
 pub at_texts : (d : Dialect) → is_rfc9651 d ≡ true
-    → SameTexts DateAfterAt (Past (at_sign ∷ []) (SpellsLeaf d)) (λ x. x)
+    → SameTexts DateAfterAt (Past (at_sign ∷ []) (SpellsBare d)) (λ x. x)
 at_texts d e = record {
   up = up;
   down = λ t x h. (x, date_of d t x h (first_byte d at_sign t x h));
 }
   where
-    up : (t : List ℕ) (x : Bare) → DateAfterAt t x → SpellsLeaf d (at_sign ∷ t) x
+    up : (t : List ℕ) (x : Bare) → DateAfterAt t x → SpellsBare d (at_sign ∷ t) x
     up t (bare.Date n) h = (e, (t, refl, h))
     up t x h = absurd h
 
@@ -148,9 +149,9 @@ date_digit_scans d text more value r g h =
 
 pub date_scans : (d : Dialect) (text more : List ℕ) (b : ℕ) (r : Result (Leaf × Stop BarePlace) (Stop BarePlace))
     → text ≡ b ∷ more → (b == at_sign && is_rfc9651 d) ≡ true → ScansLeaf d DateAfterAt more r
-    → ScansLeaf d (SpellsLeaf d) text r
+    → ScansLeaf d (SpellsBare d) text r
 date_scans d text more b r e k h =
     let j = and_parts (b == at_sign) (is_rfc9651 d) k in
-    past_scans d (SpellsLeaf d) (at_sign ∷ []) more text r
+    past_scans d (SpellsBare d) (at_sign ∷ []) more text r
     (e ∙ ap (λ x. x ∷ more) (eqb-true b at_sign j.0))
     (same_scans d DateAfterAt _ more r (at_texts d j.1) h)

@@ -1,17 +1,17 @@
 -- Members of Dictionaries: a key, and what comes after it.
 use Rattle.std.proofs.Common.{◌≡◌, ◌≢◌, ℕ, Bool, true, false, List, [], ◌∷◌, ◌++◌, refl, sym, ◌∙◌}
-use Rattle.std.proofs.Common.{◌⊎◌, inl, inr, ◌==◌, ◌||◌, not, subst, append-nil, arith, eqb-true}
-use Rattle.sf_value.specs.Ascii.{tab, space, close_bracket, comma, equals, semicolon}
+use Rattle.std.proofs.Common.{◌⊎◌, inl, inr, ◌==◌, ◌||◌, subst, append-nil, arith, eqb-true}
+use Rattle.sf_value.specs.Ascii.{equals, semicolon}
 use Rattle.sf_value.specs.declared.dialect.Dialect.{Dialect}
 use Rattle.sf_value.specs.declared.value.Bare.{Bare}
-use Rattle.sf_value.specs.Grammar.Classes.{is_one_of, is_key_start, is_in_key}
+use Rattle.sf_value.specs.Grammar.Classes.{is_key_start, is_in_key}
 use Rattle.sf_value.specs.Grammar.Lines.{Continues}
 use Rattle.sf_value.specs.Grammar.Pairs.{Pairs}
 use Rattle.sf_value.specs.Grammar.Tokens.{IsKey}
 use Rattle.sf_value.specs.Grammar.Words.{Every, IsWord}
 use Rattle.sf_value.proofs.Runs.{every_append}
 use Rattle.sf_scan.specs.Entries.{SpellsKey, SpellsKeyed, SpellsRawEntry, raw_flag}
-use Rattle.sf_scan.specs.Leaves.{SpellsLeaf}
+use Rattle.sf_value.specs.Grammar.BareItems.{SpellsBare}
 use Rattle.sf_scan.specs.Lifts.{Lifts}
 use Rattle.sf_scan.specs.Members.{RawMember, SpellsRawMember}
 use Rattle.sf_scan.specs.Parameters.{SpellsRawBy}
@@ -22,7 +22,7 @@ use Rattle.sf_scan.proofs.Enclosed.{Begun, begun_first}
 use Rattle.sf_scan.proofs.Items.{raw_starts, one_raw, no_semicolon}
 use Rattle.sf_scan.proofs.Languages.{SameTexts, Apart}
 use Rattle.sf_scan.proofs.Lifts.{lifts_past, lifts_then, lifts_first}
-use Rattle.sf_scan.proofs.Lists.{heads, tails, cons_nil}
+use Rattle.sf_scan.proofs.Lists.{heads, tails, cons_nil, no_follow, true_false}
 use Rattle.sf_scan.proofs.Members.{leaf_member_apart, leaf_member_some}
 use Rattle.sf_scan.proofs.Sequences.{or_left, or_right, or_cases, lacks_both, refused_followed}
 use Rattle.sf_scan.proofs.Sequences.{then_reads, then_refuses_after, then_ends, then_apart}
@@ -32,27 +32,8 @@ use Rattle.sf_scan.proofs.Starts.{raw_apart}
 abbrev pub ends_key : ℕ → Bool
 ends_key b = is_follow b || b == equals
 
-true_false : true ≡ false → ⊥
-true_false e = cc
-
 follow_not_in_key : (b : ℕ) → is_follow b ≡ true → is_in_key b ≡ false
-follow_not_in_key b f =
-    among (tab ∷ space ∷ close_bracket ∷ comma ∷ semicolon ∷ []) (refl, (refl, (refl, (refl, (refl, tt))))) f
-  where
-    outside : (c : ℕ) → not (is_in_key c) ≡ true → b ≡ c → is_in_key b ≡ false
-    outside c n e = rw e (by (is_in_key c) n)
-      where
-        by : (x : Bool) → not x ≡ true → x ≡ false
-        by true n = sym n
-        by false n = refl
-
-    among : (cs : List ℕ) → Every (λ c. not (is_in_key c)) cs → is_one_of cs b ≡ true
-        → is_in_key b ≡ false
-    among [] n h = absurd (true_false (sym h))
-    among (c ∷ cs) n h = elim (or_cases (b == c) (is_one_of cs b) h) [
-      | inl k ↦ outside c n.0 (eqb-true b c k)
-      | inr k ↦ among cs n.1 k
-    ]
+follow_not_in_key = no_follow is_in_key (refl, (refl, (refl, (refl, (refl, tt)))))
 
 not_in_key : (b : ℕ) → ends_key b ≡ true → is_in_key b ≡ true → ⊥
 not_in_key b f h = elim (or_cases (is_follow b) (b == equals) f) [
@@ -288,19 +269,19 @@ module _ (B : List ℕ → Bare → Type 0) (apart : Apart B is_follow)
             differs : (b : ℕ) → b ≢ equals → (b == equals) ≡ false
             differs b h = grind arith
 
--- with the bare items that are read so far
-pub leaf_entry_apart : (d : Dialect) → Apart (SpellsRawEntry (SpellsLeaf d)) is_after
+-- with the bare items of a dialect
+pub leaf_entry_apart : (d : Dialect) → Apart (SpellsRawEntry (SpellsBare d)) is_after
 leaf_entry_apart d =
-    entry_apart (SpellsLeaf d) (bare_apart d) (leaf_member_apart d) (leaf_member_some d)
+    entry_apart (SpellsBare d) (bare_apart d) (leaf_member_apart d) (leaf_member_some d)
 
 pub leaf_entry_begun : (d : Dialect) (t : List ℕ) (p : List ℕ × RawMember)
-    → SpellsRawEntry (SpellsLeaf d) t p → Begun t
+    → SpellsRawEntry (SpellsBare d) t p → Begun t
 leaf_entry_begun d =
-    entry_begun (SpellsLeaf d) (bare_apart d) (leaf_member_apart d) (leaf_member_some d)
+    entry_begun (SpellsBare d) (bare_apart d) (leaf_member_apart d) (leaf_member_some d)
 
-pub leaf_entry_start : (d : Dialect) → IsFollowed (SpellsRawEntry (SpellsLeaf d)) is_key_start []
+pub leaf_entry_start : (d : Dialect) → IsFollowed (SpellsRawEntry (SpellsBare d)) is_key_start []
 leaf_entry_start d =
-    entry_start (SpellsLeaf d) (bare_apart d) (leaf_member_apart d) (leaf_member_some d)
+    entry_start (SpellsBare d) (bare_apart d) (leaf_member_apart d) (leaf_member_some d)
 
-pub leaf_entry_some : (d : Dialect) → Continues (SpellsRawEntry (SpellsLeaf d)) []
+pub leaf_entry_some : (d : Dialect) → Continues (SpellsRawEntry (SpellsBare d)) []
 leaf_entry_some d = (leaf_entry_start d).viable

@@ -14,7 +14,7 @@ use Rattle.sf_value.specs.Grammar.ByteSequences.{SpellsByteSequence}
 use Rattle.sf_value.specs.Grammar.DisplayStrings.{SpellsDisplayString}
 use Rattle.sf_value.proofs.Runs.{every_append}
 use Rattle.sf_value.proofs.Words.{every_map}
-use Rattle.sf_scan.specs.Leaves.{SpellsLeaf}
+use Rattle.sf_value.specs.Grammar.BareItems.{SpellsBare}
 use Rattle.sf_scan.specs.NumberPlaces.{is_signed_start}
 use Rattle.sf_scan.specs.NumberTexts.{NumberAfterSign, DateAfterAt}
 use Rattle.sf_scan.specs.Places.{is_follow}
@@ -36,11 +36,11 @@ use Rattle.sf_scan.proofs.ShownStops.{shown_recognized}
 -- the bytes that come next, of which none may follow
 record Next (d : Dialect) (a : List ℕ) : Type 0 where
   next : ℕ → Bool
-  only : (b : ℕ) → Continues (SpellsLeaf d) (a ++ b ∷ []) → next b ≡ true
+  only : (b : ℕ) → Continues (SpellsBare d) (a ++ b ∷ []) → next b ≡ true
   not_follow : (b : ℕ) → is_follow b ≡ true → next b ≡ false
 
 -- none
-next_none : (d : Dialect) (a : List ℕ) → ((b : ℕ) → Continues (SpellsLeaf d) (a ++ b ∷ []) → ⊥)
+next_none : (d : Dialect) (a : List ℕ) → ((b : ℕ) → Continues (SpellsBare d) (a ++ b ∷ []) → ⊥)
     → Next d a
 next_none d a h = record {
   next = λ b. false;
@@ -48,7 +48,7 @@ next_none d a h = record {
   not_follow = λ b f. refl;
 }
 
-followed_none : (d : Dialect) (a : List ℕ) → IsFollowed (SpellsLeaf d) (λ b. false) a → Next d a
+followed_none : (d : Dialect) (a : List ℕ) → IsFollowed (SpellsBare d) (λ b. false) a → Next d a
 followed_none d a f =
     next_none d a (λ b c. let z : false ≡ true = f.only b c in cc)
 
@@ -87,7 +87,7 @@ not_numeric = no_follow is_numeric (refl, (refl, (refl, (refl, (refl, tt)))))
 
 -- after a digit or a minus sign come only they
 signed_only : (d : Dialect) (b : ℕ) (t : List ℕ) (c : ℕ) (u : List ℕ) (x : Bare)
-    → is_signed_start b ≡ true → SpellsLeaf d (((b ∷ t) ++ c ∷ []) ++ u) x → is_numeric c ≡ true
+    → is_signed_start b ≡ true → SpellsBare d (((b ∷ t) ++ c ∷ []) ++ u) x → is_numeric c ≡ true
 signed_only d b t c u x i h = by (is_digit b) refl
   where
     by : (z : Bool) → is_digit b ≡ z → is_numeric c ≡ true
@@ -97,7 +97,7 @@ signed_only d b t c u x i h = by (is_digit b) refl
     by false e =
         let m : (b == minus) ≡ true = rw e at i in
         let k = (minus_texts d).down ((t ++ c ∷ []) ++ u) x
-        (subst (λ y. SpellsLeaf d (y ∷ ((t ++ c ∷ []) ++ u)) x) (eqb-true b minus m) h) in
+        (subst (λ y. SpellsBare d (y ∷ ((t ++ c ∷ []) ++ u)) x) (eqb-true b minus m) h) in
         every_at is_numeric t c u (after_sign true _ k.0 k.1)
 
 next_signed : (d : Dialect) (b : ℕ) (t : List ℕ) → is_signed_start b ≡ true → Next d (b ∷ t)
@@ -133,7 +133,7 @@ next_token : (d : Dialect) (s : List ℕ) → IsWord is_token_start is_in_token 
 next_token d [] w = absurd w
 next_token d (b ∷ s) w = record {
   next = is_in_token;
-  only = (past_followed (SpellsLeaf d) is_in_token (b ∷ []) s
+  only = (past_followed (SpellsBare d) is_in_token (b ∷ []) s
       (same_followed _ _ _ (token_texts d b w.0) _ _ (token_followed b s w.0 w.1))).only;
   not_follow = not_in_token;
 }
@@ -162,18 +162,18 @@ next_shown d t s e h = next_none d (percent ∷ t) (λ b c.
     (shown_recognized.spells t s h)
     (shown_recognized.spells ((t ++ b ∷ []) ++ c.0) k.0 k.1))
 
-next_of : (d : Dialect) (a : List ℕ) (x : Bare) → SpellsLeaf d a x → Next d a
+next_of : (d : Dialect) (a : List ℕ) (x : Bare) → SpellsBare d a x → Next d a
 next_of d a (bare.Integer n) h = next_integer d a n h
 next_of d a (bare.Decimal m) h = next_decimal d a m h
 next_of d a (bare.Date n) h = subst (Next d) (sym h.1.1) (next_date d h.1.0 h.0)
 next_of d a (bare.Text s) h = followed_none d a
-    (subst (IsFollowed (SpellsLeaf d) (λ b. false)) (sym h.0)
-    (past_followed (SpellsLeaf d) _ (quote ∷ []) _
+    (subst (IsFollowed (SpellsBare d) (λ b. false)) (sym h.0)
+    (past_followed (SpellsBare d) _ (quote ∷ []) _
     (string_followed d s (quote ∷ []) _ h.1 closed_followed)))
 next_of d a (bare.Token s) h = subst (Next d) (sym h.0) (next_token d s h.1)
 next_of d a (bare.Boolean c) h = followed_none d a
-    (subst (IsFollowed (SpellsLeaf d) (λ b. false)) (sym h)
-    (past_followed (SpellsLeaf d) _ (question_mark ∷ []) _
+    (subst (IsFollowed (SpellsBare d) (λ b. false)) (sym h)
+    (past_followed (SpellsBare d) _ (question_mark ∷ []) _
     (same_followed _ _ _ (boolean_texts d) _ _ (value_followed c _ refl))))
 next_of d a (bare.Blob s) h =
     subst (Next d) (sym h.1) (next_blob d h.0 s (subst (λ t. SpellsByteSequence t s) h.1 h))
@@ -181,7 +181,7 @@ next_of d a (bare.Shown s) (r, h) =
     subst (Next d) (sym h.1)
     (next_shown d (quote ∷ h.0) s r (subst (λ t. SpellsDisplayString t s) h.1 h))
 
-pub bare_apart : (d : Dialect) → Apart (SpellsLeaf d) is_follow
+pub bare_apart : (d : Dialect) → Apart (SpellsBare d) is_follow
 bare_apart d a x b h f c =
     let n = next_of d a x h in
     let z : true ≡ false = sym (n.only b c) ∙ n.not_follow b f in cc

@@ -26,15 +26,6 @@ use Rattle.sf_scan.specs.Parameters.{SpellsRawBy}
 use Rattle.sf_scan.specs.Series.{SpellsRawList}
 use Rattle.sf_scan.specs.Settled.{Settles, each_of, item_of, inner_of, member_of, entry_of}
 use Rattle.sf_scan.specs.Settled.{item_field_of, list_field_of, dict_field_of}
-use Rattle.sf_scan.proofs.Languages.{SameTexts}
-
--- the same texts
-pub settles_texts : {V W : Type 0} (L : List ℕ → V → Type 0) (M : List ℕ → W → Type 0) (of : V → W)
-    → Settles L M of → SameTexts L M of
-settles_texts L M of s = record {
-  up = s.up;
-  down = λ t w h. let k = s.down t w h in (k.0, k.2);
-}
 
 -- series of members
 module _ {V W : Type 0} (L : List ℕ → V → Type 0) (M : List ℕ → W → Type 0) (of : V → W)

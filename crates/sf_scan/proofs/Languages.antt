@@ -108,13 +108,3 @@ cut L F apart a u b v x h k f e = elim (two_parts a u b v e) [
       (continues_before L (b ++ s.byte ∷ []) s.more
       (subst (Continues L) (s.part ∙ sym (append_assoc b (s.byte ∷ []) s.more)) h)))
 ]
-
--- the same prefixes with a test that is the same
-pub followed_as : {V : Type 0} (L : List ℕ → V → Type 0) (next other : ℕ → Bool) (p : List ℕ)
-    → ((b : ℕ) → other b ≡ true → next b ≡ true) → ((b : ℕ) → next b ≡ true → other b ≡ true)
-    → IsFollowed L next p → IsFollowed L other p
-followed_as L next other p f g h = record {
-  viable = h.viable;
-  may = λ b e. h.may b (f b e);
-  only = λ b e. g b (h.only b e);
-}

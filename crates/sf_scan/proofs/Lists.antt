@@ -92,7 +92,7 @@ front_before text part rest e = front_of text part rest _ e (before text part re
         let k = ap length e in omega (arith, k, length-append part rest)
 
 -- what holds of each byte of a list holds of one of them
-pub each_of : (p : ℕ → Bool) (cs : List ℕ) → Every p cs → (b : ℕ) → is_one_of cs b ≡ true
+each_of : (p : ℕ → Bool) (cs : List ℕ) → Every p cs → (b : ℕ) → is_one_of cs b ≡ true
     → p b ≡ true
 each_of p [] h b k = absurd (let f : false ≡ true = k in cc)
 each_of p (c ∷ cs) h b k = by (b == c) refl (each_of p cs h.1 b)
@@ -101,11 +101,19 @@ each_of p (c ∷ cs) h b k = by (b == c) refl (each_of p cs h.1 b)
     by true e rest = ap p (eqb-true b c e) ∙ h.0
     by false e rest = rest (rw e at k)
 
-pub not_true : (x : Bool) → not x ≡ true → x ≡ false
+not_true : (x : Bool) → not x ≡ true → x ≡ false
 not_true true e = sym e
 not_true false e = refl
+
+-- a test that fails at each byte of a list
+pub among : (p : ℕ → Bool) (cs : List ℕ) → Every (λ b. not (p b)) cs → (b : ℕ)
+    → is_one_of cs b ≡ true → p b ≡ false
+among p cs h b k = not_true (p b) (each_of (λ c. not (p c)) cs h b k)
 
 -- bytes that are none of those that may follow a bare item
 pub no_follow : (p : ℕ → Bool) → Every (λ b. not (p b)) follow → (b : ℕ) → is_follow b ≡ true
     → p b ≡ false
-no_follow p h b f = not_true (p b) (each_of (λ b. not (p b)) follow h b f)
+no_follow p = among p follow
+
+pub true_false : true ≡ false → ⊥
+true_false e = cc

@@ -18,7 +18,7 @@ use Rattle.sf_scan.specs.declared.place.BarePlace.TheVariants as bare_place
 use Rattle.sf_scan.specs.declared.item.ItemPlace.{ItemPlace}
 use Rattle.sf_scan.specs.declared.member.MemberPlace.{MemberPlace}
 use Rattle.sf_scan.specs.declared.member.MemberPlace.TheVariants as place
-use Rattle.sf_scan.specs.Leaves.{SpellsLeaf}
+use Rattle.sf_value.specs.Grammar.BareItems.{SpellsBare}
 use Rattle.sf_value.specs.Grammar.Lines.{Continues}
 use Rattle.sf_scan.proofs.Following.{bare_apart}
 use Rattle.sf_scan.proofs.Alternatives.{right_texts, left_lifts, either_followed, either_apart}
@@ -148,20 +148,20 @@ module _ (B : List ℕ → Bare → Type 0) (apart : Apart B is_follow)
         open_still = rw f refl;
       }
 
--- with the bare items that are read so far
+-- with the bare items of a dialect
 pub leaf_member_start : (d : Dialect)
-    → IsFollowed (SpellsRawMember (SpellsLeaf d)) (in_member d place.Start) []
+    → IsFollowed (SpellsRawMember (SpellsBare d)) (in_member d place.Start) []
 leaf_member_start d =
-    member_start (SpellsLeaf d) (bare_apart d) (bare_begun d) d (bare_start d) (bare_no_bracket d)
+    member_start (SpellsBare d) (bare_apart d) (bare_begun d) d (bare_start d) (bare_no_bracket d)
 
-pub leaf_member_apart : (d : Dialect) → Apart (SpellsRawMember (SpellsLeaf d)) is_after
+pub leaf_member_apart : (d : Dialect) → Apart (SpellsRawMember (SpellsBare d)) is_after
 leaf_member_apart d =
-    member_apart (SpellsLeaf d) (bare_apart d) (bare_begun d) d (bare_start d) (bare_no_bracket d)
+    member_apart (SpellsBare d) (bare_apart d) (bare_begun d) d (bare_start d) (bare_no_bracket d)
 
 pub leaf_member_begun : (d : Dialect) (t : List ℕ) (v : RawMember)
-    → SpellsRawMember (SpellsLeaf d) t v → Begun t
+    → SpellsRawMember (SpellsBare d) t v → Begun t
 leaf_member_begun d =
-    member_begun (SpellsLeaf d) (bare_apart d) (bare_begun d) d (bare_start d) (bare_no_bracket d)
+    member_begun (SpellsBare d) (bare_apart d) (bare_begun d) d (bare_start d) (bare_no_bracket d)
 
-pub leaf_member_some : (d : Dialect) → Continues (SpellsRawMember (SpellsLeaf d)) []
+pub leaf_member_some : (d : Dialect) → Continues (SpellsRawMember (SpellsBare d)) []
 leaf_member_some d = (leaf_member_start d).viable

@@ -11,7 +11,7 @@ use Rattle.sf_value.specs.Grammar.Words.{Every}
 use Rattle.sf_value.specs.Grammar.Lines.{Continues}
 use Rattle.sf_value.specs.Grammar.Numbers.{sign, signed, value_from, AreDigits}
 use Rattle.sf_value.specs.Grammar.Numbers.{SpellsInteger, SpellsDecimal}
-use Rattle.sf_scan.specs.Leaves.{SpellsLeaf}
+use Rattle.sf_value.specs.Grammar.BareItems.{SpellsBare}
 use Rattle.sf_scan.specs.NumberPlaces.{is_signed_start}
 use Rattle.sf_scan.proofs.Lists.{heads, cons_nil}
 
@@ -87,11 +87,11 @@ signed_continues b h = by (is_digit b) refl
         )
 
 pub signed_started : (d : Dialect) (b : ℕ) → is_signed_start b ≡ true
-    → Continues (SpellsLeaf d) (b ∷ [])
+    → Continues (SpellsBare d) (b ∷ [])
 signed_started d b h = let c = signed_continues b h in (c.0, bare.Integer c.1, c.2)
 
 pub date_started : (d : Dialect) (b : ℕ) → (b == at_sign && is_rfc9651 d) ≡ true
-    → Continues (SpellsLeaf d) (b ∷ [])
+    → Continues (SpellsBare d) (b ∷ [])
 date_started d b h =
     let k = and_parts (b == at_sign) (is_rfc9651 d) h in (
       digit_zero ∷ [],

@@ -13,7 +13,8 @@ use Rattle.sf_value.specs.Grammar.Numbers.{sign, signed, value_from, thousandths
 use Rattle.sf_value.specs.Grammar.Numbers.{SpellsInteger}
 use Rattle.sf_value.specs.Grammar.Words.{Every}
 use Rattle.sf_value.proofs.Words.{every_push}
-use Rattle.sf_scan.specs.Leaves.{SpellsLeaf, leaf_bare}
+use Rattle.sf_value.specs.Grammar.BareItems.{SpellsBare}
+use Rattle.sf_scan.specs.Leaves.{leaf_bare}
 use Rattle.sf_scan.specs.NumberPlaces.{in_number, is_point_after, is_signed_start, is_number_start}
 use Rattle.sf_scan.specs.NumberTexts.{IntegerAfterSign, NumberAfterSign}
 use Rattle.sf_scan.specs.NumberTexts.{NumberAfterPoint, TakesDigits}
@@ -294,7 +295,7 @@ integer_at_digit b t n i h =
     let value = h.4 in
     (subst (AreDigits 1 15 0) (sym same) h.3, cc)
 
-number_after_minus : (d : Dialect) (t : List ℕ) (x : Bare) → SpellsLeaf d (minus ∷ t) x
+number_after_minus : (d : Dialect) (t : List ℕ) (x : Bare) → SpellsBare d (minus ∷ t) x
     → begins d x minus ≡ true → NumberAfterSign true t x
 number_after_minus d t (bare.Integer n) h k = integer_after_minus t n h
 number_after_minus d t (bare.Decimal m) h k =
@@ -305,7 +306,7 @@ number_after_minus d t (bare.Decimal m) h k =
 number_after_minus d t x h k = absurd (cc k)
 
 number_at_digit : (d : Dialect) (b : ℕ) (t : List ℕ) (x : Bare) → is_digit b ≡ true
-    → SpellsLeaf d (b ∷ t) x → begins d x b ≡ true → NumberAfterSign false (b ∷ t) x
+    → SpellsBare d (b ∷ t) x → begins d x b ≡ true → NumberAfterSign false (b ∷ t) x
 number_at_digit d b t (bare.Integer n) i h k = integer_at_digit b t n i h
 number_at_digit d b t (bare.Decimal m) i h k =
     let s = sign_digit h.0 b t h.1 (point ∷ h.2) i h.3 in
@@ -315,20 +316,20 @@ number_at_digit d b t (bare.Decimal m) i h k =
 number_at_digit d b t x i h k = absurd (grind arith)
 
 spells_number : (d : Dialect) (neg : Bool) (t : List ℕ) (x : Bare) → NumberAfterSign neg t x
-    → SpellsLeaf d (sign neg ++ t) x
+    → SpellsBare d (sign neg ++ t) x
 spells_number d neg t (bare.Integer n) h = (neg, t, refl, h.0, h.1)
 spells_number d neg t (bare.Decimal m) h =
     (neg, h.0, h.1, ap (λ y. sign neg ++ y) h.2, h.3, h.4.0, h.4.1)
 spells_number d neg t x h = absurd h
 
-pub minus_texts : (d : Dialect) → SameTexts (NumberAfterSign true) (Past (minus ∷ []) (SpellsLeaf d)) (λ x. x)
+pub minus_texts : (d : Dialect) → SameTexts (NumberAfterSign true) (Past (minus ∷ []) (SpellsBare d)) (λ x. x)
 minus_texts d = record {
   up = λ t x h. spells_number d true t x h;
   down = λ t x h. (x, number_after_minus d t x h (first_byte d minus t x h));
 }
 
 pub digit_texts : (d : Dialect) (b : ℕ) → is_digit b ≡ true
-    → SameTexts (Past (b ∷ []) (NumberAfterSign false)) (Past (b ∷ []) (SpellsLeaf d)) (λ x. x)
+    → SameTexts (Past (b ∷ []) (NumberAfterSign false)) (Past (b ∷ []) (SpellsBare d)) (λ x. x)
 digit_texts d b i = record {
   up = λ t x h. spells_number d false (b ∷ t) x h;
   down = λ t x h. (x, number_at_digit d b t x i h (first_byte d b t x h));
@@ -336,16 +337,16 @@ digit_texts d b i = record {
 
 pub minus_scans : (d : Dialect) (text more : List ℕ) (r : Result (Leaf × Stop BarePlace) (Stop BarePlace))
     → text ≡ minus ∷ more → ScansLeaf d (NumberAfterSign true) more r
-    → ScansLeaf d (SpellsLeaf d) text r
+    → ScansLeaf d (SpellsBare d) text r
 minus_scans d text more r e h =
-    past_scans d (SpellsLeaf d) (minus ∷ []) more text r e
+    past_scans d (SpellsBare d) (minus ∷ []) more text r e
     (same_scans d (NumberAfterSign true) _ more r (minus_texts d) h)
 
 pub digit_scans : (d : Dialect) (text more : List ℕ) (b : ℕ) (r : Result (Leaf × Stop BarePlace) (Stop BarePlace))
     → text ≡ b ∷ more → is_digit b ≡ true → ScansLeaf d (NumberAfterSign false) text r
-    → ScansLeaf d (SpellsLeaf d) text r
+    → ScansLeaf d (SpellsBare d) text r
 digit_scans d text more b r e i h =
-    begun_scans d (NumberAfterSign false) (SpellsLeaf d) b more text r e
+    begun_scans d (NumberAfterSign false) (SpellsBare d) b more text r e
     (is_integer false (b ∷ []) (i, tt) (omega arith) (omega arith)) (digit_texts d b i) h
 
 -- no number begins

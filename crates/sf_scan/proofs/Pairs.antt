@@ -19,9 +19,6 @@ use Rattle.sf_scan.proofs.Lists.{heads, tails, cons_nil, no_follow}
 key_no_space : (b : ℕ) → is_key_start b ≡ true → is_sp b ≡ false
 key_no_space b h = grind arith
 
-equals_not_in_key : is_in_key equals ≡ false
-equals_not_in_key = refl
-
 module _ (B : List ℕ → Bare → Type 0) where
   -- a key may have spaces before it, and more before these
   pub gap_texts : (gap : List ℕ) → Every is_sp gap

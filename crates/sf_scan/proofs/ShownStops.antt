@@ -18,7 +18,8 @@ use Rattle.sf_scan.specs.Characters.{char_step, can_begin, low_digits}
 use Rattle.sf_scan.specs.DisplayStrings.{in_between, is_first_digit, in_shown}
 use Rattle.sf_scan.specs.DisplayStrings.{digit_or_zero, escaped_byte, shown_bytes, PastUnencoded}
 use Rattle.sf_scan.specs.DisplayStrings.{BeginsDigit, BeginsByte}
-use Rattle.sf_scan.specs.Leaves.{SpellsLeaf, leaf_bare}
+use Rattle.sf_value.specs.Grammar.BareItems.{SpellsBare}
+use Rattle.sf_scan.specs.Leaves.{leaf_bare}
 use Rattle.sf_scan.specs.Stops.{Past, Lacks, FirstIs, IsFollowed}
 use Rattle.sf_scan.specs.Scans.{ReadsLeaf, RefusesLeaf}
 use Rattle.sf_scan.specs.DisplayStrings.{PastEscape, StopsEscape, Closes, StaysOpen}
@@ -120,7 +121,7 @@ goods (Digit c n) b g h = by (char_step c (n * 16 + digit_or_zero (unhex b)))
 goods Closed b g h = tt
 
 pub shown_followed : (d : Dialect) → is_rfc9651 d ≡ true → (s : State) (p : List ℕ) → Good s
-    → Path Opening p s → IsFollowed (Past (percent ∷ []) (SpellsLeaf d)) (next s) p
+    → Path Opening p s → IsFollowed (Past (percent ∷ []) (SpellsBare d)) (next s) p
 shown_followed d e s p g h = same_followed _ _ _ (shown_texts d e) _ _
     (leads_followed next after final _ Opening s p shown_recognized h (lives s g)
     (λ b n. lives (after s b) (goods s b g n)))
@@ -210,9 +211,9 @@ reached_more inside left escape more rest c f r e p u =
 -- where it stops
 shown_refused : (d : Dialect) → is_rfc9651 d ≡ true → (text : List ℕ) (s : State) (p : ShownPlace)
     (stop : Stop BarePlace) → (w : Goes Opening s text stop.left.now)
-    → IsFollowed (Past (percent ∷ []) (SpellsLeaf d)) (in_shown p) w.part → final s ≡ false
+    → IsFollowed (Past (percent ∷ []) (SpellsBare d)) (in_shown p) w.part → final s ≡ false
     → stop.place ≡ place.Shown p → Lacks (in_shown p) stop.left.now
-    → RefusesLeaf d (Past (percent ∷ []) (SpellsLeaf d)) text stop
+    → RefusesLeaf d (Past (percent ∷ []) (SpellsBare d)) text stop
 shown_refused d e text s p stop w f n k l =
     refuses_leaf d _ text w.part stop w.split (rw k f) (rw k l)
     (λ x h. let v = (shown_texts d e).down w.part x h in
@@ -221,7 +222,7 @@ shown_refused d e text s p stop w f n k l =
 
 pub refused_quote : (d : Dialect) → is_rfc9651 d ≡ true → (stop : Stop BarePlace)
     → FirstIs (λ b. b ≢ quote) stop.left.now → stop.place ≡ place.Shown shown.Quote
-    → RefusesLeaf d (Past (percent ∷ []) (SpellsLeaf d)) stop.left.now stop
+    → RefusesLeaf d (Past (percent ∷ []) (SpellsBare d)) stop.left.now stop
 refused_quote d e stop n k =
     let w = here Opening stop.left.now stop.left.now refl in
     shown_refused d e stop.left.now Opening shown.Quote stop w
@@ -262,7 +263,7 @@ pub refused_between : (d : Dialect) → is_rfc9651 d ≡ true → (text inside :
     (stop : Stop BarePlace) → text ≡ quote ∷ inside → Reached inside stop.left.now c
     → FirstIs (λ b. b ≢ percent) stop.left.now → StaysOpen c stop.left.now
     → stop.place ≡ place.Shown (shown.Between c)
-    → RefusesLeaf d (Past (percent ∷ []) (SpellsLeaf d)) text stop
+    → RefusesLeaf d (Past (percent ∷ []) (SpellsBare d)) text stop
 refused_between d e text inside c stop q r h o k =
     let w = went_on (quote_went text inside q) r.went in
     shown_refused d e text (Between c) (shown.Between c) stop w
@@ -278,7 +279,7 @@ to_percent text inside left escape c q r p =
 pub refused_escape : (d : Dialect) → is_rfc9651 d ≡ true → (text inside left escape : List ℕ)
     (c : CharPlace) (stop : Stop BarePlace) → text ≡ quote ∷ inside → Reached inside left c
     → left ≡ percent ∷ escape → StopsEscape c escape stop
-    → RefusesLeaf d (Past (percent ∷ []) (SpellsLeaf d)) text stop
+    → RefusesLeaf d (Past (percent ∷ []) (SpellsBare d)) text stop
 refused_escape d e text inside left escape c stop q r p (inl (same, k, n)) =
     let w = subst (Goes Opening (Percent c) text) (sym same)
     (to_percent text inside left escape c q r p) in
@@ -330,7 +331,7 @@ pub shown_read : (d : Dialect) → is_rfc9651 d ≡ true
     → text ≡ quote ∷ inside → Reached inside left c → Closes c left stop.left.now
     → bytes ≡ take (length inside - length left) inside → stop.place ≡ place.Complete
     → leaf_bare l ≡ bare.Shown (shown_bytes bytes)
-    → ReadsLeaf d (Past (percent ∷ []) (SpellsLeaf d)) text l stop
+    → ReadsLeaf d (Past (percent ∷ []) (SpellsBare d)) text l stop
 shown_read d e text inside left bytes c l stop q r h i k v =
     reads_leaf d _ text (quote ∷ went.part) l stop (q ∙ ap (λ t. quote ∷ t) went.split)
     (rw k (shown_followed d e Closed (quote ∷ went.part) tt (refl, went.path)))

@@ -1,16 +1,15 @@
 -- What bare items, parameters and Items begin with, and what can't follow them as part of them.
 use Rattle.std.proofs.Common.{◌≡◌, ◌≢◌, ℕ, Bool, true, false, List, [], ◌∷◌, ◌++◌, refl, sym, ap, ◌∙◌}
-use Rattle.std.proofs.Common.{subst, append_assoc, arith, ◌==◌, not, inl, inr, eqb-true}
+use Rattle.std.proofs.Common.{subst, append_assoc, arith, not}
 use Rattle.sf_value.specs.Ascii.{tab, space, comma, semicolon, open_bracket, close_bracket}
 use Rattle.sf_value.specs.declared.dialect.Dialect.TheVariants.{Rfc8941, Rfc9651}
-use Rattle.sf_value.specs.Grammar.Classes.{is_one_of}
 use Rattle.sf_value.specs.Grammar.Words.{Every}
 use Rattle.sf_value.specs.declared.dialect.Dialect.{Dialect}
 use Rattle.sf_value.specs.declared.value.Bare.{Bare}
 use Rattle.sf_value.specs.Grammar.Pairs.{Pairs}
 use Rattle.sf_value.specs.Grammar.Lines.{Continues}
 use Rattle.sf_scan.specs.Items.{RawItem, SpellsRawItem}
-use Rattle.sf_scan.specs.Leaves.{SpellsLeaf}
+use Rattle.sf_value.specs.Grammar.BareItems.{SpellsBare}
 use Rattle.sf_scan.specs.Parameters.{SpellsRawBy, SpellsParamBy}
 use Rattle.sf_scan.specs.Places.{in_bare, is_bare_start, is_after, is_follow}
 use Rattle.sf_scan.specs.Stops.{IsFollowed, FirstIs}
@@ -19,31 +18,12 @@ use Rattle.sf_scan.proofs.Bares.{first_byte, start_of, started, unstarted, some_
 use Rattle.sf_scan.proofs.Enclosed.{Begun, begun_first}
 use Rattle.sf_scan.proofs.Items.{raw_starts, raw_follows}
 use Rattle.sf_scan.proofs.Languages.{Apart}
-use Rattle.sf_scan.proofs.Lists.{cons_nil}
+use Rattle.sf_scan.proofs.Lists.{cons_nil, among, true_false}
 use Rattle.sf_scan.proofs.Pairs.{pair_apart}
-use Rattle.sf_scan.proofs.Sequences.{same_cut, then_apart, refused_followed, or_cases}
-
-pub true_false : true ≡ false → ⊥
-true_false e = cc
-
--- a test that fails at each of a list
-pub among : (p : ℕ → Bool) (cs : List ℕ) (b : ℕ) → Every (λ c. not (p c)) cs → is_one_of cs b ≡ true
-    → p b ≡ false
-among p [] b n h = absurd (true_false (sym h))
-among p (c ∷ cs) b n h = elim (or_cases (b == c) (is_one_of cs b) h) [
-  | inl k ↦ outside (eqb-true b c k)
-  | inr k ↦ among p cs b n.1 k
-]
-  where
-    outside : b ≡ c → p b ≡ false
-    outside e = rw e (by (p c) n.0)
-      where
-        by : (x : Bool) → not x ≡ true → x ≡ false
-        by true n = sym n
-        by false n = refl
+use Rattle.sf_scan.proofs.Sequences.{same_cut, then_apart, refused_followed}
 
 -- bare items
-pub bare_start : (d : Dialect) → IsFollowed (SpellsLeaf d) (in_bare d place.Start) []
+pub bare_start : (d : Dialect) → IsFollowed (SpellsBare d) (in_bare d place.Start) []
 bare_start d = record {
   viable = some_bare d;
   may = started d;
@@ -61,15 +41,15 @@ start_after d b h = by (is_after b) refl
     by : (x : Bool) → is_after b ≡ x → is_after b ≡ false
     by false e = e
     by true e =
-        let k = among (is_bare_start d) (tab ∷ space ∷ close_bracket ∷ comma ∷ []) b (none d) e in
+        let k = among (is_bare_start d) (tab ∷ space ∷ close_bracket ∷ comma ∷ []) (none d) b e in
         absurd (true_false (sym h ∙ k))
 
-pub bare_begun : (d : Dialect) (t : List ℕ) (x : Bare) → SpellsLeaf d t x → Begun t
+pub bare_begun : (d : Dialect) (t : List ℕ) (x : Bare) → SpellsBare d t x → Begun t
 bare_begun d [] x h = unstarted d x h
 bare_begun d (b ∷ t) x h = start_after d b (start_of d x b (first_byte d b t x h))
 
-pub bare_some : (d : Dialect) (t : List ℕ) (x : Bare) → SpellsLeaf d t x → t ≢ []
-bare_some d t x h e = bare_begun d [] x (subst (λ z. SpellsLeaf d z x) e h)
+pub bare_some : (d : Dialect) (t : List ℕ) (x : Bare) → SpellsBare d t x → t ≢ []
+bare_some d t x h e = bare_begun d [] x (subst (λ z. SpellsBare d z x) e h)
 
 pub bare_no_bracket : (d : Dialect) → in_bare d place.Start open_bracket ≡ false
 bare_no_bracket Rfc8941 = refl

@@ -1,10 +1,8 @@
 -- Bare items that point into the text.
 use Rattle.std.specs.Prelude.{ℕ, ◌==◌, if◌then◌else◌, List, [], ◌∷◌}
 use Rattle.sf_value.specs.Ascii.{backslash}
-use Rattle.sf_value.specs.declared.dialect.Dialect.{Dialect}
 use Rattle.sf_value.specs.declared.value.Bare.{Bare}
 use Rattle.sf_value.specs.declared.value.Bare.TheVariants as bare
-use Rattle.sf_value.specs.Grammar.BareItems.{SpellsBare}
 use Rattle.sf_scan.specs.Blobs.{blob_bytes}
 use Rattle.sf_scan.specs.DisplayStrings.{shown_bytes}
 use Rattle.sf_scan.specs.declared.leaf.Leaf.{Leaf}
@@ -27,7 +25,3 @@ leaf_bare (leaf.Escaped t) = bare.Text (unescaped t.now)
 leaf_bare (leaf.Blob t) = bare.Blob (blob_bytes t.now)
 leaf_bare (leaf.Display t) = bare.Shown (shown_bytes t.now)
 leaf_bare (leaf.Boolean b) = bare.Boolean b
-
--- the bare items
-abbrev pub SpellsLeaf : Dialect → List ℕ → Bare → Type 0
-SpellsLeaf = SpellsBare

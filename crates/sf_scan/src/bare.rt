@@ -3,7 +3,7 @@ ghost use Rattle.std.specs.Prelude.{◌≡◌, [], ◌∷◌, Ok, MatchResult, M
 ghost use Rattle.sf_value.specs.Ascii.{quote, question_mark, colon, percent as percent_sign};
 ghost use Rattle.sf_value.specs.declared.dialect.Dialect.{Dialect as Which};
 ghost use Rattle.sf_value.specs.Grammar.Strings.{is_escaped};
-ghost use Rattle.sf_scan.specs.Leaves.{SpellsLeaf};
+ghost use Rattle.sf_value.specs.Grammar.BareItems.{SpellsBare};
 ghost use Rattle.sf_scan.specs.Scans.{ScansLeaf, Escapes, StopsEscaped, BeginsToken, BeginsEscaped};
 ghost use Rattle.sf_scan.specs.Stops.{Past, Lacks};
 
@@ -17,12 +17,18 @@ use crate::runs::{short_run, split, strip};
 use sf_value::classes::{InToken, Unescaped};
 use sf_value::{Dialect, can_start_token};
 
-/// The bare item that the text begins with, and where it stops: the longest one that is there.
+/// The bare item that the text begins with, and where it stops: the longest one that is there. If
+/// there is none, where the text can't go on.
+///
+/// ```text
+/// bare(Dialect::Rfc9651, b"sugar;q")?; // (Leaf::Token(b"sugar"), stop), stop.left is b";q"
+/// bare(Dialect::Rfc9651, b"1.x"); // Err(stop), stop.left is b"x", and a digit may come there
+/// ```
 pub fn bare(
     dialect: Dialect,
     text: &[u8],
 ) -> Result<(Leaf<'_>, Stop<'_, BarePlace>), Stop<'_, BarePlace>>
-    ensures { ScansLeaf dialect (SpellsLeaf dialect) text.now result }
+    ensures { ScansLeaf dialect (SpellsBare dialect) text.now result }
 {
     let Some((first, more)) = split(text) else {
         return Err(Stop {
@@ -67,7 +73,7 @@ fn percent<'a>(
     more: &'a [u8],
 ) -> Result<(Leaf<'a>, Stop<'a, BarePlace>), Stop<'a, BarePlace>>
     requires { text.now ≡ percent_sign ∷ more.now }
-    ensures { ScansLeaf dialect (SpellsLeaf dialect) text.now result }
+    ensures { ScansLeaf dialect (SpellsBare dialect) text.now result }
 {
     match dialect {
         Dialect::Rfc8941 => Err(Stop {
@@ -80,7 +86,7 @@ fn percent<'a>(
 
 /// A Boolean, after its question mark.
 fn boolean(text: &[u8]) -> Result<(Leaf<'_>, Stop<'_, BarePlace>), Stop<'_, BarePlace>>
-    ensures { (d : Which) → ScansLeaf d (Past (question_mark ∷ []) (SpellsLeaf d)) text.now result }
+    ensures { (d : Which) → ScansLeaf d (Past (question_mark ∷ []) (SpellsBare d)) text.now result }
 {
     if let Some(rest) = strip(text, b'0') {
         let end = Stop {
@@ -105,7 +111,7 @@ fn boolean(text: &[u8]) -> Result<(Leaf<'_>, Stop<'_, BarePlace>), Stop<'_, Bare
 /// The Token that the text begins with; `more` is the text without its first byte.
 fn token<'a>(text: &'a [u8], more: &'a [u8]) -> (Leaf<'a>, Stop<'a, BarePlace>)
     requires { BeginsToken text.now more.now }
-    ensures { (d : Which) → ScansLeaf d (SpellsLeaf d) text.now (Ok result) }
+    ensures { (d : Which) → ScansLeaf d (SpellsBare d) text.now (Ok result) }
 {
     let (run, left) = short_run::<InToken>(more);
     let (token, _) = text.split_at(run.len() + 1);
@@ -120,7 +126,7 @@ fn token<'a>(text: &'a [u8], more: &'a [u8]) -> (Leaf<'a>, Stop<'a, BarePlace>)
 
 /// A String, after its opening quote.
 fn string(text: &[u8]) -> Result<(Leaf<'_>, Stop<'_, BarePlace>), Stop<'_, BarePlace>>
-    ensures { (d : Which) → ScansLeaf d (Past (quote ∷ []) (SpellsLeaf d)) text.now result }
+    ensures { (d : Which) → ScansLeaf d (Past (quote ∷ []) (SpellsBare d)) text.now result }
 {
     let (run, left) = short_run::<Unescaped>(text);
     if let Some(rest) = strip(left, b'"') {

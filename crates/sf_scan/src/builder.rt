@@ -4,13 +4,13 @@ ghost use Rattle.sf_value.specs.declared.value.Bare.{Bare};
 ghost use Rattle.sf_scan.specs.Leaves.{leaf_bare};
 
 use crate::leaf::Leaf;
-use crate::maker::{Maker, Nothing};
+use crate::maker::{Find, Maker, Nothing};
 use std::convert::Infallible;
 
-/// What is made of the parts of a text, which it gets one by one in their order, or why it can't
-/// take one. An Item is its bare
-/// item and then its parameters; an Inner List is its beginning, its Items, its end and then its
-/// parameters; a member of a Dictionary is its key and then its value.
+/// What is made of the parts of a text, which it takes one by one in their order; each call may fail,
+/// as an allocation may. An Item is its bare item and then its parameters; an Inner List is its
+/// beginning, its Items, its end and then its parameters; a member of a Dictionary is its key and then
+/// its value.
 pub trait Builder<'a>: Maker<'a> {
     // The value after the bare item of one more Item.
     ghost bare: { Self → Bare → Self };
@@ -41,6 +41,33 @@ pub trait Builder<'a>: Maker<'a> {
 }
 
 impl<'a> Builder<'a> for Nothing {
+    ghost bare = { λ m x. m };
+
+    ghost opened = { λ m. m };
+
+    ghost closed = { λ m. m };
+
+    ghost named = { λ m key. m };
+
+    fn bare_item(&mut self, _leaf: Leaf<'a>) -> Result<(), Infallible> {
+        Ok(())
+    }
+
+    fn begin_inner(&mut self) -> Result<(), Infallible> {
+        Ok(())
+    }
+
+    fn end_inner(&mut self) -> Result<(), Infallible> {
+        Ok(())
+    }
+
+    fn key(&mut self, _key: &'a [u8]) -> Result<(), Infallible> {
+        Ok(())
+    }
+}
+
+// Of an Item, only its parameters count.
+impl<'k, 'a> Builder<'a> for Find<'k, 'a> {
     ghost bare = { λ m x. m };
 
     ghost opened = { λ m. m };

@@ -5,7 +5,7 @@ ghost use Rattle.sf_value.specs.Grammar.ByteSequences.{is_base64};
 ghost use Rattle.sf_value.specs.Grammar.Words.{Every};
 ghost use Rattle.sf_value.specs.declared.dialect.Dialect.{Dialect as Which};
 ghost use Rattle.sf_scan.specs.Blobs.{place_at, Closes, StaysOpen};
-ghost use Rattle.sf_scan.specs.Leaves.{SpellsLeaf};
+ghost use Rattle.sf_value.specs.Grammar.BareItems.{SpellsBare};
 ghost use Rattle.sf_scan.specs.Scans.{ScansLeaf};
 ghost use Rattle.sf_scan.specs.Stops.{Past, Lacks};
 
@@ -17,7 +17,7 @@ use sf_value::classes::{Base64, long_prefix};
 
 /// A Byte Sequence, after its opening colon.
 pub fn byte_sequence(text: &[u8]) -> Result<(Leaf<'_>, Stop<'_, BarePlace>), Stop<'_, BarePlace>>
-    ensures { (d : Which) → ScansLeaf d (Past (colon ∷ []) (SpellsLeaf d)) text.now result }
+    ensures { (d : Which) → ScansLeaf d (Past (colon ∷ []) (SpellsBare d)) text.now result }
 {
     let (run, after_run) = characters(text);
     let mut place = after_characters(run.len());

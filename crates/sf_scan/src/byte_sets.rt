@@ -7,6 +7,27 @@ pub const LETTERS: u128 = 0x3ff_ffff << b'a' | 0x3ff_ffff << b'A';
 /// The digits.
 pub const DIGITS: u128 = 0x3ff << b'0';
 
+/// The first bytes of keys.
+pub const KEY_START: u128 = 0x3ff_ffff << b'a' | 1 << b'*';
+
+/// The bytes of keys.
+pub const KEY: u128 = KEY_START | DIGITS | 1 << b'_' | 1 << b'-' | 1 << b'.';
+
+/// The space.
+pub const SPACE: u128 = 1 << b' ';
+
+/// Optional white space: spaces and tabs.
+pub const OWS: u128 = SPACE | 1 << b'\t';
+
+/// What may come after a member of a List or a Dictionary.
+pub const AFTER_MEMBER: u128 = OWS | 1 << b',';
+
+/// The semicolon.
+pub const SEMICOLON: u128 = 1 << b';';
+
+/// The equals sign.
+pub const EQUALS: u128 = 1 << b'=';
+
 /// The minus sign.
 pub const MINUS: u128 = 1 << b'-';
 

@@ -1,13 +1,13 @@
 //! Dictionaries (RFC 9651 section 4.2.2).
 ghost use Rattle.std.specs.Prelude.{◌≡◌};
-ghost use Rattle.sf_scan.specs.Leaves.{SpellsLeaf};
+ghost use Rattle.sf_value.specs.Grammar.BareItems.{SpellsBare};
 ghost use Rattle.sf_scan.specs.Entries.{SpellsRawDict, made_entry, in_dict, ends_dict};
 ghost use Rattle.sf_scan.specs.Outcomes.{Scans};
 ghost use Rattle.sf_scan.specs.Series.{made_each};
 ghost use Rattle.sf_scan.specs.Sets.{Marks};
 
 use crate::builder::Builder;
-use crate::byte_sets::set_if;
+use crate::byte_sets::{AFTER_MEMBER, OWS, SPACE, set_if};
 use crate::entry::{EntryPlace, entry};
 use crate::place::{Halt, Stop};
 use crate::runs::{short_run, strip};
@@ -27,17 +27,13 @@ pub enum DictPlace {
     Comma,
 }
 
-const OWS: u128 = 1 << b' ' | 1 << b'\t';
-
-const AFTER_MEMBER: u128 = OWS | 1 << b',';
-
 impl DictPlace {
     /// The bytes below 128 that may come, a bit for each.
     pub fn expected(self, dialect: Dialect) -> u128
         ensures { Marks result (in_dict dialect self) }
     {
         match self {
-            DictPlace::Start => EntryPlace::Start.expected(dialect) | 1 << b' ',
+            DictPlace::Start => EntryPlace::Start.expected(dialect) | SPACE,
             DictPlace::InMember(place) => {
                 place.expected(dialect) | set_if(place.may_end(), AFTER_MEMBER)
             }
@@ -59,13 +55,18 @@ impl DictPlace {
 }
 
 /// Gives the maker the Dictionary that the text begins with, which may be empty, and returns where it
-/// stops.
+/// stops. The text is a Dictionary if nothing is left.
+///
+/// ```text
+/// let stop = dict(Dialect::Rfc9651, b"a=1, b", &mut Nothing)?; // stop.left is empty
+/// dict(Dialect::Rfc9651, b"a=1,", &mut Nothing); // Err(Halt::Refused(stop)), after the comma
+/// ```
 pub fn dict<'a, M: Builder<'a>>(
     dialect: Dialect,
     text: &'a [u8],
     maker: &mut M,
 ) -> Result<Stop<'a, DictPlace>, Halt<'a, DictPlace, M::Fault>>
-    ensures { Scans (SpellsRawDict (SpellsLeaf dialect)) (in_dict dialect) ends_dict
+    ensures { Scans (SpellsRawDict (SpellsBare dialect)) (in_dict dialect) ends_dict
         (made_each (made_entry M.bare M.with M.opened M.closed M.named))
         text.now maker.old maker.new result }
 {

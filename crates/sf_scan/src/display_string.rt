@@ -7,7 +7,7 @@ ghost use Rattle.sf_scan.specs.Characters.{can_begin as can_begin_at, low_digits
 ghost use Rattle.sf_scan.specs.DisplayStrings.{PastUnencoded, BeginsDigit, BeginsByte};
 ghost use Rattle.sf_scan.specs.DisplayStrings.{is_first_digit, is_second_digit};
 ghost use Rattle.sf_scan.specs.DisplayStrings.{PastEscape, StopsEscape, Closes, StaysOpen};
-ghost use Rattle.sf_scan.specs.Leaves.{SpellsLeaf};
+ghost use Rattle.sf_value.specs.Grammar.BareItems.{SpellsBare};
 ghost use Rattle.sf_scan.specs.Scans.{ScansLeaf};
 ghost use Rattle.sf_scan.specs.Stops.{Past, Lacks};
 
@@ -22,7 +22,7 @@ use sf_value::unhex;
 /// A Display String, after its percent sign.
 pub fn display_string(text: &[u8]) -> Result<(Leaf<'_>, Stop<'_, BarePlace>), Stop<'_, BarePlace>>
     ensures { (d : Which) → is_rfc9651 d ≡ true
-        → ScansLeaf d (Past (percent ∷ []) (SpellsLeaf d)) text.now result }
+        → ScansLeaf d (Past (percent ∷ []) (SpellsBare d)) text.now result }
 {
     let Some(inside) = strip(text, b'"') else {
         return Err(Stop {

@@ -1,11 +1,12 @@
 //! Members of Dictionaries (RFC 9651 section 4.2.2).
 ghost use Rattle.std.specs.Prelude.{◌≡◌};
 ghost use Rattle.sf_scan.specs.Entries.{SpellsRawEntry, made_entry, in_entry, ends_entry};
-ghost use Rattle.sf_scan.specs.Leaves.{SpellsLeaf};
+ghost use Rattle.sf_value.specs.Grammar.BareItems.{SpellsBare};
 ghost use Rattle.sf_scan.specs.Outcomes.{Scans, Keeps};
 ghost use Rattle.sf_scan.specs.Sets.{Marks};
 
 use crate::builder::Builder;
+use crate::byte_sets::{EQUALS, KEY, KEY_START, SEMICOLON};
 use crate::leaf::Leaf;
 use crate::member::{MemberPlace, member};
 use crate::param::{find_key, params};
@@ -26,10 +27,6 @@ pub enum EntryPlace {
     InParams(ParamPlace),
 }
 
-const KEY_START: u128 = 0x3ff_ffff << b'a' | 1 << b'*';
-
-const KEY: u128 = KEY_START | 0x3ff << b'0' | 1 << b'_' | 1 << b'-' | 1 << b'.';
-
 impl EntryPlace {
     /// The bytes below 128 that may come, a bit for each.
     pub fn expected(self, dialect: Dialect) -> u128
@@ -37,7 +34,7 @@ impl EntryPlace {
     {
         match self {
             EntryPlace::Start => KEY_START,
-            EntryPlace::InKey => KEY | 1 << b'=' | 1 << b';',
+            EntryPlace::InKey => KEY | EQUALS | SEMICOLON,
             EntryPlace::InValue(place) => place.expected(dialect),
             EntryPlace::InParams(place) => place.expected(dialect),
         }
@@ -62,7 +59,7 @@ pub fn entry<'a, M: Builder<'a>>(
     text: &'a [u8],
     maker: &mut M,
 ) -> Result<Stop<'a, EntryPlace>, Halt<'a, EntryPlace, M::Fault>>
-    ensures scans { Scans (SpellsRawEntry (SpellsLeaf dialect)) (in_entry dialect) ends_entry
+    ensures scans { Scans (SpellsRawEntry (SpellsBare dialect)) (in_entry dialect) ends_entry
         (made_entry M.bare M.with M.opened M.closed M.named) text.now maker.old maker.new result }
     ensures kept { Keeps text.now maker.old maker.new result }
 {

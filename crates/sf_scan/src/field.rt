@@ -2,12 +2,12 @@
 ghost use Rattle.std.specs.Prelude.{◌≡◌};
 ghost use Rattle.sf_scan.specs.ItemFields.{SpellsRawField, in_field, ends_field};
 ghost use Rattle.sf_scan.specs.Items.{made_item};
-ghost use Rattle.sf_scan.specs.Leaves.{SpellsLeaf};
+ghost use Rattle.sf_value.specs.Grammar.BareItems.{SpellsBare};
 ghost use Rattle.sf_scan.specs.Outcomes.{Scans};
 ghost use Rattle.sf_scan.specs.Sets.{Marks};
 
 use crate::builder::Builder;
-use crate::byte_sets::set_if;
+use crate::byte_sets::{SPACE, set_if};
 use crate::item::{ItemPlace, item};
 use crate::place::{BarePlace, Halt, Stop};
 use crate::runs::short_run;
@@ -31,11 +31,11 @@ impl FieldPlace {
         ensures { Marks result (in_field dialect self) }
     {
         match self {
-            FieldPlace::Start => BarePlace::Start.expected(dialect) | 1 << b' ',
+            FieldPlace::Start => BarePlace::Start.expected(dialect) | SPACE,
             FieldPlace::InItem(place) => {
-                place.expected(dialect) | set_if(place.may_end(), 1 << b' ')
+                place.expected(dialect) | set_if(place.may_end(), SPACE)
             }
-            FieldPlace::Spaces => 1 << b' ',
+            FieldPlace::Spaces => SPACE,
         }
     }
 
@@ -52,12 +52,13 @@ impl FieldPlace {
 }
 
 /// Gives the maker the Item of a field that the text begins with, and returns where the field stops.
+/// The text is a field of one Item if nothing is left.
 pub fn item_field<'a, M: Builder<'a>>(
     dialect: Dialect,
     text: &'a [u8],
     maker: &mut M,
 ) -> Result<Stop<'a, FieldPlace>, Halt<'a, FieldPlace, M::Fault>>
-    ensures { Scans (SpellsRawField (SpellsLeaf dialect)) (in_field dialect) ends_field
+    ensures { Scans (SpellsRawField (SpellsBare dialect)) (in_field dialect) ends_field
         (made_item M.bare M.with) text.now maker.old maker.new result }
 {
     let (_, start) = short_run::<Space>(text);

@@ -4,13 +4,13 @@ ghost use Rattle.sf_value.specs.Ascii.{open_bracket};
 ghost use Rattle.sf_scan.specs.InnerLists.{SpellsRawInner, ScansItems};
 ghost use Rattle.sf_scan.specs.InnerLists.{made_rest, in_inner, ends_inner};
 ghost use Rattle.sf_scan.specs.Items.{made_item};
-ghost use Rattle.sf_scan.specs.Leaves.{SpellsLeaf};
+ghost use Rattle.sf_value.specs.Grammar.BareItems.{SpellsBare};
 ghost use Rattle.sf_scan.specs.Outcomes.{Scans};
 ghost use Rattle.sf_scan.specs.Sets.{Marks};
 ghost use Rattle.sf_scan.specs.Stops.{Past};
 
 use crate::builder::Builder;
-use crate::byte_sets::set_if;
+use crate::byte_sets::{SPACE, set_if};
 use crate::item::{ItemPlace, item};
 use crate::param::params;
 use crate::place::{BarePlace, Halt, ParamPlace, Stop};
@@ -29,7 +29,7 @@ pub enum InnerPlace {
     InParams(ParamPlace),
 }
 
-const AFTER_ITEM: u128 = 1 << b' ' | 1 << b')';
+const AFTER_ITEM: u128 = SPACE | 1 << b')';
 
 impl InnerPlace {
     /// The bytes below 128 that may come, a bit for each.
@@ -63,7 +63,7 @@ pub fn inner_list<'a, M: Builder<'a>>(
     text: &'a [u8],
     maker: &mut M,
 ) -> Result<Stop<'a, InnerPlace>, Halt<'a, InnerPlace, M::Fault>>
-    ensures { Scans (Past (open_bracket ∷ []) (SpellsRawInner (SpellsLeaf dialect)))
+    ensures { Scans (Past (open_bracket ∷ []) (SpellsRawInner (SpellsBare dialect)))
         (in_inner dialect) ends_inner
         (λ m v. made_rest M.bare M.with M.closed (M.opened m) v)
         text.now maker.old maker.new result }
@@ -95,7 +95,7 @@ fn items<'a, M: Builder<'a>>(
     text: &'a [u8],
     maker: &mut M,
 ) -> Result<&'a [u8], Halt<'a, InnerPlace, M::Fault>>
-    ensures { ScansItems M.bare M.with M.closed dialect (SpellsLeaf dialect) text.now
+    ensures { ScansItems M.bare M.with M.closed dialect (SpellsBare dialect) text.now
         maker.old maker.new result }
 {
     let mut rest = text;

@@ -1,13 +1,13 @@
 //! Items (RFC 9651 section 4.2.3).
 ghost use Rattle.std.specs.Prelude.{◌≡◌};
 ghost use Rattle.sf_scan.specs.Items.{SpellsRawItem, made_item, in_item, ends_item};
-ghost use Rattle.sf_scan.specs.Leaves.{SpellsLeaf};
+ghost use Rattle.sf_value.specs.Grammar.BareItems.{SpellsBare};
 ghost use Rattle.sf_scan.specs.Outcomes.{Scans, Keeps};
 ghost use Rattle.sf_scan.specs.Sets.{Marks};
 
 use crate::bare::bare;
 use crate::builder::Builder;
-use crate::byte_sets::set_if;
+use crate::byte_sets::{SEMICOLON, set_if};
 use crate::param::params;
 use crate::place::{BarePlace, Halt, ParamPlace, Stop};
 use crate::runs::strip;
@@ -29,7 +29,7 @@ impl ItemPlace {
     {
         match self {
             ItemPlace::InBare(place) => {
-                place.expected(dialect) | set_if(place.may_end(), 1 << b';')
+                place.expected(dialect) | set_if(place.may_end(), SEMICOLON)
             }
             ItemPlace::InParams(place) => place.expected(dialect),
         }
@@ -47,12 +47,18 @@ impl ItemPlace {
 }
 
 /// Gives the maker the Item that the text begins with, and returns where it stops.
+///
+/// ```text
+/// let mut q = Find::new(b"q");
+/// let stop = item(Dialect::Rfc9651, b"a;q=1;r, b", &mut q)?; // stop.left is b", b"
+/// q.found() // Some(Leaf::Integer(1))
+/// ```
 pub fn item<'a, M: Builder<'a>>(
     dialect: Dialect,
     text: &'a [u8],
     maker: &mut M,
 ) -> Result<Stop<'a, ItemPlace>, Halt<'a, ItemPlace, M::Fault>>
-    ensures scans { Scans (SpellsRawItem (SpellsLeaf dialect)) (in_item dialect) ends_item
+    ensures scans { Scans (SpellsRawItem (SpellsBare dialect)) (in_item dialect) ends_item
         (made_item M.bare M.with) text.now maker.old maker.new result }
     ensures kept { Keeps text.now maker.old maker.new result }
 {

@@ -1,13 +1,13 @@
 //! Lists (RFC 9651 section 4.2.1).
 ghost use Rattle.std.specs.Prelude.{◌≡◌};
-ghost use Rattle.sf_scan.specs.Leaves.{SpellsLeaf};
+ghost use Rattle.sf_value.specs.Grammar.BareItems.{SpellsBare};
 ghost use Rattle.sf_scan.specs.Members.{made_member};
 ghost use Rattle.sf_scan.specs.Outcomes.{Scans};
 ghost use Rattle.sf_scan.specs.Series.{SpellsRawList, made_each, in_list, ends_list};
 ghost use Rattle.sf_scan.specs.Sets.{Marks};
 
 use crate::builder::Builder;
-use crate::byte_sets::set_if;
+use crate::byte_sets::{AFTER_MEMBER, OWS, SPACE, set_if};
 use crate::member::{MemberPlace, member};
 use crate::place::{Halt, Stop};
 use crate::runs::{short_run, strip};
@@ -27,17 +27,13 @@ pub enum ListPlace {
     Comma,
 }
 
-const OWS: u128 = 1 << b' ' | 1 << b'\t';
-
-const AFTER_MEMBER: u128 = OWS | 1 << b',';
-
 impl ListPlace {
     /// The bytes below 128 that may come, a bit for each.
     pub fn expected(self, dialect: Dialect) -> u128
         ensures { Marks result (in_list dialect self) }
     {
         match self {
-            ListPlace::Start => MemberPlace::Start.expected(dialect) | 1 << b' ',
+            ListPlace::Start => MemberPlace::Start.expected(dialect) | SPACE,
             ListPlace::InMember(place) => {
                 place.expected(dialect) | set_if(place.may_end(), AFTER_MEMBER)
             }
@@ -59,13 +55,13 @@ impl ListPlace {
 }
 
 /// Gives the maker the List that the text begins with, which may be empty, and returns where it
-/// stops.
+/// stops. The text is a List if nothing is left.
 pub fn list<'a, M: Builder<'a>>(
     dialect: Dialect,
     text: &'a [u8],
     maker: &mut M,
 ) -> Result<Stop<'a, ListPlace>, Halt<'a, ListPlace, M::Fault>>
-    ensures { Scans (SpellsRawList (SpellsLeaf dialect)) (in_list dialect) ends_list
+    ensures { Scans (SpellsRawList (SpellsBare dialect)) (in_list dialect) ends_list
         (made_each (made_member M.bare M.with M.opened M.closed))
         text.now maker.old maker.new result }
 {

@@ -1,6 +1,6 @@
 //! Members: Items and Inner Lists (RFC 9651 section 4.2.1.1).
 ghost use Rattle.std.specs.Prelude.{◌≡◌};
-ghost use Rattle.sf_scan.specs.Leaves.{SpellsLeaf};
+ghost use Rattle.sf_value.specs.Grammar.BareItems.{SpellsBare};
 ghost use Rattle.sf_scan.specs.Members.{SpellsRawMember, made_member, in_member, ends_member};
 ghost use Rattle.sf_scan.specs.Outcomes.{Scans, Keeps};
 ghost use Rattle.sf_scan.specs.Sets.{Marks};
@@ -53,7 +53,7 @@ pub fn member<'a, M: Builder<'a>>(
     text: &'a [u8],
     maker: &mut M,
 ) -> Result<Stop<'a, MemberPlace>, Halt<'a, MemberPlace, M::Fault>>
-    ensures scans { Scans (SpellsRawMember (SpellsLeaf dialect)) (in_member dialect) ends_member
+    ensures scans { Scans (SpellsRawMember (SpellsBare dialect)) (in_member dialect) ends_member
         (made_member M.bare M.with M.opened M.closed) text.now maker.old maker.new result }
     ensures kept { Keeps text.now maker.old maker.new result }
 {

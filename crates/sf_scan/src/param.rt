@@ -2,7 +2,7 @@
 ghost use Rattle.std.specs.Prelude.{◌≡◌, ◌++◌, MatchOption};
 ghost use Rattle.sf_value.specs.Grammar.Classes.{is_in_key, is_key_start};
 ghost use Rattle.sf_value.specs.Grammar.Tokens.{IsKey};
-ghost use Rattle.sf_scan.specs.Leaves.{SpellsLeaf};
+ghost use Rattle.sf_value.specs.Grammar.BareItems.{SpellsBare};
 ghost use Rattle.sf_scan.specs.Parameters.{ScansParam};
 ghost use Rattle.sf_scan.specs.Makers.{ScansParams};
 ghost use Rattle.sf_scan.specs.Stops.{Lacks};
@@ -24,14 +24,20 @@ pub struct Param<'a> {
     pub leaf: Leaf<'a>,
 }
 
-/// Gives the maker each parameter that the text begins with, and returns where they stop: all that
-/// are there. A fault of the maker is returned as it is.
+/// Gives the maker each parameter that the text begins with, repeated keys included, and returns
+/// where they stop. A fault of the maker is returned at once.
+///
+/// ```text
+/// let mut all = Collect::new(alloc);
+/// let stop = params(Dialect::Rfc9651, b";a;b=1, c", &mut all)?; // stop.left is b", c"
+/// all.params().len() // 2
+/// ```
 pub fn params<'a, M: Maker<'a>>(
     dialect: Dialect,
     text: &'a [u8],
     maker: &mut M,
 ) -> Result<Stop<'a, ParamPlace>, Halt<'a, ParamPlace, M::Fault>>
-    ensures { ScansParams M.with dialect (SpellsLeaf dialect) text.now maker.old maker.new result }
+    ensures { ScansParams M.with dialect (SpellsBare dialect) text.now maker.old maker.new result }
 {
     let mut end = Stop {
         left: text,
@@ -56,7 +62,7 @@ fn next_param(
     dialect: Dialect,
     text: &[u8],
 ) -> Result<(Param<'_>, Stop<'_, ParamPlace>), Stop<'_, ParamPlace>>
-    ensures { ScansParam dialect (SpellsLeaf dialect) text.now result }
+    ensures { ScansParam dialect (SpellsBare dialect) text.now result }
 {
     let (_, named) = short_run::<Space>(text);
     let Some((key, after)) = find_key(named) else {

@@ -5,7 +5,9 @@ ghost use Rattle.sf_scan.specs.Places.{in_params, ends_params};
 ghost use Rattle.sf_scan.specs.Sets.{Marks};
 
 use crate::blob_place::BlobPlace;
-use crate::byte_sets::{DIGITS, LETTERS, MINUS, QUOTE, VISIBLE, set_if};
+use crate::byte_sets::{
+    DIGITS, EQUALS, KEY, KEY_START, LETTERS, MINUS, QUOTE, SEMICOLON, SPACE, VISIBLE, set_if,
+};
 use crate::number_place::NumberPlace;
 use crate::shown_place::ShownPlace;
 use sf_value::Dialect;
@@ -102,12 +104,6 @@ pub enum ParamPlace {
     InValue(BarePlace),
 }
 
-const KEY_START: u128 = 0x3ff_ffff << b'a' | 1 << b'*';
-
-const KEY: u128 = KEY_START | DIGITS | 1 << b'_' | 1 << b'-' | 1 << b'.';
-
-const SEMICOLON: u128 = 1 << b';';
-
 impl ParamPlace {
     /// The bytes below 128 that may come, a bit for each.
     pub fn expected(self, dialect: Dialect) -> u128
@@ -115,8 +111,8 @@ impl ParamPlace {
     {
         match self {
             ParamPlace::Before => SEMICOLON,
-            ParamPlace::Semicolon => KEY_START | 1 << b' ',
-            ParamPlace::InKey => KEY | 1 << b'=' | SEMICOLON,
+            ParamPlace::Semicolon => KEY_START | SPACE,
+            ParamPlace::InKey => KEY | EQUALS | SEMICOLON,
             ParamPlace::InValue(place) => {
                 place.expected(dialect) | set_if(place.may_end(), SEMICOLON)
             }

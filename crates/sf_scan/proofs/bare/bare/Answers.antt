@@ -1,6 +1,6 @@
 use Rattle.std.proofs.Common.{refl, ap, sym, ◌∙◌, ◌∷◌, []}
 use Rattle.sf_value.specs.Ascii.{quote, question_mark, colon}
-use Rattle.sf_scan.specs.Leaves.{SpellsLeaf}
+use Rattle.sf_value.specs.Grammar.BareItems.{SpellsBare}
 use Rattle.sf_scan.proofs.Bares.{bare_refused, past_scans, no_byte, no_start}
 use Rattle.sf_scan.proofs.CodedStarts.{no_coded_start}
 use Rattle.sf_scan.proofs.Numbers.{minus_scans, digit_scans, no_number_start}
@@ -14,19 +14,19 @@ returns-in_default c =
 pub returns-then-first-eq34 : goal.returns-then-first-eq34
 returns-then-first-eq34 c =
     let d = c.args.dialect in
-    past_scans d (SpellsLeaf d) (quote ∷ []) _ _ _
+    past_scans d (SpellsBare d) (quote ∷ []) _ _ _
     (c.in-Some.ensures ∙ ap (λ x. x ∷ c.in-Some.more.now) c.if-first-eq34.true) (c.string.ensures d)
 
 pub returns-then-first-eq63 : goal.returns-then-first-eq63
 returns-then-first-eq63 c =
     let d = c.args.dialect in
-    past_scans d (SpellsLeaf d) (question_mark ∷ []) _ _ _
+    past_scans d (SpellsBare d) (question_mark ∷ []) _ _ _
     (c.in-Some.ensures ∙ ap (λ x. x ∷ c.in-Some.more.now) c.if-first-eq63.true) (c.boolean.ensures d)
 
 pub returns-then-first-eq58 : goal.returns-then-first-eq58
 returns-then-first-eq58 c =
     let d = c.args.dialect in
-    past_scans d (SpellsLeaf d) (colon ∷ []) _ _ _
+    past_scans d (SpellsBare d) (colon ∷ []) _ _ _
     (c.in-Some.ensures ∙ ap (λ x. x ∷ c.in-Some.more.now) c.if-first-eq58.true)
     (c.byte_sequence.ensures d)
 

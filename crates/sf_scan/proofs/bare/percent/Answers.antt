@@ -1,7 +1,7 @@
 use Rattle.std.proofs.Common.{refl, ap, ◌∷◌, []}
 use Rattle.sf_value.specs.Ascii.{percent}
 use Rattle.sf_value.specs.Grammar.Dialects.{is_rfc9651}
-use Rattle.sf_scan.specs.Leaves.{SpellsLeaf}
+use Rattle.sf_value.specs.Grammar.BareItems.{SpellsBare}
 use Rattle.sf_scan.proofs.Bares.{bare_refused, past_scans, no_percent}
 use Rattle.sf_scan.proofs.bare.percent.Goals as goal
 
@@ -13,5 +13,5 @@ returns-in-Rfc8941 c =
 pub returns-in-Rfc9651 : goal.returns-in-Rfc9651
 returns-in-Rfc9651 c =
     let d = c.args.dialect in
-    past_scans d (SpellsLeaf d) (percent ∷ []) _ _ _ c.requires
+    past_scans d (SpellsBare d) (percent ∷ []) _ _ _ c.requires
     (c.display_string.ensures d (ap is_rfc9651 c.in-Rfc9651.is))
