@@ -12,7 +12,8 @@ use Rattle.sf_scan.specs.Languages.{Then}
 use Rattle.sf_scan.specs.Lifts.{Lifts}
 use Rattle.sf_scan.specs.Places.{is_after}
 use Rattle.sf_scan.specs.Stops.{Past, IsFollowed, Reads, Refuses, Lacks, FirstIs}
-use Rattle.sf_scan.proofs.Languages.{SameTexts, Apart}
+use Rattle.sf_scan.proofs.Languages.{Apart}
+use Rattle.sf_scan.proofs.Languages.{SameTexts}
 use Rattle.sf_scan.proofs.Lifts.{same_then, same_more, lifts_past, lifts_first, past_continues}
 use Rattle.sf_scan.proofs.Lists.{heads, tails, cons_nil}
 use Rattle.sf_scan.proofs.Sequences.{or_left, or_right, or_cases, lacks_both, then_texts, then_stuck}

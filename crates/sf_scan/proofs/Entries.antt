@@ -14,13 +14,14 @@ use Rattle.sf_scan.specs.Entries.{SpellsKey, SpellsKeyed, SpellsRawEntry, raw_fl
 use Rattle.sf_value.specs.Grammar.BareItems.{SpellsBare}
 use Rattle.sf_scan.specs.Lifts.{Lifts}
 use Rattle.sf_scan.specs.Members.{RawMember, SpellsRawMember}
-use Rattle.sf_scan.specs.Parameters.{SpellsRawBy}
+use Rattle.sf_value.specs.Grammar.Parameters.{SpellsRaw}
 use Rattle.sf_scan.specs.Places.{is_follow, is_after}
 use Rattle.sf_scan.specs.Stops.{Past, IsFollowed, Reads, Refuses, Lacks, FirstIs}
 use Rattle.sf_scan.proofs.Following.{bare_apart}
 use Rattle.sf_scan.proofs.Enclosed.{Begun, begun_first}
 use Rattle.sf_scan.proofs.Items.{raw_starts, one_raw, no_semicolon}
-use Rattle.sf_scan.proofs.Languages.{SameTexts, Apart}
+use Rattle.sf_scan.proofs.Languages.{Apart}
+use Rattle.sf_scan.proofs.Languages.{SameTexts}
 use Rattle.sf_scan.proofs.Lifts.{lifts_past, lifts_then, lifts_first}
 use Rattle.sf_scan.proofs.Lists.{heads, tails, cons_nil, no_follow, true_false}
 use Rattle.sf_scan.proofs.Members.{leaf_member_apart, leaf_member_some}
@@ -117,18 +118,18 @@ key_followed = record {
   only = λ b c. key_first b c.0 c.1 c.2;
 }
 
-module _ (B : List ℕ → Bare → Type 0) (apart : Apart B is_follow)
-    (member_ends : Apart (SpellsRawMember B) is_after) (some : Continues (SpellsRawMember B) []) where
+module _ (d : Dialect) (apart : Apart (SpellsBare d) is_follow)
+    (member_ends : Apart (SpellsRawMember d) is_after) (some : Continues (SpellsRawMember d) []) where
   abbrev Q : List ℕ → RawMember → Type 0
-  Q = SpellsKeyed B
+  Q = SpellsKeyed d
 
   abbrev R : List ℕ → Pairs Bare → Type 0
-  R = SpellsRawBy B
+  R = SpellsRaw d
 
   keyed_head : (b : ℕ) (u : List ℕ) (v : RawMember) → Q (b ∷ u) v
       → (b ≡ equals) ⊎ (b ≡ semicolon)
   keyed_head b u v (inl h) = inl (heads b equals u _ h.1)
-  keyed_head b u v (inr h) = inr (raw_starts B (b ∷ u) h.0 h.2)
+  keyed_head b u v (inr h) = inr (raw_starts d (b ∷ u) h.0 h.2)
 
   keyed_first : (t : List ℕ) (v : RawMember) → Q t v → FirstIs (λ b. ends_key b ≡ true) t
   keyed_first [] v h = tt
@@ -137,13 +138,13 @@ module _ (B : List ℕ → Bare → Type 0) (apart : Apart B is_follow)
     | inr e ↦ semicolon_ends b e
   ]
 
-  equals_texts : SameTexts (SpellsRawMember B) (Past (equals ∷ []) Q) (λ v. v)
+  equals_texts : SameTexts (SpellsRawMember d) (Past (equals ∷ []) Q) (λ v. v)
   equals_texts = record { up = λ t v h. inl (t, refl, h); down = λ t v h. (v, by t v h) }
     where
-      by : (t : List ℕ) (v : RawMember) → Q (equals ∷ t) v → SpellsRawMember B t v
+      by : (t : List ℕ) (v : RawMember) → Q (equals ∷ t) v → SpellsRawMember d t v
       by t v (inl h) =
-          subst (λ z. SpellsRawMember B z v) (sym (tails equals equals t _ h.1)) h.2
-      by t v (inr h) = absurd (equals_no_semicolon (raw_starts B (equals ∷ t) h.0 h.2))
+          subst (λ z. SpellsRawMember d z v) (sym (tails equals equals t _ h.1)) h.2
+      by t v (inr h) = absurd (equals_no_semicolon (raw_starts d (equals ∷ t) h.0 h.2))
 
   semicolon_texts : SameTexts (Past (semicolon ∷ []) R) (Past (semicolon ∷ []) Q) raw_flag
   semicolon_texts = record { up = λ t ps h. inr (ps, refl, h); down = λ t v h. by t v h }
@@ -164,7 +165,7 @@ module _ (B : List ℕ → Bare → Type 0) (apart : Apart B is_follow)
             (equals_texts.up some.0 some.1 some.2),
       )
       | inr k ↦
-          let c = one_raw B in (
+          let c = one_raw d in (
             c.0,
             raw_flag c.1,
             subst (λ z. Q (z ∷ c.0) (raw_flag c.1)) (sym (eqb-true b semicolon k))
@@ -182,24 +183,24 @@ module _ (B : List ℕ → Bare → Type 0) (apart : Apart B is_follow)
     | inl e ↦ after_no_equals b f e
     | inr e ↦ after_no_semicolon b f e
   ]
-  keyed_apart (d ∷ a) v b (inl h) f c =
+  keyed_apart (x ∷ a) v b (inl h) f c =
       let s : List ℕ = h.0 in
       let k : Q (equals ∷ ((s ++ b ∷ []) ++ c.0)) c.1 =
       subst (λ z. Q ((z ++ b ∷ []) ++ c.0) c.1) h.1 c.2 in
       let m = equals_texts.down ((s ++ b ∷ []) ++ c.0) c.1 k in
       member_ends s v b h.2 f (c.0, m.0, m.1)
-  keyed_apart (d ∷ a) v b (inr h) f c =
-      let e : d ≡ semicolon = raw_starts B (d ∷ a) h.0 h.2 in
+  keyed_apart (x ∷ a) v b (inr h) f c =
+      let e : x ≡ semicolon = raw_starts d (x ∷ a) h.0 h.2 in
       let k : Q (semicolon ∷ ((a ++ b ∷ []) ++ c.0)) c.1 =
       subst (λ z. Q (z ∷ ((a ++ b ∷ []) ++ c.0)) c.1) e c.2 in
       let m = semicolon_texts.down ((a ++ b ∷ []) ++ c.0) c.1 k in
-      raw_apart B apart (semicolon ∷ a) h.0 b (subst (λ z. R (z ∷ a) h.0) e h.2) f (c.0, m.0, m.1)
+      raw_apart d apart (semicolon ∷ a) h.0 b (subst (λ z. R (z ∷ a) h.0) e h.2) f (c.0, m.0, m.1)
 
-  pub entry_apart : Apart (SpellsRawEntry B) is_after
+  pub entry_apart : Apart (SpellsRawEntry d) is_after
   entry_apart =
       then_apart SpellsKey Q ends_key key_apart keyed_first is_after after_ends keyed_apart
 
-  pub entry_begun : (t : List ℕ) (p : List ℕ × RawMember) → SpellsRawEntry B t p → Begun t
+  pub entry_begun : (t : List ℕ) (p : List ℕ × RawMember) → SpellsRawEntry d t p → Begun t
   entry_begun t p h = by t h.0 h.2 h.3
     where
       by : (t k : List ℕ) → t ≡ k ++ h.1 → SpellsKey k p.0 → Begun t
@@ -208,14 +209,14 @@ module _ (B : List ℕ → Bare → Type 0) (apart : Apart B is_follow)
       by (b ∷ t) (c ∷ k) e w =
           begun_first (c ∷ k) h.1 b t (key_start_after c (key_first c k p.0 w)) e
 
-  pub entry_start : IsFollowed (SpellsRawEntry B) is_key_start []
+  pub entry_start : IsFollowed (SpellsRawEntry d) is_key_start []
   entry_start =
       refused_followed SpellsKey Q ends_key key_apart keyed_first is_key_start []
       keyed_followed.viable key_followed no_key
 
   -- no key
   pub entry_refused : (text : List ℕ) → Lacks is_key_start text
-      → Refuses (SpellsRawEntry B) is_key_start text text
+      → Refuses (SpellsRawEntry d) is_key_start text text
   entry_refused text n = record {
     stops = record { prefix = []; split = refl; followed = entry_start; blocked = n };
     unspelled = λ p h. entry_begun [] p h;
@@ -225,7 +226,7 @@ module _ (B : List ℕ → Bare → Type 0) (apart : Apart B is_follow)
       (longest : Lacks is_in_key rest) where
     keyed_lifts : (c : ℕ) (more : List ℕ) → rest ≡ c ∷ more
         → (c == equals || c == semicolon) ≡ true → ends_key c ≡ true
-        → Lifts Q rest (SpellsRawEntry B) text (λ v. (key, v))
+        → Lifts Q rest (SpellsRawEntry d) text (λ v. (key, v))
     keyed_lifts c more e k f = record {
       reads = λ next v left r.
           then_reads SpellsKey Q ends_key key_apart keyed_first is_in_key next text key rest c more v
@@ -237,23 +238,23 @@ module _ (B : List ℕ → Bare → Type 0) (apart : Apart B is_follow)
 
     -- a member
     pub value_lifts : (value : List ℕ) → rest ≡ equals ∷ value
-        → Lifts (SpellsRawMember B) value (SpellsRawEntry B) text (λ v. (key, v))
+        → Lifts (SpellsRawMember d) value (SpellsRawEntry d) text (λ v. (key, v))
     value_lifts value e =
-        lifts_then (SpellsRawMember B) Q (SpellsRawEntry B) (λ v. v) (λ v. (key, v)) value rest text
-        (lifts_past (SpellsRawMember B) Q (λ v. v) (equals ∷ []) value rest equals_texts e)
+        lifts_then (SpellsRawMember d) Q (SpellsRawEntry d) (λ v. v) (λ v. (key, v)) value rest text
+        (lifts_past (SpellsRawMember d) Q (λ v. v) (equals ∷ []) value rest equals_texts e)
         (keyed_lifts equals value e refl refl)
 
     -- parameters
     pub params_lifts : (more : List ℕ) → rest ≡ semicolon ∷ more
-        → Lifts R rest (SpellsRawEntry B) text (λ ps. (key, raw_flag ps))
+        → Lifts R rest (SpellsRawEntry d) text (λ ps. (key, raw_flag ps))
     params_lifts more e =
-        lifts_then R Q (SpellsRawEntry B) raw_flag (λ v. (key, v)) rest rest text
-        (lifts_first R Q raw_flag semicolon more rest (one_raw B) semicolon_texts e)
+        lifts_then R Q (SpellsRawEntry d) raw_flag (λ v. (key, v)) rest rest text
+        (lifts_first R Q raw_flag semicolon more rest (one_raw d) semicolon_texts e)
         (keyed_lifts semicolon more e refl refl)
 
     -- the key alone
     pub key_alone : FirstIs (λ b. b ≢ equals) rest → FirstIs (λ b. b ≢ semicolon) rest
-        → Reads (SpellsRawEntry B) (λ b. is_in_key b || (b == equals || b == semicolon)) text
+        → Reads (SpellsRawEntry d) (λ b. is_in_key b || (b == equals || b == semicolon)) text
         (key, raw_flag []) rest
     key_alone n m =
         then_ends SpellsKey Q ends_key key_apart keyed_first is_in_key
@@ -270,18 +271,18 @@ module _ (B : List ℕ → Bare → Type 0) (apart : Apart B is_follow)
             differs b h = grind arith
 
 -- with the bare items of a dialect
-pub leaf_entry_apart : (d : Dialect) → Apart (SpellsRawEntry (SpellsBare d)) is_after
+pub leaf_entry_apart : (d : Dialect) → Apart (SpellsRawEntry d) is_after
 leaf_entry_apart d =
-    entry_apart (SpellsBare d) (bare_apart d) (leaf_member_apart d) (leaf_member_some d)
+    entry_apart d (bare_apart d) (leaf_member_apart d) (leaf_member_some d)
 
 pub leaf_entry_begun : (d : Dialect) (t : List ℕ) (p : List ℕ × RawMember)
-    → SpellsRawEntry (SpellsBare d) t p → Begun t
+    → SpellsRawEntry d t p → Begun t
 leaf_entry_begun d =
-    entry_begun (SpellsBare d) (bare_apart d) (leaf_member_apart d) (leaf_member_some d)
+    entry_begun d (bare_apart d) (leaf_member_apart d) (leaf_member_some d)
 
-pub leaf_entry_start : (d : Dialect) → IsFollowed (SpellsRawEntry (SpellsBare d)) is_key_start []
+pub leaf_entry_start : (d : Dialect) → IsFollowed (SpellsRawEntry d) is_key_start []
 leaf_entry_start d =
-    entry_start (SpellsBare d) (bare_apart d) (leaf_member_apart d) (leaf_member_some d)
+    entry_start d (bare_apart d) (leaf_member_apart d) (leaf_member_some d)
 
-pub leaf_entry_some : (d : Dialect) → Continues (SpellsRawEntry (SpellsBare d)) []
+pub leaf_entry_some : (d : Dialect) → Continues (SpellsRawEntry d) []
 leaf_entry_some d = (leaf_entry_start d).viable

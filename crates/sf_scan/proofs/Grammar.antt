@@ -1,5 +1,5 @@
--- With all bare items of a dialect, these are the languages of sf_value's grammar.
-use Rattle.std.proofs.Common.{◌≡◌, ℕ, List, [], ◌∷◌, ◌++◌, refl, ap, ap₂, ◌∙◌, ◌⊎◌, inl, inr}
+-- Settled, the values that are read are those of sf_value's grammar.
+use Rattle.std.proofs.Common.{◌≡◌, ◌-◌, length, Bool, ℕ, List, [], ◌∷◌, ◌++◌, refl, ap, ap₂, ◌∙◌, ◌⊎◌, inl, inr}
 use Rattle.sf_value.specs.Ascii.{equals}
 use Rattle.sf_value.specs.declared.dialect.Dialect.{Dialect}
 use Rattle.sf_value.specs.declared.value.Bare.{Bare}
@@ -9,7 +9,6 @@ use Rattle.sf_value.specs.declared.value.Member.TheVariants as member
 use Rattle.sf_value.specs.declared.value.Field.{Field}
 use Rattle.sf_value.specs.declared.value.Field.TheVariants as field
 use Rattle.sf_value.specs.declared.value.Kind.TheVariants as kind
-use Rattle.sf_value.specs.Grammar.BareItems.{SpellsBare}
 use Rattle.sf_value.specs.Grammar.Fields.{SpellsField, SpellsEntry, flag, list_of, dict_of}
 use Rattle.sf_value.specs.Grammar.InnerLists.{SpellsItems, SpellsInner, SpellsMember, inner}
 use Rattle.sf_value.specs.Grammar.Items.{SpellsItem, item}
@@ -22,10 +21,21 @@ use Rattle.sf_scan.specs.InnerLists.{SpellsRawInner, SpellsItemsBy}
 use Rattle.sf_scan.specs.ItemFields.{SpellsRawField}
 use Rattle.sf_scan.specs.Items.{RawItem, SpellsRawItem}
 use Rattle.sf_scan.specs.Members.{RawMember, SpellsRawMember}
-use Rattle.sf_scan.specs.Parameters.{SpellsRawBy}
 use Rattle.sf_scan.specs.Series.{SpellsRawList}
 use Rattle.sf_scan.specs.Settled.{Settles, each_of, item_of, inner_of, member_of, entry_of}
 use Rattle.sf_scan.specs.Settled.{item_field_of, list_field_of, dict_field_of}
+use Rattle.sf_scan.specs.Stops.{Stops}
+use Rattle.sf_scan.proofs.Languages.{SameTexts}
+use Rattle.sf_scan.proofs.Wholes.{place_in}
+use Rattle.sf_value.specs.Grammar.Lines.{IsPlace}
+
+-- the same texts
+pub settles_texts : {V W : Type 0} (L : List ℕ → V → Type 0) (M : List ℕ → W → Type 0) (of : V → W)
+    → Settles L M of → SameTexts L M of
+settles_texts L M of s = record {
+  up = s.up;
+  down = λ t w h. let k = s.down t w h in (k.0, k.2);
+}
 
 -- series of members
 module _ {V W : Type 0} (L : List ℕ → V → Type 0) (M : List ℕ → W → Type 0) (of : V → W)
@@ -72,26 +82,15 @@ module _ {V W : Type 0} (L : List ℕ → V → Type 0) (M : List ℕ → W → 
       )
 
 module _ (d : Dialect) where
-  abbrev B : List ℕ → Bare → Type 0
-  B = SpellsBare d
-
   -- parameters
-  raw_up : (t : List ℕ) (raw : Pairs Bare) → SpellsRawBy B t raw → SpellsRaw d t raw
-  raw_up t [] h = h
-  raw_up t (p ∷ raw) h = (h.0, h.1, h.2, h.3, raw_up h.1 raw h.4)
-
-  raw_down : (t : List ℕ) (raw : Pairs Bare) → SpellsRaw d t raw → SpellsRawBy B t raw
-  raw_down t [] h = h
-  raw_down t (p ∷ raw) h = (h.0, h.1, h.2, h.3, raw_down h.1 raw h.4)
-
-  pub settles_params : Settles (SpellsRawBy B) (SpellsParams d) settle
+  pub settles_params : Settles (SpellsRaw d) (SpellsParams d) settle
   settles_params = record {
-    up = λ t raw h. (raw, refl, raw_up t raw h);
-    down = λ t ps h. (h.0, h.1, raw_down t h.0 h.2);
+    up = λ t raw h. (raw, refl, h);
+    down = λ t ps h. h;
   }
 
   -- Items
-  pub settles_item : Settles (SpellsRawItem B) (SpellsItem d) item_of
+  pub settles_item : Settles (SpellsRawItem d) (SpellsItem d) item_of
   settles_item = record {
     up = λ t v h. (h.0, h.1, h.2, h.3, settles_params.up h.1 v.1 h.4);
     down = λ t i h.
@@ -100,13 +99,13 @@ module _ (d : Dialect) where
   }
 
   items_up : (least : ℕ) (t : List ℕ) (vs : List RawItem)
-      → SpellsItemsBy (SpellsRawItem B) least t vs → SpellsItems d least t (each_of item_of vs)
+      → SpellsItemsBy (SpellsRawItem d) least t vs → SpellsItems d least t (each_of item_of vs)
   items_up least t [] h = h
   items_up least t (v ∷ vs) h =
       (h.0, h.1, h.2, h.3, h.4, h.5, settles_item.up h.1 v h.6, items_up 1 h.2 vs h.7)
 
   items_down : (least : ℕ) (t : List ℕ) (is : List Item) → SpellsItems d least t is
-      → (vs : List RawItem) × (is ≡ each_of item_of vs) × SpellsItemsBy (SpellsRawItem B) least t vs
+      → (vs : List RawItem) × (is ≡ each_of item_of vs) × SpellsItemsBy (SpellsRawItem d) least t vs
   items_down least t [] h = ([], refl, h)
   items_down least t (i ∷ is) h =
       let a = settles_item.down h.1 i h.6 in
@@ -117,7 +116,7 @@ module _ (d : Dialect) where
       )
 
   -- Inner Lists
-  pub settles_inner : Settles (SpellsRawInner B) (SpellsInner d) inner_of
+  pub settles_inner : Settles (SpellsRawInner d) (SpellsInner d) inner_of
   settles_inner = record {
     up = λ t v h. (h.0, h.1, h.2, items_up 0 h.0 v.0 h.3, settles_params.up h.1 v.1 h.4);
     down = λ t l h.
@@ -130,28 +129,28 @@ module _ (d : Dialect) where
   }
 
   -- members
-  pub settles_member : Settles (SpellsRawMember B) (SpellsMember d) member_of
+  pub settles_member : Settles (SpellsRawMember d) (SpellsMember d) member_of
   settles_member = record { up = λ t v h. up t v h; down = λ t m h. down t m h }
     where
-      up : (t : List ℕ) (v : RawMember) → SpellsRawMember B t v → SpellsMember d t (member_of v)
+      up : (t : List ℕ) (v : RawMember) → SpellsRawMember d t v → SpellsMember d t (member_of v)
       up t (inl i) h = settles_item.up t i h
       up t (inr l) h = settles_inner.up t l h
 
       down : (t : List ℕ) (m : Member) → SpellsMember d t m
-          → (v : RawMember) × (m ≡ member_of v) × SpellsRawMember B t v
+          → (v : RawMember) × (m ≡ member_of v) × SpellsRawMember d t v
       down t (member.Item i) h =
           let k = settles_item.down t i h in (inl k.0, ap member.Item k.1, k.2)
       down t (member.Inner l) h =
           let k = settles_inner.down t l h in (inr k.0, ap member.Inner k.1, k.2)
 
-  pub settles_entry : Settles (SpellsRawEntry B) (SpellsEntry d) entry_of
+  pub settles_entry : Settles (SpellsRawEntry d) (SpellsEntry d) entry_of
   settles_entry = record {
     up = λ t p h. up t p h.1 (h.2 ∙ ap (λ k. k ++ h.1) h.3.0) h.3.1 h.4;
     down = λ t p h. down t p h.0 h.1 h.2;
   }
     where
       up : (t : List ℕ) (p : List ℕ × RawMember) (suffix : List ℕ) → t ≡ p.0 ++ suffix
-          → IsKey p.0 → SpellsKeyed B suffix p.1 → SpellsEntry d t (entry_of p)
+          → IsKey p.0 → SpellsKeyed d suffix p.1 → SpellsEntry d t (entry_of p)
       up t p suffix e w (inl h) =
           (h.0, w, inl (e ∙ ap (λ z. p.0 ++ z) h.1, settles_member.up h.0 p.1 h.2))
       up t p suffix e w (inr h) = (
@@ -163,7 +162,7 @@ module _ (d : Dialect) where
       down : (t : List ℕ) (p : List ℕ × Member) (suffix : List ℕ) → IsKey p.0
           → ((t ≡ p.0 ++ equals ∷ suffix) × SpellsMember d suffix p.1)
           ⊎ ((ps : Pairs Bare) × (p.1 ≡ flag ps) × (t ≡ p.0 ++ suffix) × SpellsParams d suffix ps)
-          → (v : List ℕ × RawMember) × (p ≡ entry_of v) × SpellsRawEntry B t v
+          → (v : List ℕ × RawMember) × (p ≡ entry_of v) × SpellsRawEntry d t v
       down t p suffix w (inl h) =
           let k = settles_member.down suffix p.1 h.1 in (
             (p.0, k.0),
@@ -178,48 +177,67 @@ module _ (d : Dialect) where
           )
 
   -- whole fields
-  pub settles_item_field : Settles (SpellsRawField B) (SpellsField d kind.Item) item_field_of
+  pub settles_item_field : Settles (SpellsRawField d) (SpellsField d kind.Item) item_field_of
   settles_item_field = record {
     up = λ t v h. (h.0, h.1, h.2, h.3, h.4, settles_item.up h.1 v h.5, h.6);
     down = λ t f h. down t f h;
   }
     where
       down : (t : List ℕ) (f : Field) → SpellsField d kind.Item t f
-          → (v : RawItem) × (f ≡ item_field_of v) × SpellsRawField B t v
+          → (v : RawItem) × (f ≡ item_field_of v) × SpellsRawField d t v
       down t (field.Item i) h =
           let k = settles_item.down h.1 i h.5 in
           (k.0, ap field.Item k.1, (h.0, h.1, h.2, h.3, h.4, k.2, h.6))
       down t (field.List l) h = absurd h
       down t (field.Dict m) h = absurd h
 
-  pub settles_list : Settles (SpellsRawList B) (SpellsField d kind.List) list_field_of
+  pub settles_list : Settles (SpellsRawList d) (SpellsField d kind.List) list_field_of
   settles_list = record {
-    up = λ t ms h. whole_up (SpellsRawMember B) (SpellsMember d) member_of settles_member t ms h;
+    up = λ t ms h. whole_up (SpellsRawMember d) (SpellsMember d) member_of settles_member t ms h;
     down = λ t f h. down t f h;
   }
     where
       down : (t : List ℕ) (f : Field) → SpellsField d kind.List t f
-          → (ms : List RawMember) × (f ≡ list_field_of ms) × SpellsRawList B t ms
+          → (ms : List RawMember) × (f ≡ list_field_of ms) × SpellsRawList d t ms
       down t (field.List l) h =
-          let k = whole_down (SpellsRawMember B) (SpellsMember d) member_of settles_member t l.members h in
+          let k = whole_down (SpellsRawMember d) (SpellsMember d) member_of settles_member t l.members h in
           (k.0, ap list_of k.1, k.2)
       down t (field.Item i) h = absurd h
       down t (field.Dict m) h = absurd h
 
-  pub settles_dict : Settles (SpellsRawDict B) (SpellsField d kind.Dict) dict_field_of
+  pub settles_dict : Settles (SpellsRawDict d) (SpellsField d kind.Dict) dict_field_of
   settles_dict = record {
     up = λ t ps h. (
       each_of entry_of ps,
       refl,
-      whole_up (SpellsRawEntry B) (SpellsEntry d) entry_of settles_entry t ps h,
+      whole_up (SpellsRawEntry d) (SpellsEntry d) entry_of settles_entry t ps h,
     );
     down = λ t f h. down t f h;
   }
     where
       down : (t : List ℕ) (f : Field) → SpellsField d kind.Dict t f
-          → (ps : Pairs RawMember) × (f ≡ dict_field_of ps) × SpellsRawDict B t ps
+          → (ps : Pairs RawMember) × (f ≡ dict_field_of ps) × SpellsRawDict d t ps
       down t (field.Dict m) h =
-          let k = whole_down (SpellsRawEntry B) (SpellsEntry d) entry_of settles_entry t h.0 h.2 in
+          let k = whole_down (SpellsRawEntry d) (SpellsEntry d) entry_of settles_entry t h.0 h.2 in
           (k.0, ap dict_of (h.1 ∙ ap settle k.1), k.2)
       down t (field.Item i) h = absurd h
       down t (field.List l) h = absurd h
+
+-- the length before a stop is the place of a refusal, as sf_value defines it
+pub item_place : (d : Dialect) (next : ℕ → Bool) (text left : List ℕ)
+    → Stops (SpellsRawField d) next text left → IsPlace d kind.Item text (length text - length left)
+item_place d =
+    place_in (SpellsRawField d) (SpellsField d kind.Item) item_field_of
+    (settles_texts (SpellsRawField d) (SpellsField d kind.Item) item_field_of (settles_item_field d))
+
+pub list_place : (d : Dialect) (next : ℕ → Bool) (text left : List ℕ)
+    → Stops (SpellsRawList d) next text left → IsPlace d kind.List text (length text - length left)
+list_place d =
+    place_in (SpellsRawList d) (SpellsField d kind.List) list_field_of
+    (settles_texts (SpellsRawList d) (SpellsField d kind.List) list_field_of (settles_list d))
+
+pub dict_place : (d : Dialect) (next : ℕ → Bool) (text left : List ℕ)
+    → Stops (SpellsRawDict d) next text left → IsPlace d kind.Dict text (length text - length left)
+dict_place d =
+    place_in (SpellsRawDict d) (SpellsField d kind.Dict) dict_field_of
+    (settles_texts (SpellsRawDict d) (SpellsField d kind.Dict) dict_field_of (settles_dict d))

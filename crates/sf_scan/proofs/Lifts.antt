@@ -5,7 +5,8 @@ use Rattle.sf_scan.specs.Lifts.{Lifts}
 use Rattle.sf_scan.specs.Outcomes.{Accepts, Rejects}
 use Rattle.sf_scan.specs.declared.place.Stop.{Stop}
 use Rattle.sf_scan.specs.Stops.{Past, Reads, Refuses}
-use Rattle.sf_scan.proofs.Languages.{SameTexts, same_reads, same_refuses, past_reads, past_refuses}
+use Rattle.sf_scan.proofs.Languages.{same_reads, same_refuses, past_reads, past_refuses}
+use Rattle.sf_scan.proofs.Languages.{SameTexts}
 use Rattle.sf_scan.proofs.Sequences.{peel_reads, peel_refuses, reads_as, refuses_as}
 
 pub same_then : {U V W : Type 0} (S : List ℕ → U → Type 0) (T : List ℕ → V → Type 0)

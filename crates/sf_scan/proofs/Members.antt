@@ -10,7 +10,7 @@ use Rattle.sf_scan.specs.Items.{RawItem, SpellsRawItem, in_item, ends_item}
 use Rattle.sf_scan.specs.Lifts.{Lifts}
 use Rattle.sf_scan.specs.Members.{RawMember, SpellsRawMember, in_member, ends_member}
 use Rattle.sf_scan.specs.Outcomes.{Rejects}
-use Rattle.sf_scan.specs.Parameters.{SpellsRawBy}
+use Rattle.sf_value.specs.Grammar.Parameters.{SpellsRaw}
 use Rattle.sf_scan.specs.Places.{in_bare, is_follow, is_after}
 use Rattle.sf_scan.specs.Stops.{Past, IsFollowed, Reads, Refuses, Lacks, FirstIs}
 use Rattle.sf_scan.specs.declared.place.Stop.{Stop}
@@ -39,28 +39,28 @@ no_open (b ∷ t) h = differs b h
 two_ways : (x : Bool) → x ≡ true → x ≡ false → ⊥
 two_ways x h k = cc
 
-module _ (B : List ℕ → Bare → Type 0) (apart : Apart B is_follow)
-    (begun : (t : List ℕ) (x : Bare) → B t x → Begun t) (d : Dialect)
-    (start : IsFollowed B (in_bare d bare_place.Start) [])
+module _ (d : Dialect) (apart : Apart (SpellsBare d) is_follow)
+    (begun : (t : List ℕ) (x : Bare) → (SpellsBare d) t x → Begun t)
+    (start : IsFollowed (SpellsBare d) (in_bare d bare_place.Start) [])
     (no_bracket : in_bare d bare_place.Start open_bracket ≡ false) where
   abbrev I : List ℕ → RawItem → Type 0
-  I = SpellsRawItem B
+  I = SpellsRawItem d
 
   abbrev N : List ℕ → RawInner → Type 0
-  N = SpellsRawInner B
+  N = SpellsRawInner d
 
-  no_params : (u : List ℕ) × (v : Pairs Bare) × SpellsRawBy B ([] ++ u) v
+  no_params : (u : List ℕ) × (v : Pairs Bare) × SpellsRaw d ([] ++ u) v
   no_params = ([], [], refl)
 
   starts_item : IsFollowed I (in_bare d bare_place.Start) []
-  starts_item = item_start B apart begun (in_bare d bare_place.Start) start
+  starts_item = item_start d apart begun (in_bare d bare_place.Start) start
 
   starts_inner : IsFollowed N (λ b. b == open_bracket) []
-  starts_inner = inner_followed I (SpellsRawBy B) (item_apart B apart) (item_begun B apart begun) no_params
+  starts_inner = inner_followed I (SpellsRaw d) (item_apart d apart) (item_begun d apart begun) no_params
 
   bracket_first : (c : ℕ) (t : List ℕ) (l : RawInner) → N (c ∷ t) l → c ≡ open_bracket
   bracket_first =
-      inner_first I (SpellsRawBy B) (item_apart B apart) (item_begun B apart begun) no_params
+      inner_first I (SpellsRaw d) (item_apart d apart) (item_begun d apart begun) no_params
 
   no_item : (t : List ℕ) (i : RawItem) → I (open_bracket ∷ t) i → ⊥
   no_item t i h =
@@ -71,28 +71,28 @@ module _ (B : List ℕ → Bare → Type 0) (apart : Apart B is_follow)
   never_both c t u i l h k =
       no_item t i (subst (λ z. I (z ∷ t) i) (bracket_first c u l k) h)
 
-  pub member_start : IsFollowed (SpellsRawMember B) (in_member d place.Start) []
+  pub member_start : IsFollowed (SpellsRawMember d) (in_member d place.Start) []
   member_start =
       either_followed I N (in_bare d bare_place.Start) (λ b. b == open_bracket) starts_item starts_inner
 
-  pub member_apart : Apart (SpellsRawMember B) is_after
+  pub member_apart : Apart (SpellsRawMember d) is_after
   member_apart =
-      either_apart I N is_after (item_apart B apart)
-      (inner_apart I (SpellsRawBy B) (item_apart B apart) (item_begun B apart begun) no_params
-      (raw_apart B apart)) never_both (λ i h. item_begun B apart begun [] i h)
-      (no_inner I (SpellsRawBy B) (item_apart B apart) (item_begun B apart begun) no_params)
+      either_apart I N is_after (item_apart d apart)
+      (inner_apart I (SpellsRaw d) (item_apart d apart) (item_begun d apart begun) no_params
+      (raw_apart d apart)) never_both (λ i h. item_begun d apart begun [] i h)
+      (no_inner I (SpellsRaw d) (item_apart d apart) (item_begun d apart begun) no_params)
 
-  pub member_begun : (t : List ℕ) (v : RawMember) → SpellsRawMember B t v → Begun t
-  member_begun t (inl i) h = item_begun B apart begun t i h
+  pub member_begun : (t : List ℕ) (v : RawMember) → SpellsRawMember d t v → Begun t
+  member_begun t (inl i) h = item_begun d apart begun t i h
   member_begun [] (inr l) h =
-      no_inner I (SpellsRawBy B) (item_apart B apart) (item_begun B apart begun) no_params l h
+      no_inner I (SpellsRaw d) (item_apart d apart) (item_begun d apart begun) no_params l h
   member_begun (c ∷ t) (inr l) h = let e = bracket_first c t l h in rw e refl
 
   -- an Inner List
   pub inner_member : (rest text : List ℕ) → text ≡ open_bracket ∷ rest
-      → Lifts (Past (open_bracket ∷ []) N) rest (SpellsRawMember B) text inr
+      → Lifts (Past (open_bracket ∷ []) N) rest (SpellsRawMember d) text inr
   inner_member rest text e =
-      lifts_past (Past (open_bracket ∷ []) N) (SpellsRawMember B) inr (open_bracket ∷ []) rest text
+      lifts_past (Past (open_bracket ∷ []) N) (SpellsRawMember d) inr (open_bracket ∷ []) rest text
       (right_texts I N open_bracket no_item) e
 
   -- an Item
@@ -104,21 +104,21 @@ module _ (B : List ℕ → Bare → Type 0) (apart : Apart B is_follow)
 
   pub item_member : (text prefix left : List ℕ) → FirstIs (λ b. b ≢ open_bracket) text
       → (u : List ℕ) × (i : RawItem) × I (prefix ++ u) i → text ≡ prefix ++ left → prefix ≢ []
-      → Lifts I text (SpellsRawMember B) text inl
+      → Lifts I text (SpellsRawMember d) text inl
   item_member text prefix left n c e k = left_lifts I N prefix text left c e k (not_inner text n)
 
   pub item_read : (text : List ℕ) (next : ℕ → Bool) (i : RawItem) (left : List ℕ)
       → FirstIs (λ b. b ≢ open_bracket) text → Reads I next text i left
-      → Lifts I text (SpellsRawMember B) text inl
+      → Lifts I text (SpellsRawMember d) text inl
   item_read text next i left n r =
       item_member text r.stops.prefix left n r.stops.followed.viable r.stops.split
-      (λ e. item_begun B apart begun [] i (subst (λ t. I t i) e r.spelled))
+      (λ e. item_begun d apart begun [] i (subst (λ t. I t i) e r.spelled))
 
   pub member_broken : (text : List ℕ) (p : ItemPlace) (left : List ℕ) (stop : Stop MemberPlace)
       → FirstIs (λ b. b ≢ open_bracket) text → Refuses I (in_item d p) text left
       → ends_item p ≡ false → length left ≢ length text → stop.left.now ≡ left
       → stop.place ≡ place.InItem p
-      → Rejects (SpellsRawMember B) (in_member d) ends_member text stop
+      → Rejects (SpellsRawMember d) (in_member d) ends_member text stop
   member_broken text p left stop n r k m e f = record {
     refuses = rw (e, f) ((item_member text r.stops.prefix left n r.stops.followed.viable r.stops.split
         (λ z. m (sym (ap length (r.stops.split ∙ ap (λ q. q ++ left) z))))).refuses _ left r);
@@ -128,7 +128,7 @@ module _ (B : List ℕ → Bare → Type 0) (apart : Apart B is_follow)
   pub member_open : (text : List ℕ) (next : ℕ → Bool) (left : List ℕ) (stop : Stop MemberPlace)
       → FirstIs (λ b. b ≢ open_bracket) text → Refuses I next text left
       → length left ≡ length text → stop.left.now ≡ left → stop.place ≡ place.Start
-      → Rejects (SpellsRawMember B) (in_member d) ends_member text stop
+      → Rejects (SpellsRawMember d) (in_member d) ends_member text stop
   member_open text next left stop n r k e f =
       let z : r.stops.prefix ≡ [] = none_read text r.stops.prefix left r.stops.split k in
       let same : text ≡ left = r.stops.split ∙ ap (λ q. q ++ left) z in
@@ -150,18 +150,18 @@ module _ (B : List ℕ → Bare → Type 0) (apart : Apart B is_follow)
 
 -- with the bare items of a dialect
 pub leaf_member_start : (d : Dialect)
-    → IsFollowed (SpellsRawMember (SpellsBare d)) (in_member d place.Start) []
+    → IsFollowed (SpellsRawMember d) (in_member d place.Start) []
 leaf_member_start d =
-    member_start (SpellsBare d) (bare_apart d) (bare_begun d) d (bare_start d) (bare_no_bracket d)
+    member_start d (bare_apart d) (bare_begun d) (bare_start d) (bare_no_bracket d)
 
-pub leaf_member_apart : (d : Dialect) → Apart (SpellsRawMember (SpellsBare d)) is_after
+pub leaf_member_apart : (d : Dialect) → Apart (SpellsRawMember d) is_after
 leaf_member_apart d =
-    member_apart (SpellsBare d) (bare_apart d) (bare_begun d) d (bare_start d) (bare_no_bracket d)
+    member_apart d (bare_apart d) (bare_begun d) (bare_start d) (bare_no_bracket d)
 
 pub leaf_member_begun : (d : Dialect) (t : List ℕ) (v : RawMember)
-    → SpellsRawMember (SpellsBare d) t v → Begun t
+    → SpellsRawMember d t v → Begun t
 leaf_member_begun d =
-    member_begun (SpellsBare d) (bare_apart d) (bare_begun d) d (bare_start d) (bare_no_bracket d)
+    member_begun d (bare_apart d) (bare_begun d) (bare_start d) (bare_no_bracket d)
 
-pub leaf_member_some : (d : Dialect) → Continues (SpellsRawMember (SpellsBare d)) []
+pub leaf_member_some : (d : Dialect) → Continues (SpellsRawMember d) []
 leaf_member_some d = (leaf_member_start d).viable

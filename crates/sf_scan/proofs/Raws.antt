@@ -6,7 +6,10 @@ use Rattle.sf_value.specs.declared.value.Bare.{Bare}
 use Rattle.sf_value.specs.declared.value.Bare.TheVariants.{Boolean}
 use Rattle.sf_value.specs.Grammar.Pairs.{Pairs}
 use Rattle.sf_value.specs.Grammar.Lines.{Continues}
-use Rattle.sf_scan.specs.Parameters.{SpellsParamBy, SpellsPair, SpellsRawBy}
+use Rattle.sf_scan.specs.Parameters.{SpellsPair}
+use Rattle.sf_value.specs.Grammar.Parameters.{SpellsParam, SpellsRaw}
+use Rattle.sf_value.specs.declared.dialect.Dialect.{Dialect}
+use Rattle.sf_scan.proofs.Following.{bare_apart}
 use Rattle.sf_scan.specs.Makers.{made_of}
 use Rattle.sf_scan.specs.Places.{is_follow}
 use Rattle.sf_scan.specs.Stops.{IsFollowed, Reads, Refuses, Lacks, FirstIs}
@@ -14,22 +17,22 @@ use Rattle.sf_scan.proofs.Languages.{Apart, cut}
 use Rattle.sf_scan.proofs.Lists.{heads, tails, cons_nil}
 use Rattle.sf_scan.proofs.Pairs.{pair_apart}
 
-module _ (B : List ℕ → Bare → Type 0) (apart_bare : Apart B is_follow) where
-  apart : Apart (SpellsPair B) is_follow
-  apart = pair_apart B apart_bare
+module _ (d : Dialect) where
+  apart : Apart (SpellsPair d) is_follow
+  apart = pair_apart d (bare_apart d)
 
   -- a parameter after its semicolon, and further ones
   abbrev Opened : List ℕ → (List ℕ × Bare) × Pairs Bare → Type 0
-  Opened t v = (a s : List ℕ) × (t ≡ a ++ s) × SpellsPair B a v.0 × SpellsRawBy B s v.1
+  Opened t v = (a s : List ℕ) × (t ≡ a ++ s) × SpellsPair d a v.0 × SpellsRaw d s v.1
 
   -- each begins with a semicolon
-  opened : (u : List ℕ) (raw : Pairs Bare) → SpellsRawBy B (semicolon ∷ u) raw
+  opened : (u : List ℕ) (raw : Pairs Bare) → SpellsRaw d (semicolon ∷ u) raw
       → (v : (List ℕ × Bare) × Pairs Bare) × Opened u v
   opened u [] h = absurd (cons_nil semicolon u h)
   opened u (p ∷ raw) h = by h.0 h.1 h.2 h.3.2 h.3 h.4
     where
       by : (a s : List ℕ) → semicolon ∷ u ≡ a ++ s → {t : List ℕ} → a ≡ semicolon ∷ t
-          → SpellsParamBy B a p.0 p.1 → SpellsRawBy B s raw
+          → SpellsParam d a p.0 p.1 → SpellsRaw d s raw
           → (v : (List ℕ × Bare) × Pairs Bare) × Opened u v
       by a s e {t} f k m = (
         (p, raw),
@@ -37,7 +40,7 @@ module _ (B : List ℕ → Bare → Type 0) (apart_bare : Apart B is_follow) whe
           t,
           s,
           tails semicolon semicolon u _ (e ∙ ap (λ x. x ++ s) f),
-          subst (λ x. SpellsParamBy B x p.0 p.1) f k,
+          subst (λ x. SpellsParam d x p.0 p.1) f k,
           m,
         ),
       )
@@ -48,20 +51,20 @@ module _ (B : List ℕ → Bare → Type 0) (apart_bare : Apart B is_follow) whe
   follows : (b : ℕ) → b ≡ semicolon → is_follow b ≡ true
   follows b e = rw e refl
 
-  raw_first : (s : List ℕ) (raw : Pairs Bare) → SpellsRawBy B s raw → FirstIs (λ b. b ≡ semicolon) s
+  raw_first : (s : List ℕ) (raw : Pairs Bare) → SpellsRaw d s raw → FirstIs (λ b. b ≡ semicolon) s
   raw_first [] raw h = tt
   raw_first (b ∷ s) [] h = absurd (cons_nil b s h)
   raw_first (b ∷ s) (p ∷ raw) h = heads b semicolon s _ (h.2 ∙ ap (λ x. x ++ h.1) h.3.2)
 
-  raw_follow : (s : List ℕ) (raw : Pairs Bare) → SpellsRawBy B s raw
+  raw_follow : (s : List ℕ) (raw : Pairs Bare) → SpellsRaw d s raw
       → FirstIs (λ b. is_follow b ≡ true) s
   raw_follow [] raw h = tt
   raw_follow (b ∷ s) raw h = follows b (raw_first (b ∷ s) raw h)
 
   -- one more at the end
-  raw_more : (p t : List ℕ) (old new : Pairs Bare) → SpellsRawBy B p old → SpellsRawBy B t new
-      → SpellsRawBy B (p ++ t) (old ++ new)
-  raw_more p t [] new h k = subst (λ x. SpellsRawBy B (x ++ t) new) (sym h) k
+  raw_more : (p t : List ℕ) (old new : Pairs Bare) → SpellsRaw d p old → SpellsRaw d t new
+      → SpellsRaw d (p ++ t) (old ++ new)
+  raw_more p t [] new h k = subst (λ x. SpellsRaw d (x ++ t) new) (sym h) k
   raw_more p t (q ∷ old) new h k = (
     h.0,
     h.1 ++ t,
@@ -70,19 +73,19 @@ module _ (B : List ℕ → Bare → Type 0) (apart_bare : Apart B is_follow) whe
     raw_more h.1 t old new h.4 k,
   )
 
-  raw_one : (a : List ℕ) (v : List ℕ × Bare) → SpellsPair B a v
-      → SpellsRawBy B (semicolon ∷ a) (v ∷ [])
+  raw_one : (a : List ℕ) (v : List ℕ × Bare) → SpellsPair d a v
+      → SpellsRaw d (semicolon ∷ a) (v ∷ [])
   raw_one a v h = (semicolon ∷ a, [], sym (append-nil (semicolon ∷ a)), h, refl)
 
   -- whole parameters, and then only a semicolon or what continues the last one
   pub record Whole (next : ℕ → Bool) (ends : Bool) (p : List ℕ) (raw : Pairs Bare) : Type 0 where
-    pub spelled : SpellsRawBy B p raw
-    pub opens : (u : List ℕ) (r : Pairs Bare) → SpellsRawBy B (p ++ semicolon ∷ u) r
+    pub spelled : SpellsRaw d p raw
+    pub opens : (u : List ℕ) (r : Pairs Bare) → SpellsRaw d (p ++ semicolon ∷ u) r
         → (v : (List ℕ × Bare) × Pairs Bare) × Opened u v
-    pub followed : IsFollowed (SpellsRawBy B) (λ b. next b || (ends && b == semicolon)) p
+    pub followed : IsFollowed (SpellsRaw d) (λ b. next b || (ends && b == semicolon)) p
 
   one_more : (b : ℕ) → b ≡ semicolon
-      → SpellsRawBy B (b ∷ 97 ∷ []) ((97 ∷ [], Boolean true) ∷ [])
+      → SpellsRaw d (b ∷ 97 ∷ []) ((97 ∷ [], Boolean true) ∷ [])
   one_more b e = (
     b ∷ 97 ∷ [],
     [],
@@ -110,34 +113,34 @@ module _ (B : List ℕ → Bare → Type 0) (apart_bare : Apart B is_follow) whe
   -- after q in a parameter comes what continues it, or a semicolon after a whole one
   record Ended (q : List ℕ) (b : ℕ) (u : List ℕ) : Type 0 where
     pub pair : List ℕ × Bare
-    pub spelled : SpellsPair B q pair
+    pub spelled : SpellsPair d q pair
     pub semi : b ≡ semicolon
     pub raw : Pairs Bare
-    pub rest : SpellsRawBy B (b ∷ u) raw
+    pub rest : SpellsRaw d (b ∷ u) raw
 
   after : (q : List ℕ) (b : ℕ) (u : List ℕ) (v : (List ℕ × Bare) × Pairs Bare)
-      → Continues (SpellsPair B) q → Opened (q ++ b ∷ u) v
-      → Continues (SpellsPair B) (q ++ b ∷ []) ⊎ Ended q b u
+      → Continues (SpellsPair d) q → Opened (q ++ b ∷ u) v
+      → Continues (SpellsPair d) (q ++ b ∷ []) ⊎ Ended q b u
   after q b u v h o =
-      let l = cut (SpellsPair B) is_follow apart q (b ∷ u) o.0 o.1 v.0 h o.3
+      let l = cut (SpellsPair d) is_follow apart q (b ∷ u) o.0 o.1 v.0 h o.3
       (raw_follow o.1 v.1 o.4) o.2 in
       by l.more l.part l.rest
     where
       by : (more : List ℕ) → o.0 ≡ q ++ more → b ∷ u ≡ more ++ o.1
-          → Continues (SpellsPair B) (q ++ b ∷ []) ⊎ Ended q b u
+          → Continues (SpellsPair d) (q ++ b ∷ []) ⊎ Ended q b u
       by [] e f = inr (record {
         pair = v.0;
-        spelled = subst (λ x. SpellsPair B x v.0) (e ∙ append-nil q) o.3;
+        spelled = subst (λ x. SpellsPair d x v.0) (e ∙ append-nil q) o.3;
         semi = subst (FirstIs (λ c. c ≡ semicolon)) (sym f) (raw_first o.1 v.1 o.4);
         raw = v.1;
-        rest = subst (λ x. SpellsRawBy B x v.1) (sym f) o.4;
+        rest = subst (λ x. SpellsRaw d x v.1) (sym f) o.4;
       })
       by (c ∷ more) e f =
           let same : b ≡ c = heads b c _ _ f in
           inl (
             more,
             v.0,
-            subst (λ x. SpellsPair B x v.0)
+            subst (λ x. SpellsPair d x v.0)
                 (e ∙ (ap (λ x. q ++ x ∷ more) (sym same) ∙ sym (append_assoc q (b ∷ []) more))) o.3,
           )
 
@@ -145,43 +148,43 @@ module _ (B : List ℕ → Bare → Type 0) (apart_bare : Apart B is_follow) whe
   moved : (p q u : List ℕ) → (p ++ semicolon ∷ q) ++ u ≡ p ++ semicolon ∷ (q ++ u)
   moved p q u = append_assoc p (semicolon ∷ q) u
 
-  more_may : (next : ℕ → Bool) (p q : List ℕ) (raw : Pairs Bare) → SpellsRawBy B p raw
-      → IsFollowed (SpellsPair B) next q → (b : ℕ) → next b ≡ true
-      → Continues (SpellsRawBy B) ((p ++ semicolon ∷ q) ++ b ∷ [])
+  more_may : (next : ℕ → Bool) (p q : List ℕ) (raw : Pairs Bare) → SpellsRaw d p raw
+      → IsFollowed (SpellsPair d) next q → (b : ℕ) → next b ≡ true
+      → Continues (SpellsRaw d) ((p ++ semicolon ∷ q) ++ b ∷ [])
   more_may next p q raw h f b e =
       let c = f.may b e in (
         c.0,
         raw ++ c.1 ∷ [],
-        subst (λ t. SpellsRawBy B t (raw ++ c.1 ∷ []))
+        subst (λ t. SpellsRaw d t (raw ++ c.1 ∷ []))
             (sym (ap (λ t. t ++ c.0) (moved p q (b ∷ []))
             ∙ append_assoc p (semicolon ∷ (q ++ b ∷ [])) c.0))
             (raw_more p _ raw (c.1 ∷ []) h (raw_one ((q ++ b ∷ []) ++ c.0) c.1 c.2)),
       )
 
-  more_viable : (p q : List ℕ) (raw : Pairs Bare) → SpellsRawBy B p raw
-      → Continues (SpellsPair B) q → Continues (SpellsRawBy B) (p ++ semicolon ∷ q)
+  more_viable : (p q : List ℕ) (raw : Pairs Bare) → SpellsRaw d p raw
+      → Continues (SpellsPair d) q → Continues (SpellsRaw d) (p ++ semicolon ∷ q)
   more_viable p q raw h c = (
     c.0,
     raw ++ c.1 ∷ [],
-    subst (λ t. SpellsRawBy B t (raw ++ c.1 ∷ [])) (sym (moved p q c.0))
+    subst (λ t. SpellsRaw d t (raw ++ c.1 ∷ [])) (sym (moved p q c.0))
         (raw_more p _ raw (c.1 ∷ []) h (raw_one (q ++ c.0) c.1 c.2)),
   )
 
   -- what the texts after it tell
   more_opened : (next : ℕ → Bool) (ends : Bool) (p q : List ℕ) (raw : Pairs Bare)
       → Whole next ends p raw → (u : List ℕ) (r : Pairs Bare)
-      → SpellsRawBy B ((p ++ semicolon ∷ q) ++ u) r
+      → SpellsRaw d ((p ++ semicolon ∷ q) ++ u) r
       → (v : (List ℕ × Bare) × Pairs Bare) × Opened (q ++ u) v
   more_opened next ends p q raw w u r h =
-      w.opens (q ++ u) r (subst (λ t. SpellsRawBy B t r) (moved p q u) h)
+      w.opens (q ++ u) r (subst (λ t. SpellsRaw d t r) (moved p q u) h)
 
   more_only : (next : ℕ → Bool) (ends : Bool) (p q : List ℕ) (raw : Pairs Bare)
-      → Whole next ends p raw → (test : ℕ → Bool) → IsFollowed (SpellsPair B) test q → (b : ℕ)
-      → Continues (SpellsRawBy B) ((p ++ semicolon ∷ q) ++ b ∷ [])
-      → (test b ≡ true) ⊎ ((x : List ℕ × Bare) × SpellsPair B q x × (b ≡ semicolon))
+      → Whole next ends p raw → (test : ℕ → Bool) → IsFollowed (SpellsPair d) test q → (b : ℕ)
+      → Continues (SpellsRaw d) ((p ++ semicolon ∷ q) ++ b ∷ [])
+      → (test b ≡ true) ⊎ ((x : List ℕ × Bare) × SpellsPair d q x × (b ≡ semicolon))
   more_only next ends p q raw w test f b c =
       let o = more_opened next ends p q raw w (b ∷ c.0) c.1
-      (subst (λ t. SpellsRawBy B t c.1) (append_assoc (p ++ semicolon ∷ q) (b ∷ []) c.0) c.2) in
+      (subst (λ t. SpellsRaw d t c.1) (append_assoc (p ++ semicolon ∷ q) (b ∷ []) c.0) c.2) in
       elim (after q b c.0 o.0 f.viable o.1) [
         | inl k ↦ inl (f.only b k)
         | inr z ↦ inr (z.pair, z.spelled, z.semi)
@@ -204,7 +207,7 @@ module _ (B : List ℕ → Bare → Type 0) (apart_bare : Apart B is_follow) whe
 
   pub whole_more : (next : ℕ → Bool) (ends : Bool) (p : List ℕ) (raw : Pairs Bare)
       → Whole next ends p raw → (test : ℕ → Bool) (q : List ℕ) (x : List ℕ × Bare)
-      → SpellsPair B q x → IsFollowed (SpellsPair B) test q
+      → SpellsPair d q x → IsFollowed (SpellsPair d) test q
       → Whole test true (p ++ semicolon ∷ q) (raw ++ x ∷ [])
   whole_more next ends p raw w test q x h f = record {
     spelled = spelled;
@@ -217,7 +220,7 @@ module _ (B : List ℕ → Bare → Type 0) (apart_bare : Apart B is_follow) whe
         | inr e ↦ (
           97 ∷ [],
           (raw ++ x ∷ []) ++ (97 ∷ [], Boolean true) ∷ [],
-          subst (λ t. SpellsRawBy B t ((raw ++ x ∷ []) ++ (97 ∷ [], Boolean true) ∷ []))
+          subst (λ t. SpellsRaw d t ((raw ++ x ∷ []) ++ (97 ∷ [], Boolean true) ∷ []))
               (sym (append_assoc (p ++ semicolon ∷ q) (b ∷ []) (97 ∷ [])))
               (raw_more (p ++ semicolon ∷ q) (b ∷ 97 ∷ []) (raw ++ x ∷ []) _ spelled
               (one_more b e)),
@@ -230,7 +233,7 @@ module _ (B : List ℕ → Bare → Type 0) (apart_bare : Apart B is_follow) whe
     };
   }
     where
-      spelled : SpellsRawBy B (p ++ semicolon ∷ q) (raw ++ x ∷ [])
+      spelled : SpellsRaw d (p ++ semicolon ∷ q) (raw ++ x ∷ [])
       spelled = raw_more p (semicolon ∷ q) raw (x ∷ []) w.spelled (raw_one q x h)
 
       by : (u : List ℕ) → (v : (List ℕ × Bare) × Pairs Bare) × Opened (q ++ semicolon ∷ u) v
@@ -247,8 +250,8 @@ module _ (B : List ℕ → Bare → Type 0) (apart_bare : Apart B is_follow) whe
 
   pub raw_refused : (next : ℕ → Bool) (ends : Bool) (p : List ℕ) (raw : Pairs Bare)
       → Whole next ends p raw → (test : ℕ → Bool) (text more left : List ℕ)
-      → text ≡ p ++ semicolon ∷ more → Refuses (SpellsPair B) test more left
-      → (all : ℕ → Bool) → ((b : ℕ) → all b ≡ (test b || false)) → Refuses (SpellsRawBy B) all text left
+      → text ≡ p ++ semicolon ∷ more → Refuses (SpellsPair d) test more left
+      → (all : ℕ → Bool) → ((b : ℕ) → all b ≡ (test b || false)) → Refuses (SpellsRaw d) all text left
   raw_refused next ends p raw w test text more left e r all same =
       let q = r.stops.prefix in
       let f = r.stops.followed in record {
@@ -267,7 +270,7 @@ module _ (B : List ℕ → Bare → Type 0) (apart_bare : Apart B is_follow) whe
         };
         unspelled = λ v h.
             let o = more_opened next ends p q raw w [] v
-            (subst (λ t. SpellsRawBy B t v) (sym (append-nil (p ++ semicolon ∷ q))) h) in
+            (subst (λ t. SpellsRaw d t v) (sym (append-nil (p ++ semicolon ∷ q))) h) in
             by q r.unspelled f.viable o.0 (o.1);
       }
     where
@@ -275,22 +278,22 @@ module _ (B : List ℕ → Bare → Type 0) (apart_bare : Apart B is_follow) whe
       blocked [] h = tt
       blocked (b ∷ t) h = same b ∙ rw h refl
 
-      by : (q : List ℕ) → ((v : List ℕ × Bare) → SpellsPair B q v → ⊥) → Continues (SpellsPair B) q
+      by : (q : List ℕ) → ((v : List ℕ × Bare) → SpellsPair d q v → ⊥) → Continues (SpellsPair d) q
           → (v : (List ℕ × Bare) × Pairs Bare) → Opened (q ++ []) v → ⊥
       by q n h v o =
-          let l = cut (SpellsPair B) is_follow apart q [] o.0 o.1 v.0 h o.3
+          let l = cut (SpellsPair d) is_follow apart q [] o.0 o.1 v.0 h o.3
           (raw_follow o.1 v.1 o.4) o.2 in
           on l.more l.part l.rest
         where
           on : (more : List ℕ) → o.0 ≡ q ++ more → [] ≡ more ++ o.1 → ⊥
-          on [] e f = n v.0 (subst (λ x. SpellsPair B x v.0) (e ∙ append-nil q) o.3)
+          on [] e f = n v.0 (subst (λ x. SpellsPair d x v.0) (e ∙ append-nil q) o.3)
           on (c ∷ more) e f = cons_nil c _ (sym f)
 
   -- the end
   pub raw_read : (next : ℕ → Bool) (ends : Bool) (p : List ℕ) (raw : Pairs Bare)
       → Whole next ends p raw → (text left : List ℕ) → text ≡ p ++ left → Lacks next left
       → FirstIs (λ b. b ≢ semicolon) left
-      → Reads (SpellsRawBy B) (λ b. next b || (ends && b == semicolon)) text raw left
+      → Reads (SpellsRaw d) (λ b. next b || (ends && b == semicolon)) text raw left
   raw_read next ends p raw w text left e n s = record {
     stops = record {
       prefix = p;

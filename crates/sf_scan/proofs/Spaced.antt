@@ -11,7 +11,8 @@ use Rattle.sf_scan.specs.Lifts.{Lifts}
 use Rattle.sf_scan.specs.Places.{is_after}
 use Rattle.sf_scan.specs.Stops.{Past, IsFollowed, Reads, Refuses, Lacks, FirstIs}
 use Rattle.sf_scan.proofs.Enclosed.{Begun, begun_first}
-use Rattle.sf_scan.proofs.Languages.{SameTexts, Apart}
+use Rattle.sf_scan.proofs.Languages.{Apart}
+use Rattle.sf_scan.proofs.Languages.{SameTexts}
 use Rattle.sf_scan.proofs.Lifts.{lifts_past, lifts_then, lifts_first}
 use Rattle.sf_scan.proofs.Lists.{heads, tails, cons_nil}
 use Rattle.sf_scan.proofs.Sequences.{or_left, or_right, or_cases, lacks_both, then_reads, then_ends}

@@ -10,7 +10,7 @@ use Rattle.sf_value.specs.Grammar.Pairs.{Pairs}
 use Rattle.sf_value.specs.Grammar.Lines.{Continues}
 use Rattle.sf_scan.specs.Items.{RawItem, SpellsRawItem}
 use Rattle.sf_value.specs.Grammar.BareItems.{SpellsBare}
-use Rattle.sf_scan.specs.Parameters.{SpellsRawBy, SpellsParamBy}
+use Rattle.sf_value.specs.Grammar.Parameters.{SpellsRaw, SpellsParam}
 use Rattle.sf_scan.specs.Places.{in_bare, is_bare_start, is_after, is_follow}
 use Rattle.sf_scan.specs.Stops.{IsFollowed, FirstIs}
 use Rattle.sf_scan.specs.declared.place.BarePlace.TheVariants as place
@@ -62,23 +62,23 @@ after_follow b h = grind arith
 no_semicolon_after : (b : ℕ) → b ≡ semicolon → is_after b ≡ true → ⊥
 no_semicolon_after b e h = grind arith
 
-module _ (B : List ℕ → Bare → Type 0) (apart : Apart B is_follow) where
+module _ (d : Dialect) (apart : Apart (SpellsBare d) is_follow) where
   abbrev Param : List ℕ → List ℕ × Bare → Type 0
-  Param t p = SpellsParamBy B t p.0 p.1
+  Param t p = SpellsParam d t p.0 p.1
 
   param_apart : Apart Param is_follow
   param_apart a p b h f c = by a h.2 h c
     where
       by : (a : List ℕ) {t : List ℕ} → a ≡ semicolon ∷ t → Param a p → Continues Param (a ++ b ∷ []) → ⊥
       by a {t} e h c =
-          pair_apart B apart t p b (subst (λ z. Param z p) e h) f
+          pair_apart d apart t p b (subst (λ z. Param z p) e h) f
           (subst (λ z. Continues Param (z ++ b ∷ [])) e c)
 
   -- what follows parameters ends them
-  pub raw_apart : Apart (SpellsRawBy B) is_after
+  pub raw_apart : Apart (SpellsRaw d) is_after
   raw_apart t [] b h f c =
-      let k : SpellsRawBy B (b ∷ c.0) c.1 = subst (λ z. SpellsRawBy B ((z ++ b ∷ []) ++ c.0) c.1) h c.2 in
-      no_semicolon_after b (raw_starts B (b ∷ c.0) c.1 k) f
+      let k : SpellsRaw d (b ∷ c.0) c.1 = subst (λ z. SpellsRaw d ((z ++ b ∷ []) ++ c.0) c.1) h c.2 in
+      no_semicolon_after b (raw_starts d (b ∷ c.0) c.1 k) f
   raw_apart t (p ∷ raw) b h f c = by (λ k. raw_apart h.1 raw b h.4 f k) c.1 c.2
     where
       starts : (s : List ℕ) → FirstIs (λ x. is_follow x ≡ true) s
@@ -86,8 +86,8 @@ module _ (B : List ℕ → Bare → Type 0) (apart : Apart B is_follow) where
       starts [] g = after_follow b f
       starts (d ∷ s) g = g
 
-      by : (Continues (SpellsRawBy B) (h.1 ++ b ∷ []) → ⊥) → (more : Pairs Bare)
-          → SpellsRawBy B ((t ++ b ∷ []) ++ c.0) more → ⊥
+      by : (Continues (SpellsRaw d) (h.1 ++ b ∷ []) → ⊥) → (more : Pairs Bare)
+          → SpellsRaw d ((t ++ b ∷ []) ++ c.0) more → ⊥
       by ends [] k = none t k
         where
           none : (t : List ℕ) → (t ++ b ∷ []) ++ c.0 ≡ [] → ⊥
@@ -98,27 +98,27 @@ module _ (B : List ℕ → Bare → Type 0) (apart : Apart B is_follow) where
           sym (append_assoc h.0 (h.1 ++ b ∷ []) c.0)
           ∙ (ap (λ x. x ++ c.0) (sym (append_assoc h.0 h.1 (b ∷ [])))
           ∙ (ap (λ x. (x ++ b ∷ []) ++ c.0) (sym h.2) ∙ k.2)) in
-          let s = same_cut Param (SpellsRawBy B) is_follow param_apart (raw_follows B) h.0
+          let s = same_cut Param (SpellsRaw d) is_follow param_apart (raw_follows d) h.0
           ((h.1 ++ b ∷ []) ++ c.0) k.0 k.1 p q h.3 k.3
-          (starts h.1 (raw_follows B h.1 raw h.4)) (raw_follows B k.1 more k.4) moved in
-          ends (c.0, more, subst (λ y. SpellsRawBy B y more) (sym s.rest) k.4)
+          (starts h.1 (raw_follows d h.1 raw h.4)) (raw_follows d k.1 more k.4) moved in
+          ends (c.0, more, subst (λ y. SpellsRaw d y more) (sym s.rest) k.4)
 
   -- and an Item
-  pub item_apart : Apart (SpellsRawItem B) is_after
+  pub item_apart : Apart (SpellsRawItem d) is_after
   item_apart =
-      then_apart B (SpellsRawBy B) is_follow apart (raw_follows B) is_after after_follow raw_apart
+      then_apart (SpellsBare d) (SpellsRaw d) is_follow apart (raw_follows d) is_after after_follow raw_apart
 
-  module _ (begun : (t : List ℕ) (x : Bare) → B t x → Begun t) where
-    pub item_begun : (t : List ℕ) (i : RawItem) → SpellsRawItem B t i → Begun t
+  module _ (begun : (t : List ℕ) (x : Bare) → (SpellsBare d) t x → Begun t) where
+    pub item_begun : (t : List ℕ) (i : RawItem) → SpellsRawItem d t i → Begun t
     item_begun t i h = by t h.0 h.2 h.3
       where
-        by : (t p : List ℕ) → t ≡ p ++ h.1 → B p i.0 → Begun t
+        by : (t p : List ℕ) → t ≡ p ++ h.1 → (SpellsBare d) p i.0 → Begun t
         by t [] e k = absurd (begun [] i.0 k)
         by [] (c ∷ p) e k = cons_nil c _ (sym e)
         by (b ∷ t) (c ∷ p) e k = begun_first (c ∷ p) h.1 b t (begun (c ∷ p) i.0 k) e
 
-    pub item_start : (begin : ℕ → Bool) → IsFollowed B begin []
-        → IsFollowed (SpellsRawItem B) begin []
+    pub item_start : (begin : ℕ → Bool) → IsFollowed (SpellsBare d) begin []
+        → IsFollowed (SpellsRawItem d) begin []
     item_start begin f =
-        refused_followed B (SpellsRawBy B) is_follow apart (raw_follows B) begin [] ([], [], refl) f
+        refused_followed (SpellsBare d) (SpellsRaw d) is_follow apart (raw_follows d) begin [] ([], [], refl) f
         (λ x h. begun [] x h)

@@ -6,6 +6,8 @@ use Rattle.std.proofs.Math.Seq.{take-append-add}
 use Rattle.std.proofs.lemmas.Bool.{cases_lt}
 use Rattle.sf_value.specs.Grammar.Lines.{Continues, IsLongest}
 use Rattle.sf_scan.specs.Stops.{Stops, Reads, Refuses, Lacks}
+use Rattle.sf_scan.proofs.Languages.{SameTexts}
+use Rattle.sf_scan.proofs.Languages.{same_stops}
 use Rattle.sf_scan.proofs.Languages.{continues_before}
 use Rattle.sf_scan.proofs.Lists.{front_of}
 use Rattle.sf_scan.proofs.Sequences.{continues_itself}
@@ -76,3 +78,18 @@ stops_longest L next text left s = record {
     | inr l ↦ l
   ];
 }
+
+pub stops_place : {V : Type 0} (L : List ℕ → V → Type 0) (next : ℕ → Bool) (text left : List ℕ)
+    → Stops L next text left → IsLongest V L text (length text - length left)
+stops_place {V} L next text left s =
+    let e = ap length s.split in
+    let k = length-append s.prefix left in
+    let before : length s.prefix ≡ length text - length left = omega arith in
+    subst (IsLongest V L text) before (stops_longest L next text left s)
+
+-- seen from a language with the same texts, as that of sf_value's grammar
+pub place_in : {V W : Type 0} (L : List ℕ → V → Type 0) (M : List ℕ → W → Type 0) (of : V → W)
+    → SameTexts L M of → (next : ℕ → Bool) (text left : List ℕ) → Stops L next text left
+    → IsLongest W M text (length text - length left)
+place_in L M of same next text left s =
+    stops_place M next text left (same_stops L M of same next text left s)

@@ -1,5 +1,5 @@
--- Members of Dictionaries, and whole Dictionaries, as sf_value's grammar defines them, with the bare
--- items of any language B and with repeated keys.
+-- Members of Dictionaries, and whole Dictionaries, as sf_value's grammar defines them, with repeated
+-- keys.
 use Rattle.std.specs.Prelude.{◌≡◌, ℕ, Bool, true, false, List, ◌∷◌, ◌==◌, ◌||◌, ◌&&◌, ◌⊎◌}
 use Rattle.std.proofs.Common.{inl}
 use Rattle.sf_value.specs.declared.dialect.Dialect.{Dialect}
@@ -12,7 +12,7 @@ use Rattle.sf_value.specs.Grammar.Series.{SpellsWhole}
 use Rattle.sf_value.specs.Grammar.Tokens.{IsKey}
 use Rattle.sf_scan.specs.Languages.{Then}
 use Rattle.sf_scan.specs.Members.{RawMember, SpellsRawMember, made_member, in_member, ends_member}
-use Rattle.sf_scan.specs.Parameters.{SpellsRawBy}
+use Rattle.sf_value.specs.Grammar.Parameters.{SpellsRaw}
 use Rattle.sf_scan.specs.Places.{in_params, ends_params}
 use Rattle.sf_scan.specs.declared.entry.EntryPlace.{EntryPlace}
 use Rattle.sf_scan.specs.declared.entry.EntryPlace.TheVariants as place
@@ -28,18 +28,18 @@ abbrev pub raw_flag : Pairs Bare → RawMember
 raw_flag ps = inl (Boolean true, ps)
 
 -- after the key: = and the text of the member; or, for an Item of Boolean true, parameters alone
-abbrev pub SpellsKeyed : (List ℕ → Bare → Type 0) → List ℕ → RawMember → Type 0
-SpellsKeyed B t v =
-    ((suffix : List ℕ) × (t ≡ equals ∷ suffix) × SpellsRawMember B suffix v)
-    ⊎ ((ps : Pairs Bare) × (v ≡ raw_flag ps) × SpellsRawBy B t ps)
+abbrev pub SpellsKeyed : Dialect → List ℕ → RawMember → Type 0
+SpellsKeyed d t v =
+    ((suffix : List ℕ) × (t ≡ equals ∷ suffix) × SpellsRawMember d suffix v)
+    ⊎ ((ps : Pairs Bare) × (v ≡ raw_flag ps) × SpellsRaw d t ps)
 
 -- a member of a Dictionary: its key, and the rest
-abbrev pub SpellsRawEntry : (List ℕ → Bare → Type 0) → List ℕ → List ℕ × RawMember → Type 0
-SpellsRawEntry B = Then SpellsKey (SpellsKeyed B)
+abbrev pub SpellsRawEntry : Dialect → List ℕ → List ℕ × RawMember → Type 0
+SpellsRawEntry d = Then SpellsKey (SpellsKeyed d)
 
 -- a Dictionary: SP, members with commas between them, OWS
-abbrev pub SpellsRawDict : (List ℕ → Bare → Type 0) → List ℕ → Pairs RawMember → Type 0
-SpellsRawDict B = SpellsWhole (SpellsRawEntry B)
+abbrev pub SpellsRawDict : Dialect → List ℕ → Pairs RawMember → Type 0
+SpellsRawDict d = SpellsWhole (SpellsRawEntry d)
 
 -- what is made of a member
 abbrev pub made_entry : {M : Type 0} → (M → Bare → M) → (M → List ℕ → Bare → M) → (M → M)

@@ -13,7 +13,7 @@ use Rattle.sf_scan.specs.Items.{RawItem, SpellsRawItem, made_item, in_item, ends
 use Rattle.sf_scan.specs.Lifts.{Lifts}
 use Rattle.sf_scan.specs.Makers.{made_of}
 use Rattle.sf_scan.specs.Outcomes.{Rejects}
-use Rattle.sf_scan.specs.Parameters.{SpellsRawBy}
+use Rattle.sf_value.specs.Grammar.Parameters.{SpellsRaw}
 use Rattle.sf_scan.specs.Places.{in_bare, in_params, ends_params}
 use Rattle.sf_scan.specs.declared.place.BarePlace.TheVariants as bare_place
 use Rattle.sf_scan.specs.declared.place.Halt.{Halt}
@@ -55,11 +55,11 @@ SpellsInnerBy I R t v =
 abbrev pub RawInner : Type 0
 RawInner = List RawItem × Pairs Bare
 
-abbrev pub SpellsRawRest : (List ℕ → Bare → Type 0) → List ℕ → RawInner → Type 0
-SpellsRawRest B = SpellsRestBy (SpellsRawItem B) (SpellsRawBy B) 0
+abbrev pub SpellsRawRest : Dialect → List ℕ → RawInner → Type 0
+SpellsRawRest d = SpellsRestBy (SpellsRawItem d) (SpellsRaw d) 0
 
-abbrev pub SpellsRawInner : (List ℕ → Bare → Type 0) → List ℕ → RawInner → Type 0
-SpellsRawInner B = SpellsInnerBy (SpellsRawItem B) (SpellsRawBy B)
+abbrev pub SpellsRawInner : Dialect → List ℕ → RawInner → Type 0
+SpellsRawInner d = SpellsInnerBy (SpellsRawItem d) (SpellsRaw d)
 
 -- what is made of Items, and of the rest of an Inner List
 abbrev pub made_items : {M : Type 0} → (M → Bare → M) → (M → List ℕ → Bare → M) → M
@@ -86,18 +86,18 @@ ends_inner (place.InParams p) = ends_params p
 -- the Items and the closing bracket have been read: whatever is read of the parameters after it is
 -- read of the rest of the Inner List
 pub record PastItems {M : Type 0} (bare : M → Bare → M) (with : M → List ℕ → Bare → M)
-    (closed : M → M) (B : List ℕ → Bare → Type 0) (text after : List ℕ) (old new : M)
+    (closed : M → M) (d : Dialect) (text after : List ℕ) (old new : M)
     : Type 0 where
   pub into : Pairs Bare → RawInner
-  pub lifts : Lifts (SpellsRawBy B) after (SpellsRawRest B) text into
+  pub lifts : Lifts (SpellsRaw d) after (SpellsRawRest d) text into
   pub made : (raw : Pairs Bare) → made_of with (closed new) raw ≡ made_rest bare with closed old (into raw)
 
 -- what reading the Items up to their closing bracket returns
 abbrev pub ScansItems : {M F : Type 0} → (M → Bare → M) → (M → List ℕ → Bare → M) → (M → M)
-    → Dialect → (List ℕ → Bare → Type 0) → List ℕ → M → M → Result (Bor (List ℕ)) (Halt InnerPlace F)
+    → Dialect → List ℕ → M → M → Result (Bor (List ℕ)) (Halt InnerPlace F)
     → Type 0
-ScansItems bare with closed d B text old new (Ok after) =
-    PastItems bare with closed B text after.now old new
-ScansItems bare with closed d B text old new (Err (halt.Refused stop)) =
-    Rejects (SpellsRawRest B) (in_inner d) ends_inner text stop
-ScansItems bare with closed d B text old new (Err (halt.Fault fault)) = Unit {0}
+ScansItems bare with closed d text old new (Ok after) =
+    PastItems bare with closed d text after.now old new
+ScansItems bare with closed d text old new (Err (halt.Refused stop)) =
+    Rejects (SpellsRawRest d) (in_inner d) ends_inner text stop
+ScansItems bare with closed d text old new (Err (halt.Fault fault)) = Unit {0}

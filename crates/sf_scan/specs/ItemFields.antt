@@ -1,8 +1,6 @@
--- Whole fields of one Item, as sf_value's grammar defines them, with the bare items of any language B
--- and with repeated keys.
+-- Whole fields of one Item, as sf_value's grammar defines them, with repeated keys.
 use Rattle.std.specs.Prelude.{◌≡◌, ℕ, Bool, true, false, List, ◌++◌, ◌||◌, ◌&&◌}
 use Rattle.sf_value.specs.declared.dialect.Dialect.{Dialect}
-use Rattle.sf_value.specs.declared.value.Bare.{Bare}
 use Rattle.sf_value.specs.Grammar.Classes.{is_sp}
 use Rattle.sf_value.specs.Grammar.Words.{Every}
 use Rattle.sf_scan.specs.Items.{RawItem, SpellsRawItem, in_item, ends_item}
@@ -20,8 +18,8 @@ SpellsSpaced I t x =
     × I body x
     × Every is_sp tail
 
-abbrev pub SpellsRawField : (List ℕ → Bare → Type 0) → List ℕ → RawItem → Type 0
-SpellsRawField B = SpellsSpaced (SpellsRawItem B)
+abbrev pub SpellsRawField : Dialect → List ℕ → RawItem → Type 0
+SpellsRawField d = SpellsSpaced (SpellsRawItem d)
 
 -- the bytes that may come at a place in the field, as part of it
 abbrev pub in_field : Dialect → FieldPlace → ℕ → Bool

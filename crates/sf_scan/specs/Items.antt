@@ -1,13 +1,13 @@
--- Items, as sf_value's grammar defines them, with the bare items of any language B and with repeated
--- keys.
+-- Items, as sf_value's grammar defines them, with repeated keys.
 use Rattle.std.specs.Prelude.{ℕ, Bool, List, ◌==◌, ◌||◌, ◌&&◌}
 use Rattle.sf_value.specs.declared.dialect.Dialect.{Dialect}
 use Rattle.sf_value.specs.declared.value.Bare.{Bare}
 use Rattle.sf_value.specs.Ascii.{semicolon}
+use Rattle.sf_value.specs.Grammar.BareItems.{SpellsBare}
 use Rattle.sf_value.specs.Grammar.Pairs.{Pairs}
 use Rattle.sf_scan.specs.Languages.{Then}
 use Rattle.sf_scan.specs.Makers.{made_of}
-use Rattle.sf_scan.specs.Parameters.{SpellsRawBy}
+use Rattle.sf_value.specs.Grammar.Parameters.{SpellsRaw}
 use Rattle.sf_scan.specs.Places.{in_bare, ends_bare, in_params, ends_params}
 use Rattle.sf_scan.specs.declared.item.ItemPlace.{ItemPlace}
 use Rattle.sf_scan.specs.declared.item.ItemPlace.TheVariants as place
@@ -17,8 +17,8 @@ abbrev pub RawItem : Type 0
 RawItem = Bare × Pairs Bare
 
 -- its bare item, then its parameters
-abbrev pub SpellsRawItem : (List ℕ → Bare → Type 0) → List ℕ → RawItem → Type 0
-SpellsRawItem B = Then B (SpellsRawBy B)
+abbrev pub SpellsRawItem : Dialect → List ℕ → RawItem → Type 0
+SpellsRawItem d = Then (SpellsBare d) (SpellsRaw d)
 
 -- what is made of it
 abbrev pub made_item : {M : Type 0} → (M → Bare → M) → (M → List ℕ → Bare → M) → M → RawItem → M

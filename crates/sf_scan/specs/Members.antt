@@ -1,5 +1,4 @@
--- Members of Lists, and values of members of Dictionaries: Items and Inner Lists, with the bare items
--- of any language B and with repeated keys.
+-- Members of Lists, and values of members of Dictionaries: Items and Inner Lists, with repeated keys.
 use Rattle.std.specs.Prelude.{ℕ, Bool, false, List, ◌==◌, ◌||◌, ◌⊎◌}
 use Rattle.std.proofs.Common.{inl, inr}
 use Rattle.sf_value.specs.declared.dialect.Dialect.{Dialect}
@@ -17,8 +16,8 @@ use Rattle.sf_scan.specs.declared.member.MemberPlace.TheVariants as place
 abbrev pub RawMember : Type 0
 RawMember = RawItem ⊎ RawInner
 
-abbrev pub SpellsRawMember : (List ℕ → Bare → Type 0) → List ℕ → RawMember → Type 0
-SpellsRawMember B = Either (SpellsRawItem B) (SpellsRawInner B)
+abbrev pub SpellsRawMember : Dialect → List ℕ → RawMember → Type 0
+SpellsRawMember d = Either (SpellsRawItem d) (SpellsRawInner d)
 
 -- what is made of it
 abbrev pub made_member : {M : Type 0} → (M → Bare → M) → (M → List ℕ → Bare → M) → (M → M)

@@ -1,8 +1,6 @@
--- Whole Lists, as sf_value's grammar defines them, with the bare items of any language B and with
--- repeated keys.
+-- Whole Lists, as sf_value's grammar defines them, with repeated keys.
 use Rattle.std.specs.Prelude.{ℕ, Bool, true, false, List, [], ◌∷◌, ◌==◌, ◌||◌, ◌&&◌}
 use Rattle.sf_value.specs.declared.dialect.Dialect.{Dialect}
-use Rattle.sf_value.specs.declared.value.Bare.{Bare}
 use Rattle.sf_value.specs.Ascii.{comma}
 use Rattle.sf_value.specs.Grammar.Classes.{is_sp, is_ows}
 use Rattle.sf_value.specs.Grammar.Series.{SpellsWhole}
@@ -12,8 +10,8 @@ use Rattle.sf_scan.specs.declared.list.ListPlace.{ListPlace}
 use Rattle.sf_scan.specs.declared.list.ListPlace.TheVariants as place
 
 -- a List: SP, members with commas between them, OWS
-abbrev pub SpellsRawList : (List ℕ → Bare → Type 0) → List ℕ → List RawMember → Type 0
-SpellsRawList B = SpellsWhole (SpellsRawMember B)
+abbrev pub SpellsRawList : Dialect → List ℕ → List RawMember → Type 0
+SpellsRawList d = SpellsWhole (SpellsRawMember d)
 
 -- what is made of a list, one after another
 abbrev pub made_each : {M X : Type 0} → (M → X → M) → M → List X → M

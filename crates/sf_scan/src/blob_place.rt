@@ -8,7 +8,7 @@ use crate::byte_sets::{DIGITS, EQUALS, LETTERS};
 
 /// A place in a Byte Sequence, after its opening colon. Four characters of base64 are a group; `=`
 /// may complete the last one.
-#[derive(Clone, Copy, Debug, PartialEq, Eq)]
+#[derive(Clone, Copy)]
 pub enum BlobPlace {
     /// After whole groups, of which there may be none.
     Whole,

@@ -7,7 +7,7 @@ ghost use Rattle.sf_scan.specs.declared.char_place.CharPlace.TheVariants as char
 ghost use Rattle.sf_scan.specs.Characters.{find_place, first_places, low_digits as low_digits_at};
 
 /// A place in UTF-8: between two characters, or in one.
-#[derive(Clone, Copy, Debug, PartialEq, Eq)]
+#[derive(Clone, Copy)]
 pub enum CharPlace {
     /// Between two characters.
     Start,
@@ -28,7 +28,7 @@ pub enum CharPlace {
 }
 
 /// Which digits may come as the second of a byte, after its first.
-#[derive(Clone, Copy, Debug, PartialEq, Eq)]
+#[derive(Clone, Copy)]
 pub enum LowDigits {
     /// All of them.
     Any,

@@ -1,6 +1,5 @@
 //! Dictionaries (RFC 9651 section 4.2.2).
 ghost use Rattle.std.specs.Prelude.{◌≡◌};
-ghost use Rattle.sf_value.specs.Grammar.BareItems.{SpellsBare};
 ghost use Rattle.sf_scan.specs.Entries.{SpellsRawDict, made_entry, in_dict, ends_dict};
 ghost use Rattle.sf_scan.specs.Outcomes.{Scans};
 ghost use Rattle.sf_scan.specs.Series.{made_each};
@@ -15,7 +14,7 @@ use sf_value::Dialect;
 use sf_value::classes::{Ows, Space};
 
 /// A place in a Dictionary.
-#[derive(Clone, Copy, Debug, PartialEq, Eq)]
+#[derive(Clone, Copy)]
 pub enum DictPlace {
     /// Before the first member, and after spaces.
     Start,
@@ -66,7 +65,7 @@ pub fn dict<'a, M: Builder<'a>>(
     text: &'a [u8],
     maker: &mut M,
 ) -> Result<Stop<'a, DictPlace>, Halt<'a, DictPlace, M::Fault>>
-    ensures { Scans (SpellsRawDict (SpellsBare dialect)) (in_dict dialect) ends_dict
+    ensures { Scans (SpellsRawDict dialect) (in_dict dialect) ends_dict
         (made_each (made_entry M.bare M.with M.opened M.closed M.named))
         text.now maker.old maker.new result }
 {

@@ -1,7 +1,6 @@
 //! Members of Dictionaries (RFC 9651 section 4.2.2).
 ghost use Rattle.std.specs.Prelude.{◌≡◌};
 ghost use Rattle.sf_scan.specs.Entries.{SpellsRawEntry, made_entry, in_entry, ends_entry};
-ghost use Rattle.sf_value.specs.Grammar.BareItems.{SpellsBare};
 ghost use Rattle.sf_scan.specs.Outcomes.{Scans, Keeps};
 ghost use Rattle.sf_scan.specs.Sets.{Marks};
 
@@ -15,7 +14,7 @@ use crate::runs::strip;
 use sf_value::Dialect;
 
 /// A place in a member of a Dictionary.
-#[derive(Clone, Copy, Debug, PartialEq, Eq)]
+#[derive(Clone, Copy)]
 pub enum EntryPlace {
     /// Before its first byte.
     Start,
@@ -59,7 +58,7 @@ pub fn entry<'a, M: Builder<'a>>(
     text: &'a [u8],
     maker: &mut M,
 ) -> Result<Stop<'a, EntryPlace>, Halt<'a, EntryPlace, M::Fault>>
-    ensures scans { Scans (SpellsRawEntry (SpellsBare dialect)) (in_entry dialect) ends_entry
+    ensures scans { Scans (SpellsRawEntry dialect) (in_entry dialect) ends_entry
         (made_entry M.bare M.with M.opened M.closed M.named) text.now maker.old maker.new result }
     ensures kept { Keeps text.now maker.old maker.new result }
 {

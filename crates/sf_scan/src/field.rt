@@ -2,7 +2,6 @@
 ghost use Rattle.std.specs.Prelude.{◌≡◌};
 ghost use Rattle.sf_scan.specs.ItemFields.{SpellsRawField, in_field, ends_field};
 ghost use Rattle.sf_scan.specs.Items.{made_item};
-ghost use Rattle.sf_value.specs.Grammar.BareItems.{SpellsBare};
 ghost use Rattle.sf_scan.specs.Outcomes.{Scans};
 ghost use Rattle.sf_scan.specs.Sets.{Marks};
 
@@ -15,7 +14,7 @@ use sf_value::Dialect;
 use sf_value::classes::Space;
 
 /// A place in a field of one Item.
-#[derive(Clone, Copy, Debug, PartialEq, Eq)]
+#[derive(Clone, Copy)]
 pub enum FieldPlace {
     /// Before the Item, and after spaces.
     Start,
@@ -58,7 +57,7 @@ pub fn item_field<'a, M: Builder<'a>>(
     text: &'a [u8],
     maker: &mut M,
 ) -> Result<Stop<'a, FieldPlace>, Halt<'a, FieldPlace, M::Fault>>
-    ensures { Scans (SpellsRawField (SpellsBare dialect)) (in_field dialect) ends_field
+    ensures { Scans (SpellsRawField dialect) (in_field dialect) ends_field
         (made_item M.bare M.with) text.now maker.old maker.new result }
 {
     let (_, start) = short_run::<Space>(text);

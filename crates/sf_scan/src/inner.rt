@@ -4,7 +4,6 @@ ghost use Rattle.sf_value.specs.Ascii.{open_bracket};
 ghost use Rattle.sf_scan.specs.InnerLists.{SpellsRawInner, ScansItems};
 ghost use Rattle.sf_scan.specs.InnerLists.{made_rest, in_inner, ends_inner};
 ghost use Rattle.sf_scan.specs.Items.{made_item};
-ghost use Rattle.sf_value.specs.Grammar.BareItems.{SpellsBare};
 ghost use Rattle.sf_scan.specs.Outcomes.{Scans};
 ghost use Rattle.sf_scan.specs.Sets.{Marks};
 ghost use Rattle.sf_scan.specs.Stops.{Past};
@@ -19,7 +18,7 @@ use sf_value::Dialect;
 use sf_value::classes::Space;
 
 /// A place in an Inner List.
-#[derive(Clone, Copy, Debug, PartialEq, Eq)]
+#[derive(Clone, Copy)]
 pub enum InnerPlace {
     /// After the opening bracket or a space: before an Item or the closing bracket.
     Open,
@@ -63,7 +62,7 @@ pub fn inner_list<'a, M: Builder<'a>>(
     text: &'a [u8],
     maker: &mut M,
 ) -> Result<Stop<'a, InnerPlace>, Halt<'a, InnerPlace, M::Fault>>
-    ensures { Scans (Past (open_bracket ∷ []) (SpellsRawInner (SpellsBare dialect)))
+    ensures { Scans (Past (open_bracket ∷ []) (SpellsRawInner dialect))
         (in_inner dialect) ends_inner
         (λ m v. made_rest M.bare M.with M.closed (M.opened m) v)
         text.now maker.old maker.new result }
@@ -95,7 +94,7 @@ fn items<'a, M: Builder<'a>>(
     text: &'a [u8],
     maker: &mut M,
 ) -> Result<&'a [u8], Halt<'a, InnerPlace, M::Fault>>
-    ensures { ScansItems M.bare M.with M.closed dialect (SpellsBare dialect) text.now
+    ensures { ScansItems M.bare M.with M.closed dialect text.now
         maker.old maker.new result }
 {
     let mut rest = text;

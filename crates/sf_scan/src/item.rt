@@ -1,7 +1,6 @@
 //! Items (RFC 9651 section 4.2.3).
 ghost use Rattle.std.specs.Prelude.{◌≡◌};
 ghost use Rattle.sf_scan.specs.Items.{SpellsRawItem, made_item, in_item, ends_item};
-ghost use Rattle.sf_value.specs.Grammar.BareItems.{SpellsBare};
 ghost use Rattle.sf_scan.specs.Outcomes.{Scans, Keeps};
 ghost use Rattle.sf_scan.specs.Sets.{Marks};
 
@@ -14,7 +13,7 @@ use crate::runs::strip;
 use sf_value::Dialect;
 
 /// A place in an Item.
-#[derive(Clone, Copy, Debug, PartialEq, Eq)]
+#[derive(Clone, Copy)]
 pub enum ItemPlace {
     /// In its bare item, or after it.
     InBare(BarePlace),
@@ -58,7 +57,7 @@ pub fn item<'a, M: Builder<'a>>(
     text: &'a [u8],
     maker: &mut M,
 ) -> Result<Stop<'a, ItemPlace>, Halt<'a, ItemPlace, M::Fault>>
-    ensures scans { Scans (SpellsRawItem (SpellsBare dialect)) (in_item dialect) ends_item
+    ensures scans { Scans (SpellsRawItem dialect) (in_item dialect) ends_item
         (made_item M.bare M.with) text.now maker.old maker.new result }
     ensures kept { Keeps text.now maker.old maker.new result }
 {

@@ -1,6 +1,5 @@
 //! Lists (RFC 9651 section 4.2.1).
 ghost use Rattle.std.specs.Prelude.{◌≡◌};
-ghost use Rattle.sf_value.specs.Grammar.BareItems.{SpellsBare};
 ghost use Rattle.sf_scan.specs.Members.{made_member};
 ghost use Rattle.sf_scan.specs.Outcomes.{Scans};
 ghost use Rattle.sf_scan.specs.Series.{SpellsRawList, made_each, in_list, ends_list};
@@ -15,7 +14,7 @@ use sf_value::Dialect;
 use sf_value::classes::{Ows, Space};
 
 /// A place in a List.
-#[derive(Clone, Copy, Debug, PartialEq, Eq)]
+#[derive(Clone, Copy)]
 pub enum ListPlace {
     /// Before the first member, and after spaces.
     Start,
@@ -61,7 +60,7 @@ pub fn list<'a, M: Builder<'a>>(
     text: &'a [u8],
     maker: &mut M,
 ) -> Result<Stop<'a, ListPlace>, Halt<'a, ListPlace, M::Fault>>
-    ensures { Scans (SpellsRawList (SpellsBare dialect)) (in_list dialect) ends_list
+    ensures { Scans (SpellsRawList dialect) (in_list dialect) ends_list
         (made_each (made_member M.bare M.with M.opened M.closed))
         text.now maker.old maker.new result }
 {

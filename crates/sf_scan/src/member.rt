@@ -1,6 +1,5 @@
 //! Members: Items and Inner Lists (RFC 9651 section 4.2.1.1).
 ghost use Rattle.std.specs.Prelude.{◌≡◌};
-ghost use Rattle.sf_value.specs.Grammar.BareItems.{SpellsBare};
 ghost use Rattle.sf_scan.specs.Members.{SpellsRawMember, made_member, in_member, ends_member};
 ghost use Rattle.sf_scan.specs.Outcomes.{Scans, Keeps};
 ghost use Rattle.sf_scan.specs.Sets.{Marks};
@@ -13,7 +12,7 @@ use crate::runs::strip;
 use sf_value::Dialect;
 
 /// A place in a member of a List, or in the value of a member of a Dictionary.
-#[derive(Clone, Copy, Debug, PartialEq, Eq)]
+#[derive(Clone, Copy)]
 pub enum MemberPlace {
     /// Before its first byte.
     Start,
@@ -53,7 +52,7 @@ pub fn member<'a, M: Builder<'a>>(
     text: &'a [u8],
     maker: &mut M,
 ) -> Result<Stop<'a, MemberPlace>, Halt<'a, MemberPlace, M::Fault>>
-    ensures scans { Scans (SpellsRawMember (SpellsBare dialect)) (in_member dialect) ends_member
+    ensures scans { Scans (SpellsRawMember dialect) (in_member dialect) ends_member
         (made_member M.bare M.with M.opened M.closed) text.now maker.old maker.new result }
     ensures kept { Keeps text.now maker.old maker.new result }
 {

@@ -9,7 +9,7 @@ use crate::byte_sets::{DIGITS, MINUS, set_if};
 use sf_value::Dialect;
 
 /// A place in an Integer, a Decimal or a Date, after its first byte.
-#[derive(Clone, Copy, Debug, PartialEq, Eq)]
+#[derive(Clone, Copy)]
 pub enum NumberPlace {
     /// After this many digits of an Integer or, before its point, of a Decimal. If there are none,
     /// after the minus sign.

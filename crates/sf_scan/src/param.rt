@@ -2,7 +2,6 @@
 ghost use Rattle.std.specs.Prelude.{◌≡◌, ◌++◌, MatchOption};
 ghost use Rattle.sf_value.specs.Grammar.Classes.{is_in_key, is_key_start};
 ghost use Rattle.sf_value.specs.Grammar.Tokens.{IsKey};
-ghost use Rattle.sf_value.specs.Grammar.BareItems.{SpellsBare};
 ghost use Rattle.sf_scan.specs.Parameters.{ScansParam};
 ghost use Rattle.sf_scan.specs.Makers.{ScansParams};
 ghost use Rattle.sf_scan.specs.Stops.{Lacks};
@@ -37,7 +36,7 @@ pub fn params<'a, M: Maker<'a>>(
     text: &'a [u8],
     maker: &mut M,
 ) -> Result<Stop<'a, ParamPlace>, Halt<'a, ParamPlace, M::Fault>>
-    ensures { ScansParams M.with dialect (SpellsBare dialect) text.now maker.old maker.new result }
+    ensures { ScansParams M.with dialect text.now maker.old maker.new result }
 {
     let mut end = Stop {
         left: text,
@@ -62,7 +61,7 @@ fn next_param(
     dialect: Dialect,
     text: &[u8],
 ) -> Result<(Param<'_>, Stop<'_, ParamPlace>), Stop<'_, ParamPlace>>
-    ensures { ScansParam dialect (SpellsBare dialect) text.now result }
+    ensures { ScansParam dialect text.now result }
 {
     let (_, named) = short_run::<Space>(text);
     let Some((key, after)) = find_key(named) else {

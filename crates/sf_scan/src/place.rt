@@ -13,7 +13,7 @@ use crate::shown_place::ShownPlace;
 use sf_value::Dialect;
 
 /// A place in a bare item.
-#[derive(Clone, Copy, Debug, PartialEq, Eq)]
+#[derive(Clone, Copy)]
 pub enum BarePlace {
     /// Before its first byte.
     Start,
@@ -92,7 +92,7 @@ impl BarePlace {
 }
 
 /// A place in parameters.
-#[derive(Clone, Copy, Debug, PartialEq, Eq)]
+#[derive(Clone, Copy)]
 pub enum ParamPlace {
     /// Before the first parameter.
     Before,

@@ -7,7 +7,7 @@ use crate::byte_sets::{QUOTE, VISIBLE};
 use crate::char_place::{CharPlace, LowDigits};
 
 /// A place in a Display String, after its percent sign.
-#[derive(Clone, Copy, Debug, PartialEq, Eq)]
+#[derive(Clone, Copy)]
 pub enum ShownPlace {
     /// Before the opening quote.
     Quote,

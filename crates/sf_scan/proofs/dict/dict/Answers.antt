@@ -1,7 +1,6 @@
 use Rattle.std.proofs.Common.{refl, ◌==◌, ◌||◌, []}
 use Rattle.sf_value.specs.Ascii.{comma}
 use Rattle.sf_value.specs.Grammar.Classes.{is_ows}
-use Rattle.sf_value.specs.Grammar.BareItems.{SpellsBare}
 use Rattle.sf_scan.specs.Entries.{SpellsRawEntry, made_entry, in_entry, ends_entry}
 use Rattle.sf_scan.specs.Entries.{SpellsRawDict}
 use Rattle.sf_scan.specs.declared.entry.EntryPlace.TheVariants.{Start}
@@ -20,7 +19,7 @@ loop-more-init g c =
     let r = c.short_run.ensures in
     let m = c.in-Ok.ensures.scans in
     record {
-      has = first_has (SpellsRawEntry (SpellsBare d)) (leaf_entry_apart d) (leaf_entry_begun d)
+      has = first_has (SpellsRawEntry d) (leaf_entry_apart d) (leaf_entry_begun d)
           (leaf_entry_some d)
           (made_entry g.M.Builder.bare g.M.Maker.with g.M.Builder.opened g.M.Builder.closed
           g.M.Builder.named) _ _ _ _
@@ -35,12 +34,12 @@ returns-then-stop-start g c =
     let m = rw c.in-Err-Refused.field-0-is at c.in-Err-Refused.ensures.scans in
     record {
       value = [];
-      reads = first_none (SpellsRawEntry (SpellsBare d)) (leaf_entry_apart d) (leaf_entry_begun d)
+      reads = first_none (SpellsRawEntry d) (leaf_entry_apart d) (leaf_entry_begun d)
           (leaf_entry_some d)
           (made_entry g.M.Builder.bare g.M.Maker.with g.M.Builder.opened g.M.Builder.closed
           g.M.Builder.named) _
           c.args.maker.now _ _ r.whole r.every (in_entry d Start) (leaf_entry_start d)
-          (unread (SpellsRawEntry (SpellsBare d)) _ _ _ _ m.refuses (rw c.in-Err-Refused.field-0-is at c.if-stop-start.true)
+          (unread (SpellsRawEntry d) _ _ _ _ m.refuses (rw c.in-Err-Refused.field-0-is at c.if-stop-start.true)
           (leaf_entry_start d)) r.longest;
       made = (rw c.in-Err-Refused.field-0-is at c.in-Err-Refused.ensures.kept) (all_left _ m.refuses.stops.prefix _ m.refuses.stops.split
           (rw c.in-Err-Refused.field-0-is at c.if-stop-start.true));
@@ -54,9 +53,9 @@ returns-in-Err-Refused g c =
     let m = rw c.in-Err-Refused.field-0-is at c.in-Err-Refused.ensures.scans in
     let p = c.in-Err-Refused.stop.place in
     rw c.in-Err-Refused.field-0-is (record {
-      refuses = refuses_as (SpellsRawDict (SpellsBare d)) (in_entry d p) _ _ _
+      refuses = refuses_as (SpellsRawDict d) (in_entry d p) _ _ _
           (λ b. open_test (in_entry d p b) (ends_entry p) (is_ows b || b == comma) m.open_still)
-          (first_refused (SpellsRawEntry (SpellsBare d)) (leaf_entry_apart d) (leaf_entry_begun d)
+          (first_refused (SpellsRawEntry d) (leaf_entry_apart d) (leaf_entry_begun d)
           (leaf_entry_some d)
           (made_entry g.M.Builder.bare g.M.Maker.with g.M.Builder.opened g.M.Builder.closed
           g.M.Builder.named) _
@@ -73,10 +72,10 @@ returns-then-is_empty g c =
     let p = c.loop-more.end.place in
     record {
       value = i.has.into (i.has.member, []);
-      reads = reads_as (SpellsRawDict (SpellsBare d)) (λ b. in_entry d p b || (is_ows b || b == comma))
+      reads = reads_as (SpellsRawDict d) (λ b. in_entry d p b || (is_ows b || b == comma))
           _ _ _ _
           (λ b. closed_test (in_entry d p b) (ends_entry p) (is_ows b || b == comma) i.ended)
-          (ends_there (SpellsRawEntry (SpellsBare d)) (leaf_entry_apart d) (leaf_entry_begun d)
+          (ends_there (SpellsRawEntry d) (leaf_entry_apart d) (leaf_entry_begun d)
           (leaf_entry_some d)
           (made_entry g.M.Builder.bare g.M.Maker.with g.M.Builder.opened g.M.Builder.closed
           g.M.Builder.named) _ _ _ _
@@ -94,7 +93,7 @@ returns-in_default g c =
     let r = c.short_run-in-loop-more.ensures in
     record {
       value = i.has.into (i.has.member, []);
-      reads = ends_behind (SpellsRawEntry (SpellsBare d)) (leaf_entry_apart d) (leaf_entry_begun d)
+      reads = ends_behind (SpellsRawEntry d) (leaf_entry_apart d) (leaf_entry_begun d)
           (leaf_entry_some d)
           (made_entry g.M.Builder.bare g.M.Maker.with g.M.Builder.opened g.M.Builder.closed
           g.M.Builder.named) _ _ _ _
@@ -112,13 +111,13 @@ returns-then-stop-due g c =
     let s = c.short_run-in-loop-more-2.ensures in
     let m = rw c.in-Err-Refused-entry.field-0-is at c.in-Err-Refused-entry.ensures.scans in
     record {
-      refuses = due_refused (SpellsRawEntry (SpellsBare d)) (leaf_entry_apart d)
+      refuses = due_refused (SpellsRawEntry d) (leaf_entry_apart d)
           (leaf_entry_begun d) (leaf_entry_some d)
           (made_entry g.M.Builder.bare g.M.Maker.with g.M.Builder.opened g.M.Builder.closed
           g.M.Builder.named) _ _ _ _
           _ i.has _ _ r.whole r.every _ _ _ c.in-Some.ensures s.whole s.every (in_entry d Start)
           (leaf_entry_start d)
-          (unread (SpellsRawEntry (SpellsBare d)) _ _ _ _ m.refuses (rw c.in-Err-Refused-entry.field-0-is at c.if-stop-due.true)
+          (unread (SpellsRawEntry d) _ _ _ _ m.refuses (rw c.in-Err-Refused-entry.field-0-is at c.if-stop-due.true)
           (leaf_entry_start d)) s.longest;
       open_still = refl;
     }
@@ -132,9 +131,9 @@ returns-in-Err-Refused-entry g c =
     let m = rw c.in-Err-Refused-entry.field-0-is at c.in-Err-Refused-entry.ensures.scans in
     let p = c.in-Err-Refused-entry.stop.place in
     rw c.in-Err-Refused-entry.field-0-is (record {
-      refuses = refuses_as (SpellsRawDict (SpellsBare d)) (in_entry d p) _ _ _
+      refuses = refuses_as (SpellsRawDict d) (in_entry d p) _ _ _
           (λ b. open_test (in_entry d p b) (ends_entry p) (is_ows b || b == comma) m.open_still)
-          (due_broken (SpellsRawEntry (SpellsBare d)) (leaf_entry_apart d) (leaf_entry_begun d)
+          (due_broken (SpellsRawEntry d) (leaf_entry_apart d) (leaf_entry_begun d)
           (leaf_entry_some d)
           (made_entry g.M.Builder.bare g.M.Maker.with g.M.Builder.opened g.M.Builder.closed
           g.M.Builder.named) _ _ _ _
@@ -159,7 +158,7 @@ loop-more-preserved g c =
     let s = c.short_run-in-loop-more-2.ensures in
     let m = c.in-Ok-entry.ensures.scans in
     record {
-      has = more_has (SpellsRawEntry (SpellsBare d)) (leaf_entry_apart d) (leaf_entry_begun d)
+      has = more_has (SpellsRawEntry d) (leaf_entry_apart d) (leaf_entry_begun d)
           (leaf_entry_some d)
           (made_entry g.M.Builder.bare g.M.Maker.with g.M.Builder.opened g.M.Builder.closed
           g.M.Builder.named) _ _ _ _

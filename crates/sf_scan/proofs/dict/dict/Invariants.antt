@@ -1,5 +1,4 @@
 use Rattle.std.proofs.Common.{length, ◌≡◌, true}
-use Rattle.sf_value.specs.Grammar.BareItems.{SpellsBare}
 use Rattle.sf_scan.specs.Entries.{SpellsRawEntry, made_entry, in_entry, ends_entry}
 use Rattle.sf_scan.proofs.Entries.{leaf_entry_apart, leaf_entry_begun, leaf_entry_some}
 use Rattle.sf_scan.proofs.Series.{Has}
@@ -7,7 +6,7 @@ use Rattle.sf_scan.proofs.dict.dict.Given as goal
 
 abbrev pub invariant-loop-more : goal.invariant-loop-more
 invariant-loop-more g l = record {
-  has : Has (SpellsRawEntry (SpellsBare l.dialect)) (leaf_entry_apart l.dialect)
+  has : Has (SpellsRawEntry l.dialect) (leaf_entry_apart l.dialect)
       (leaf_entry_begun l.dialect) (leaf_entry_some l.dialect)
       (made_entry g.M.Builder.bare g.M.Maker.with g.M.Builder.opened g.M.Builder.closed
       g.M.Builder.named)

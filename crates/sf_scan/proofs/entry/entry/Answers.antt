@@ -1,7 +1,6 @@
 use Rattle.std.proofs.Common.{refl, [], ap, ◌∙◌}
 use Rattle.sf_value.specs.declared.value.Bare.TheVariants.{Boolean}
 use Rattle.std.proofs.Common.{true}
-use Rattle.sf_value.specs.Grammar.BareItems.{SpellsBare}
 use Rattle.sf_scan.specs.Members.{made_member}
 use Rattle.sf_scan.specs.Makers.{made_of}
 use Rattle.sf_scan.specs.Entries.{raw_flag}
@@ -14,7 +13,7 @@ pub returns-in_default-clause-scans : goal.returns-in_default-clause-scans
 returns-in_default-clause-scans g c =
     let d = c.args.dialect in
     record {
-      refuses = entry_refused (SpellsBare d) (bare_apart d) (leaf_member_apart d) (leaf_member_some d)
+      refuses = entry_refused d (bare_apart d) (leaf_member_apart d) (leaf_member_some d)
           _ c.in_default.ensures;
       open_still = refl;
     }
@@ -26,7 +25,7 @@ returns-in-Ok-clause-scans g c =
     let m = c.in-Ok.ensures.scans in
     record {
       value = (c.in-Some.key.now, m.value);
-      reads = (value_lifts (SpellsBare d) (bare_apart d) (leaf_member_apart d) (leaf_member_some d) _ _
+      reads = (value_lifts d (bare_apart d) (leaf_member_apart d) (leaf_member_some d) _ _
           _ k.0 k.1 k.2 _ c.in-Some-strip.ensures).reads _ _ _ m.reads;
       made = m.made
           ∙ ap (λ z. made_member g.M.Builder.bare g.M.Maker.with g.M.Builder.opened
@@ -40,7 +39,7 @@ returns-in-Err-Refused-clause-scans g c =
     let k = c.in-Some.ensures in
     let m = rw c.in-Err-Refused.field-0-is at c.in-Err-Refused.ensures.scans in
     record {
-      refuses = (value_lifts (SpellsBare d) (bare_apart d) (leaf_member_apart d) (leaf_member_some d)
+      refuses = (value_lifts d (bare_apart d) (leaf_member_apart d) (leaf_member_some d)
           _ _ _ k.0 k.1 k.2 _ c.in-Some-strip.ensures).refuses _ _ m.refuses;
       open_still = m.open_still;
     }
@@ -51,7 +50,7 @@ returns-in_default-strip-2-clause-scans g c =
     let k = c.in-Some.ensures in
     record {
       value = (c.in-Some.key.now, raw_flag []);
-      reads = key_alone (SpellsBare d) (bare_apart d) (leaf_member_apart d) (leaf_member_some d) _ _ _
+      reads = key_alone d (bare_apart d) (leaf_member_apart d) (leaf_member_some d) _ _ _
           k.0 k.1 k.2 c.in_default-strip.ensures c.in_default-strip-2.ensures;
       made = c.in_default-bare_item.ensures
           ∙ ap (λ z. g.M.Builder.bare z (Boolean true)) c.in_default-key.ensures;
@@ -65,7 +64,7 @@ returns-in-Ok-params-clause-scans g c =
     let m = c.in-Ok-params.ensures in
     record {
       value = (c.in-Some.key.now, raw_flag m.raw);
-      reads = (params_lifts (SpellsBare d) (bare_apart d) (leaf_member_apart d) (leaf_member_some d) _
+      reads = (params_lifts d (bare_apart d) (leaf_member_apart d) (leaf_member_some d) _
           _ _ k.0 k.1 k.2 _ c.in-Some-strip-2.ensures).reads _ _ _ m.reads;
       made = m.made
           ∙ ap (λ z. made_of g.M.Maker.with z m.raw)
@@ -79,7 +78,7 @@ returns-in-Err-Refused-params-clause-scans g c =
     let k = c.in-Some.ensures in
     let m = rw c.in-Err-Refused-params.field-0-is at c.in-Err-Refused-params.ensures in
     record {
-      refuses = (params_lifts (SpellsBare d) (bare_apart d) (leaf_member_apart d) (leaf_member_some d)
+      refuses = (params_lifts d (bare_apart d) (leaf_member_apart d) (leaf_member_some d)
           _ _ _ k.0 k.1 k.2 _ c.in-Some-strip-2.ensures).refuses _ _ m.refuses;
       open_still = m.open_still;
     }

@@ -2,7 +2,6 @@ use Rattle.std.proofs.Common.{refl, ap, sym, ◌∙◌, ◌++◌, subst, ◌||�
 use Rattle.sf_value.specs.Grammar.Classes.{is_sp}
 use Rattle.sf_scan.specs.ItemFields.{SpellsRawField}
 use Rattle.sf_scan.specs.Items.{SpellsRawItem, in_item, ends_item}
-use Rattle.sf_value.specs.Grammar.BareItems.{SpellsBare}
 use Rattle.sf_scan.specs.Places.{in_bare}
 use Rattle.sf_scan.specs.Stops.{Lacks}
 use Rattle.sf_scan.specs.declared.place.BarePlace.TheVariants.{Start}
@@ -19,12 +18,12 @@ returns-then-stop-start g c =
     let d = c.args.dialect in
     let r = c.short_run.ensures in
     let m = rw c.in-Err-Refused.field-0-is at c.in-Err-Refused.ensures.scans in
-    let s = item_start (SpellsBare d) (bare_apart d) (bare_begun d) (in_bare d Start) (bare_start d) in
+    let s = item_start d (bare_apart d) (bare_begun d) (in_bare d Start) (bare_start d) in
     record {
-      refuses = field_refused (SpellsRawItem (SpellsBare d)) (item_apart (SpellsBare d) (bare_apart d))
-          (item_begun (SpellsBare d) (bare_apart d) (bare_begun d)) _ _ _ r.whole r.every
+      refuses = field_refused (SpellsRawItem d) (item_apart d (bare_apart d))
+          (item_begun d (bare_apart d) (bare_begun d)) _ _ _ r.whole r.every
           (in_bare d Start) s
-          (unread (SpellsRawItem (SpellsBare d)) _ _ _ _ m.refuses c.if-stop-start.true s) r.longest;
+          (unread (SpellsRawItem d) _ _ _ _ m.refuses c.if-stop-start.true s) r.longest;
       open_still = refl;
     }
 
@@ -35,10 +34,10 @@ returns-in-Err-Refused g c =
     let m = rw c.in-Err-Refused.field-0-is at c.in-Err-Refused.ensures.scans in
     let p = c.in-Err-Refused.stop.place in
     record {
-      refuses = refuses_as (SpellsRawField (SpellsBare d)) (in_item d p) _ _ _
+      refuses = refuses_as (SpellsRawField d) (in_item d p) _ _ _
           (λ b. open_test (in_item d p b) (ends_item p) (is_sp b) m.open_still)
-          (field_broken (SpellsRawItem (SpellsBare d)) (item_apart (SpellsBare d) (bare_apart d))
-          (item_begun (SpellsBare d) (bare_apart d) (bare_begun d)) _ _ _ r.whole r.every _ _ m.refuses
+          (field_broken (SpellsRawItem d) (item_apart d (bare_apart d))
+          (item_begun d (bare_apart d) (bare_begun d)) _ _ _ r.whole r.every _ _ m.refuses
           (some_left _ m.refuses.stops.prefix _ m.refuses.stops.split c.if-stop-start.false));
       open_still = m.open_still;
     }
@@ -53,10 +52,10 @@ returns-then-is_empty g c =
     let z = empty_run _ _ c.is_empty.ensures c.if-is_empty.true in
     record {
       value = m.value;
-      reads = reads_as (SpellsRawField (SpellsBare d)) (λ b. in_item d p b || is_sp b) _ _ _ _
+      reads = reads_as (SpellsRawField d) (λ b. in_item d p b || is_sp b) _ _ _ _
           (λ b. closed_test (in_item d p b) (ends_item p) (is_sp b) m.ended)
-          (field_ends (SpellsRawItem (SpellsBare d)) (item_apart (SpellsBare d) (bare_apart d))
-          (item_begun (SpellsBare d) (bare_apart d) (bare_begun d)) _ _ _ r.whole r.every _ _ _ m.reads
+          (field_ends (SpellsRawItem d) (item_apart d (bare_apart d))
+          (item_begun d (bare_apart d) (bare_begun d)) _ _ _ r.whole r.every _ _ _ m.reads
           (subst (Lacks is_sp) (sym (s.whole ∙ ap (λ q. q ++ c.short_run-2.result.1.now) z))
           s.longest));
       made = m.made;
@@ -71,8 +70,8 @@ returns g c =
     let m = c.in-Ok.ensures.scans in
     record {
       value = m.value;
-      reads = field_spaces (SpellsRawItem (SpellsBare d)) (item_apart (SpellsBare d) (bare_apart d))
-          (item_begun (SpellsBare d) (bare_apart d) (bare_begun d)) _ _ _ r.whole r.every _ _ _ m.reads
+      reads = field_spaces (SpellsRawItem d) (item_apart d (bare_apart d))
+          (item_begun d (bare_apart d) (bare_begun d)) _ _ _ r.whole r.every _ _ _ m.reads
           _ _ s.whole s.every (some_run _ _ c.is_empty.ensures c.if-is_empty.false) s.longest;
       made = m.made;
       ended = refl;

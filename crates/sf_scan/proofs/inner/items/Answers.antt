@@ -1,5 +1,4 @@
 use Rattle.std.proofs.Common.{refl}
-use Rattle.sf_value.specs.Grammar.BareItems.{SpellsBare}
 use Rattle.sf_scan.proofs.Following.{bare_apart}
 use Rattle.sf_scan.proofs.InnerLists.{going_none, going_closed, going_last, going_more, less_left}
 use Rattle.sf_scan.proofs.InnerLists.{going_stuck, going_broken, going_open}
@@ -9,14 +8,14 @@ use Rattle.sf_scan.proofs.inner.items.Goals as goal
 pub loop-after-init : goal.loop-after-init
 loop-after-init g c =
     let d = c.args.dialect in
-    going_none (SpellsBare d) (bare_apart d) (bare_begun d) d g.M.Builder.bare g.M.Maker.with
+    going_none d (bare_apart d) (bare_begun d) g.M.Builder.bare g.M.Maker.with
     g.M.Builder.closed c.args.text.now c.args.maker.now
 
 pub returns-in-Some : goal.returns-in-Some
 returns-in-Some g c =
     let d = c.args.dialect in
     let r = c.short_run.ensures in
-    going_closed (SpellsBare d) (bare_apart d) (bare_begun d) d g.M.Builder.bare g.M.Maker.with
+    going_closed d (bare_apart d) (bare_begun d) g.M.Builder.bare g.M.Maker.with
     g.M.Builder.closed _ _ _ _ _ _ c.loop-after.invariant r.whole r.every _ c.in-Some.ensures
 
 pub returns-then-stop-at : goal.returns-then-stop-at
@@ -24,7 +23,7 @@ returns-then-stop-at g c =
     let d = c.args.dialect in
     let r = c.short_run.ensures in
     let e = rw c.in-Err-Refused.field-0-is at c.in-Err-Refused.ensures.scans in
-    rw c.in-Err-Refused.field-0-is (going_open (SpellsBare d) (bare_apart d) (bare_begun d) d g.M.Builder.bare g.M.Maker.with
+    rw c.in-Err-Refused.field-0-is (going_open d (bare_apart d) (bare_begun d) g.M.Builder.bare g.M.Maker.with
     g.M.Builder.closed _ _ _ _ _ _ c.loop-after.invariant r.whole r.every c.in-Err-Refused.stop.place _ _
     (bare_start d) e.refuses (rw c.in-Err-Refused.field-0-is at c.if-stop-at.true) r.longest c.in_default.ensures refl refl)
 
@@ -33,7 +32,7 @@ returns-in-Err-Refused g c =
     let d = c.args.dialect in
     let r = c.short_run.ensures in
     let e = rw c.in-Err-Refused.field-0-is at c.in-Err-Refused.ensures.scans in
-    rw c.in-Err-Refused.field-0-is (going_broken (SpellsBare d) (bare_apart d) (bare_begun d) d g.M.Builder.bare g.M.Maker.with
+    rw c.in-Err-Refused.field-0-is (going_broken d (bare_apart d) (bare_begun d) g.M.Builder.bare g.M.Maker.with
     g.M.Builder.closed _ _ _ _ _ _ c.loop-after.invariant r.whole r.every c.in-Err-Refused.stop.place _ _
     e.refuses e.open_still (rw c.in-Err-Refused.field-0-is at c.if-stop-at.false) refl refl)
 
@@ -42,7 +41,7 @@ returns-in-Some-strip g c =
     let d = c.args.dialect in
     let r = c.short_run.ensures in
     let i = c.in-Ok.ensures.scans in
-    going_last (SpellsBare d) (bare_apart d) (bare_begun d) d g.M.Builder.bare g.M.Maker.with
+    going_last d (bare_apart d) (bare_begun d) g.M.Builder.bare g.M.Maker.with
     g.M.Builder.closed _ _ _ _ _ _ c.loop-after.invariant r.whole r.every _ i.value _ _ _ i.reads
     c.in-Some-strip.ensures i.made
 
@@ -51,7 +50,7 @@ returns-in_default-strip-2 g c =
     let d = c.args.dialect in
     let r = c.short_run.ensures in
     let i = c.in-Ok.ensures.scans in
-    going_stuck (SpellsBare d) (bare_apart d) (bare_begun d) d g.M.Builder.bare g.M.Maker.with
+    going_stuck d (bare_apart d) (bare_begun d) g.M.Builder.bare g.M.Maker.with
     g.M.Builder.closed _ _ _ _ _ _ c.loop-after.invariant r.whole r.every c.in-Ok.end.place i.value
     _ _ i.reads i.ended c.in_default-strip.ensures c.in_default-strip-2.ensures refl refl
 
@@ -66,6 +65,6 @@ loop-after-preserved g c =
     let d = c.args.dialect in
     let r = c.short_run.ensures in
     let i = c.in-Ok.ensures.scans in
-    going_more (SpellsBare d) (bare_apart d) (bare_begun d) d g.M.Builder.bare g.M.Maker.with
+    going_more d (bare_apart d) (bare_begun d) g.M.Builder.bare g.M.Maker.with
     g.M.Builder.closed _ _ _ _ _ _ c.loop-after.invariant r.whole r.every _ i.value _ _ _ i.reads
     c.in-Some-strip-2.ensures i.made

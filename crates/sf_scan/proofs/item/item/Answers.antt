@@ -1,5 +1,4 @@
 use Rattle.std.proofs.Common.{refl}
-use Rattle.sf_value.specs.Grammar.BareItems.{SpellsBare}
 use Rattle.sf_scan.specs.Leaves.{leaf_bare}
 use Rattle.sf_scan.proofs.Following.{bare_apart}
 use Rattle.sf_scan.proofs.Items.{item_refused, item_alone, item_with, item_broken}
@@ -11,21 +10,21 @@ pub returns-in-Err-clause-scans : goal.returns-in-Err-clause-scans
 returns-in-Err-clause-scans g c =
     let d = c.args.dialect in
     let r = c.in-Err.ensures in
-    item_refused (SpellsBare d) (bare_apart d) d g.M.Builder.bare g.M.Maker.with _ c.args.maker.now
+    item_refused d (bare_apart d) g.M.Builder.bare g.M.Maker.with _ c.args.maker.now
     c.in-Err.stop.place _ _ r.refuses r.open_still refl refl
 
 pub returns-in_default-strip-clause-scans : goal.returns-in_default-strip-clause-scans
 returns-in_default-strip-clause-scans g c =
     let d = c.args.dialect in
     let r = c.in-Ok.ensures in
-    item_alone (SpellsBare d) (bare_apart d) d g.M.Builder.bare g.M.Maker.with _ _
+    item_alone d (bare_apart d) g.M.Builder.bare g.M.Maker.with _ _
     c.in-Ok.found.1.place _ _ _ _ r.reads r.ends c.in_default-strip.ensures refl refl c.in_default.ensures
 
 pub returns-in-Ok-params-clause-scans : goal.returns-in-Ok-params-clause-scans
 returns-in-Ok-params-clause-scans g c =
     let d = c.args.dialect in
     let r = c.in-Ok.ensures in
-    item_with (SpellsBare d) (bare_apart d) d g.M.Builder.bare g.M.Maker.with _ _
+    item_with d (bare_apart d) g.M.Builder.bare g.M.Maker.with _ _
     c.in-Ok.found.1.place _ _ _ _ _ _ _ r.reads c.in-Some.ensures c.in_default.ensures
     c.in-Ok-params.ensures refl refl
 
@@ -33,7 +32,7 @@ pub returns-in-Err-Refused-clause-scans : goal.returns-in-Err-Refused-clause-sca
 returns-in-Err-Refused-clause-scans g c =
     let d = c.args.dialect in
     let r = c.in-Ok.ensures in
-    item_broken (SpellsBare d) (bare_apart d) d g.M.Builder.bare g.M.Maker.with _ c.args.maker.now
+    item_broken d (bare_apart d) g.M.Builder.bare g.M.Maker.with _ c.args.maker.now
     c.in-Ok.found.1.place _ _ _ _ _ _ _ r.reads c.in-Some.ensures (rw c.in-Err-Refused.field-0-is at c.in-Err-Refused.ensures) refl refl
 
 pub returns-in-Err-Refused-clause-kept : goal.returns-in-Err-Refused-clause-kept

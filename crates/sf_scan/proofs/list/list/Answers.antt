@@ -1,7 +1,6 @@
 use Rattle.std.proofs.Common.{refl, ◌==◌, ◌||◌, []}
 use Rattle.sf_value.specs.Ascii.{comma}
 use Rattle.sf_value.specs.Grammar.Classes.{is_ows}
-use Rattle.sf_value.specs.Grammar.BareItems.{SpellsBare}
 use Rattle.sf_scan.specs.Members.{SpellsRawMember, made_member, in_member, ends_member}
 use Rattle.sf_scan.specs.Series.{SpellsRawList}
 use Rattle.sf_scan.specs.declared.member.MemberPlace.TheVariants.{Start}
@@ -20,7 +19,7 @@ loop-more-init g c =
     let r = c.short_run.ensures in
     let m = c.in-Ok.ensures.scans in
     record {
-      has = first_has (SpellsRawMember (SpellsBare d)) (leaf_member_apart d) (leaf_member_begun d)
+      has = first_has (SpellsRawMember d) (leaf_member_apart d) (leaf_member_begun d)
           (leaf_member_some d)
           (made_member g.M.Builder.bare g.M.Maker.with g.M.Builder.opened g.M.Builder.closed) _ _ _ _
           r.whole r.every _ m.value _ _ m.reads m.made;
@@ -34,11 +33,11 @@ returns-then-stop-start g c =
     let m = rw c.in-Err-Refused.field-0-is at c.in-Err-Refused.ensures.scans in
     record {
       value = [];
-      reads = first_none (SpellsRawMember (SpellsBare d)) (leaf_member_apart d) (leaf_member_begun d)
+      reads = first_none (SpellsRawMember d) (leaf_member_apart d) (leaf_member_begun d)
           (leaf_member_some d)
           (made_member g.M.Builder.bare g.M.Maker.with g.M.Builder.opened g.M.Builder.closed) _
           c.args.maker.now _ _ r.whole r.every (in_member d Start) (leaf_member_start d)
-          (unread (SpellsRawMember (SpellsBare d)) _ _ _ _ m.refuses (rw c.in-Err-Refused.field-0-is at c.if-stop-start.true)
+          (unread (SpellsRawMember d) _ _ _ _ m.refuses (rw c.in-Err-Refused.field-0-is at c.if-stop-start.true)
           (leaf_member_start d)) r.longest;
       made = (rw c.in-Err-Refused.field-0-is at c.in-Err-Refused.ensures.kept) (all_left _ m.refuses.stops.prefix _ m.refuses.stops.split
           (rw c.in-Err-Refused.field-0-is at c.if-stop-start.true));
@@ -52,9 +51,9 @@ returns-in-Err-Refused g c =
     let m = rw c.in-Err-Refused.field-0-is at c.in-Err-Refused.ensures.scans in
     let p = c.in-Err-Refused.stop.place in
     rw c.in-Err-Refused.field-0-is (record {
-      refuses = refuses_as (SpellsRawList (SpellsBare d)) (in_member d p) _ _ _
+      refuses = refuses_as (SpellsRawList d) (in_member d p) _ _ _
           (λ b. open_test (in_member d p b) (ends_member p) (is_ows b || b == comma) m.open_still)
-          (first_refused (SpellsRawMember (SpellsBare d)) (leaf_member_apart d) (leaf_member_begun d)
+          (first_refused (SpellsRawMember d) (leaf_member_apart d) (leaf_member_begun d)
           (leaf_member_some d)
           (made_member g.M.Builder.bare g.M.Maker.with g.M.Builder.opened g.M.Builder.closed) _
           c.args.maker.now _ _ r.whole r.every _ _ m.refuses
@@ -70,10 +69,10 @@ returns-then-is_empty g c =
     let p = c.loop-more.end.place in
     record {
       value = i.has.into (i.has.member, []);
-      reads = reads_as (SpellsRawList (SpellsBare d)) (λ b. in_member d p b || (is_ows b || b == comma))
+      reads = reads_as (SpellsRawList d) (λ b. in_member d p b || (is_ows b || b == comma))
           _ _ _ _
           (λ b. closed_test (in_member d p b) (ends_member p) (is_ows b || b == comma) i.ended)
-          (ends_there (SpellsRawMember (SpellsBare d)) (leaf_member_apart d) (leaf_member_begun d)
+          (ends_there (SpellsRawMember d) (leaf_member_apart d) (leaf_member_begun d)
           (leaf_member_some d)
           (made_member g.M.Builder.bare g.M.Maker.with g.M.Builder.opened g.M.Builder.closed) _ _ _ _
           _ i.has
@@ -90,7 +89,7 @@ returns-in_default g c =
     let r = c.short_run-in-loop-more.ensures in
     record {
       value = i.has.into (i.has.member, []);
-      reads = ends_behind (SpellsRawMember (SpellsBare d)) (leaf_member_apart d) (leaf_member_begun d)
+      reads = ends_behind (SpellsRawMember d) (leaf_member_apart d) (leaf_member_begun d)
           (leaf_member_some d)
           (made_member g.M.Builder.bare g.M.Maker.with g.M.Builder.opened g.M.Builder.closed) _ _ _ _
           _ i.has _ _ r.whole r.every (some_run _ _ c.is_empty.ensures c.if-is_empty.false)
@@ -107,12 +106,12 @@ returns-then-stop-due g c =
     let s = c.short_run-in-loop-more-2.ensures in
     let m = rw c.in-Err-Refused-member.field-0-is at c.in-Err-Refused-member.ensures.scans in
     record {
-      refuses = due_refused (SpellsRawMember (SpellsBare d)) (leaf_member_apart d)
+      refuses = due_refused (SpellsRawMember d) (leaf_member_apart d)
           (leaf_member_begun d) (leaf_member_some d)
           (made_member g.M.Builder.bare g.M.Maker.with g.M.Builder.opened g.M.Builder.closed) _ _ _ _
           _ i.has _ _ r.whole r.every _ _ _ c.in-Some.ensures s.whole s.every (in_member d Start)
           (leaf_member_start d)
-          (unread (SpellsRawMember (SpellsBare d)) _ _ _ _ m.refuses (rw c.in-Err-Refused-member.field-0-is at c.if-stop-due.true)
+          (unread (SpellsRawMember d) _ _ _ _ m.refuses (rw c.in-Err-Refused-member.field-0-is at c.if-stop-due.true)
           (leaf_member_start d)) s.longest;
       open_still = refl;
     }
@@ -126,9 +125,9 @@ returns-in-Err-Refused-member g c =
     let m = rw c.in-Err-Refused-member.field-0-is at c.in-Err-Refused-member.ensures.scans in
     let p = c.in-Err-Refused-member.stop.place in
     rw c.in-Err-Refused-member.field-0-is (record {
-      refuses = refuses_as (SpellsRawList (SpellsBare d)) (in_member d p) _ _ _
+      refuses = refuses_as (SpellsRawList d) (in_member d p) _ _ _
           (λ b. open_test (in_member d p b) (ends_member p) (is_ows b || b == comma) m.open_still)
-          (due_broken (SpellsRawMember (SpellsBare d)) (leaf_member_apart d) (leaf_member_begun d)
+          (due_broken (SpellsRawMember d) (leaf_member_apart d) (leaf_member_begun d)
           (leaf_member_some d)
           (made_member g.M.Builder.bare g.M.Maker.with g.M.Builder.opened g.M.Builder.closed) _ _ _ _
           _ i.has _ _ r.whole r.every _ _ _ c.in-Some.ensures s.whole s.every _ _ m.refuses
@@ -152,7 +151,7 @@ loop-more-preserved g c =
     let s = c.short_run-in-loop-more-2.ensures in
     let m = c.in-Ok-member.ensures.scans in
     record {
-      has = more_has (SpellsRawMember (SpellsBare d)) (leaf_member_apart d) (leaf_member_begun d)
+      has = more_has (SpellsRawMember d) (leaf_member_apart d) (leaf_member_begun d)
           (leaf_member_some d)
           (made_member g.M.Builder.bare g.M.Maker.with g.M.Builder.opened g.M.Builder.closed) _ _ _ _
           _ i.has _ _ r.whole r.every _ _ _ c.in-Some.ensures s.whole s.every _ m.value _ _ m.reads

@@ -1,11 +1,9 @@
 use Rattle.std.proofs.Common.{◌≡◌, true, ℕ, List, ◌++◌, length}
 use Rattle.sf_value.specs.declared.value.Bare.{Bare}
 use Rattle.sf_value.specs.Grammar.Pairs.{Pairs}
-use Rattle.sf_value.specs.Grammar.BareItems.{SpellsBare}
 use Rattle.sf_scan.specs.Makers.{made_of}
 use Rattle.sf_scan.specs.Places.{in_param, ends_params}
 use Rattle.sf_scan.specs.Stops.{Lacks}
-use Rattle.sf_scan.proofs.Following.{bare_apart}
 use Rattle.sf_scan.proofs.Raws.{Whole}
 use Rattle.sf_scan.proofs.param.params.Given as goal
 
@@ -13,7 +11,7 @@ abbrev pub invariant-loop-more : goal.invariant-loop-more
 invariant-loop-more g l =
     (before : List ℕ) × (raw : Pairs Bare)
     × (l.text ≡ before ++ l.end.left.now)
-    × Whole (SpellsBare l.dialect) (bare_apart l.dialect) (in_param l.dialect l.end.place)
+    × Whole l.dialect (in_param l.dialect l.end.place)
     (ends_params l.end.place) before raw
     × Lacks (in_param l.dialect l.end.place) l.end.left.now
     × (l.maker ≡ made_of g.M.Maker.with l.initial.maker raw)
