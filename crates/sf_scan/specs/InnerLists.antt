@@ -1,6 +1,6 @@
 -- Inner Lists, as sf_value's grammar defines them, with the Items of any language I and the parameters
 -- of any language R.
-use Rattle.std.specs.Prelude.{◌≡◌, ℕ, Bool, false, List, [], ◌∷◌, ◌++◌, ◌≤◌, length, ◌==◌}
+use Rattle.std.specs.Prelude.{⊤, ◌≡◌, ℕ, Bool, false, List, [], ◌∷◌, ◌++◌, ◌≤◌, length, ◌==◌}
 use Rattle.std.specs.Prelude.{◌||◌, ◌&&◌, Result, Ok, Err}
 use Rattle.std.specs.Borrow.{Bor}
 use Rattle.sf_value.specs.declared.dialect.Dialect.{Dialect}
@@ -100,4 +100,4 @@ ScansItems bare with closed d text old new (Ok after) =
     PastItems bare with closed d text after.now old new
 ScansItems bare with closed d text old new (Err (halt.Refused stop)) =
     Rejects (SpellsRawRest d) (in_inner d) ends_inner text stop
-ScansItems bare with closed d text old new (Err (halt.Fault fault)) = Unit {0}
+ScansItems bare with closed d text old new (Err (halt.Fault fault)) = ⊤

@@ -140,7 +140,7 @@ pub struct Stop<'a, P> {
     pub place: P,
 }
 
-/// Why reading ended before the end of what was to be read.
+/// Why a construct was not read.
 #[derive(Drop)]
 pub enum Halt<'a, P, F: Drop> {
     /// The text is refused here.
