@@ -27,6 +27,7 @@ pub trait Maker<'a> {
 }
 
 /// Makes nothing: for a text that is only tested.
+#[derive(Drop)]
 pub struct Nothing;
 
 impl<'a> Maker<'a> for Nothing {
@@ -40,6 +41,7 @@ impl<'a> Maker<'a> for Nothing {
 }
 
 /// Finds the value of one key, which is its last one (RFC 9651 section 4.2.3.2).
+#[derive(Drop)]
 pub struct Find<'k, 'a> {
     key: &'k [u8],
     found: Option<Leaf<'a>>,
