@@ -1,0 +1,12 @@
+use Rattle.std.proofs.Common.{refl, false, true}
+use Rattle.sf_scan.proofs.Bares.{boolean_read, boolean_refused}
+use Rattle.sf_scan.proofs.bare.boolean.Goals as goal
+
+pub returns-in-Some : goal.returns-in-Some
+returns-in-Some c = λ d. boolean_read d false _ _ c.in-Some.ensures refl
+
+pub returns-in-Some-strip : goal.returns-in-Some-strip
+returns-in-Some-strip c = λ d. boolean_read d true _ _ c.in-Some-strip.ensures refl
+
+pub returns : goal.returns
+returns c = λ d. boolean_refused d _ c.in_default.ensures c.in_default-strip.ensures refl

@@ -1,0 +1,32 @@
+use Rattle.std.proofs.Common.{refl}
+use Rattle.std.proofs.lemmas.Result.{err_from_is_err_and}
+use Rattle.sf_scan.proofs.ShownStops.{reached_first, reached_more, refused_quote, refused_between}
+use Rattle.sf_scan.proofs.ShownStops.{refused_escape, shown_read}
+use Rattle.sf_scan.proofs.display_string.display_string.Goals as goal
+
+pub returns-in_default : goal.returns-in_default
+returns-in_default c = λ d e. refused_quote d e _ c.in_default.ensures refl
+
+pub loop-escape-init : goal.loop-escape-init
+loop-escape-init c = reached_first _ _ c.after_unencoded-left.ensures
+
+pub loop-escape-preserved : goal.loop-escape-preserved
+loop-escape-preserved c =
+    reached_more _ _ _ _ _ _ _ c.loop-escape.invariant c.in-Some-strip.ensures c.in_ok-next.ensures
+    c.after_unencoded-left-in-Some-strip.ensures
+
+pub returns-in_err-next : goal.returns-in_err-next
+returns-in_err-next c = λ d e.
+    let p = err_from_is_err_and c.from_residual.result c.from_residual.ensures.1 in
+    rw (p.1, p.2) (refused_escape d e _ _ _ _ _ _ c.in-Some.ensures c.loop-escape.invariant
+    c.in-Some-strip.ensures c.in_err-next.ensures)
+
+pub returns-in_default-after_quote : goal.returns-in_default-after_quote
+returns-in_default-after_quote c = λ d e.
+    refused_between d e _ _ _ _ c.in-Some.ensures c.loop-escape.invariant c.in_default-strip.ensures
+    c.in_default-after_quote.ensures refl
+
+pub returns : goal.returns
+returns c = λ d e.
+    shown_read d e _ _ _ c.split_at.result.0.now _ _ _ c.in-Some.ensures c.loop-escape.invariant
+    c.in-Some-after_quote.ensures c.split_at.ensures.front refl refl

@@ -1,0 +1,15 @@
+use Rattle.std.proofs.Common.{refl, ◌==◌, ◌&&◌}
+use Rattle.sf_value.specs.Ascii.{semicolon}
+use Rattle.sf_scan.specs.Places.{in_bare, ends_bare}
+use Rattle.sf_scan.specs.Sets.{Marks}
+use Rattle.sf_scan.proofs.Sets.{marks_table, marks_or, marks_if}
+use Rattle.sf_scan.proofs.item.ItemPlace.expected.Goals as goal
+
+pub returns-in-InBare : goal.returns-in-InBare
+returns-in-InBare c =
+    let d = c.args.dialect in
+    let p = c.in-InBare.place in
+    let after : Marks c.set_if.result (λ b. ends_bare p && b == semicolon) =
+    rw (c.set_if.ensures, c.may_end.ensures)
+    (marks_if (ends_bare p) _ (λ b. b == semicolon) (marks_table _ _ refl)) in
+    rw c.in-InBare.is (marks_or _ _ (in_bare d p) _ c.expected.ensures after)

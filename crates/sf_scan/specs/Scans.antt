@@ -1,0 +1,58 @@
+-- What a function that scans a construct returns.
+use Rattle.std.specs.Prelude.{◌≡◌, ◌==◌, ℕ, true, false, List, ◌∷◌, ◌++◌, Result, Ok, Err}
+use Rattle.sf_value.specs.Ascii.{backslash}
+use Rattle.sf_value.specs.declared.dialect.Dialect.{Dialect}
+use Rattle.sf_value.specs.declared.value.Bare.{Bare}
+use Rattle.sf_value.specs.Grammar.Classes.{is_visible, is_token_start}
+use Rattle.sf_value.specs.Grammar.Strings.{is_unescaped, is_escaped, escaped}
+use Rattle.sf_value.specs.Grammar.Words.{Every}
+use Rattle.sf_scan.specs.Leaves.{leaf_bare}
+use Rattle.sf_scan.specs.Places.{in_bare, ends_bare}
+use Rattle.sf_scan.specs.Stops.{Lacks, Reads, Refuses}
+use Rattle.sf_scan.specs.declared.leaf.Leaf.{Leaf}
+use Rattle.sf_scan.specs.declared.place.Stop.{Stop}
+use Rattle.sf_scan.specs.declared.place.BarePlace.{BarePlace}
+use Rattle.sf_scan.specs.declared.place.BarePlace.TheVariants.{Backslash}
+
+-- the leaf is the bare item up to the stop, and the place says what could lengthen it
+pub record ReadsLeaf (d : Dialect) (L : List ℕ → Bare → Type 0) (text : List ℕ) (leaf : Leaf)
+    (stop : Stop BarePlace)
+    : Type 0 where
+  pub reads : Reads L (in_bare d stop.place) text (leaf_bare leaf) stop.left.now
+  pub ends : ends_bare stop.place ≡ true
+
+-- the text begins with no bare item: it goes wrong at the stop, and the place says what could come
+pub record RefusesLeaf (d : Dialect) (L : List ℕ → Bare → Type 0) (text : List ℕ) (stop : Stop BarePlace)
+    : Type 0 where
+  pub refuses : Refuses L (in_bare d stop.place) text stop.left.now
+  pub open_still : ends_bare stop.place ≡ false
+
+abbrev pub ScansLeaf : Dialect → (List ℕ → Bare → Type 0) → List ℕ → Result (Leaf × Stop BarePlace) (Stop BarePlace) → Type 0
+ScansLeaf d L text (Ok r) = ReadsLeaf d L text r.0 r.1
+ScansLeaf d L text (Err stop) = RefusesLeaf d L text stop
+
+-- the text begins with the bytes of a String, escaped, and the rest
+pub record PastEscaped (text rest : List ℕ) : Type 0 where
+  pub bytes : List ℕ
+  pub split : text ≡ escaped bytes ++ rest
+  pub visible : Every is_visible bytes
+
+-- no more bytes of the String follow
+pub record Escapes (text rest : List ℕ) : Type 0 where
+  pub past : PastEscaped text rest
+  pub no_byte : Lacks is_unescaped rest
+  pub no_escape : Lacks (λ b. b == backslash) rest
+
+-- a backslash follows, and then none of the bytes that may be escaped
+pub record StopsEscaped (text : List ℕ) (stop : Stop BarePlace) : Type 0 where
+  pub past : PastEscaped text (backslash ∷ stop.left.now)
+  pub no_escaped : Lacks is_escaped stop.left.now
+  pub place : stop.place ≡ Backslash
+
+-- the text is the first byte of a Token, and more
+abbrev pub BeginsToken : List ℕ → List ℕ → Type 0
+BeginsToken text more = (b : ℕ) × (text ≡ b ∷ more) × (is_token_start b ≡ true)
+
+-- a byte that may be escaped is before the rest
+abbrev pub BeginsEscaped : List ℕ → List ℕ → Type 0
+BeginsEscaped text rest = (b : ℕ) × (text ≡ b ∷ rest) × (is_escaped b ≡ true)

@@ -1,0 +1,91 @@
+//! Whole fields of one Item (RFC 9651 section 4.2).
+ghost use Rattle.std.specs.Prelude.{◌≡◌};
+ghost use Rattle.sf_scan.specs.ItemFields.{SpellsRawField, in_field, ends_field};
+ghost use Rattle.sf_scan.specs.Items.{made_item};
+ghost use Rattle.sf_scan.specs.Outcomes.{Scans};
+ghost use Rattle.sf_scan.specs.Sets.{Marks};
+
+use crate::builder::Builder;
+use crate::byte_sets::{SPACE, set_if};
+use crate::item::{ItemPlace, item};
+use crate::place::{BarePlace, Halt, Stop};
+use crate::runs::short_run;
+use sf_value::Dialect;
+use sf_value::classes::Space;
+
+/// A place in a field of one Item.
+#[derive(Clone, Copy)]
+pub enum FieldPlace {
+    /// Before the Item, and after spaces.
+    Start,
+    /// In the Item, or after it.
+    InItem(ItemPlace),
+    /// After a space behind the Item.
+    Spaces,
+}
+
+impl FieldPlace {
+    /// The bytes below 128 that may come, a bit for each.
+    pub fn expected(self, dialect: Dialect) -> u128
+        ensures { Marks result (in_field dialect self) }
+    {
+        match self {
+            FieldPlace::Start => BarePlace::Start.expected(dialect) | SPACE,
+            FieldPlace::InItem(place) => {
+                place.expected(dialect) | set_if(place.may_end(), SPACE)
+            }
+            FieldPlace::Spaces => SPACE,
+        }
+    }
+
+    /// Whether the field may end here.
+    pub fn may_end(self) -> bool
+        ensures { result ≡ ends_field self }
+    {
+        match self {
+            FieldPlace::Start => false,
+            FieldPlace::InItem(place) => place.may_end(),
+            FieldPlace::Spaces => true,
+        }
+    }
+}
+
+/// Gives the maker the Item of a field that the text begins with, and returns where the field stops.
+/// The text is a field of one Item if nothing is left.
+pub fn item_field<'a, M: Builder<'a>>(
+    dialect: Dialect,
+    text: &'a [u8],
+    maker: &mut M,
+) -> Result<Stop<'a, FieldPlace>, Halt<'a, FieldPlace, M::Fault>>
+    ensures { Scans (SpellsRawField dialect) (in_field dialect) ends_field
+        (made_item M.bare M.with) text.now maker.old maker.new result }
+{
+    let (_, start) = short_run::<Space>(text);
+    let end = match item(dialect, start, maker) {
+        Ok(end) => end,
+        Err(Halt::Refused(stop)) => {
+            if stop.left.len() == start.len() {
+                return Err(Halt::Refused(Stop {
+                    left: start,
+                    place: FieldPlace::Start,
+                }));
+            }
+            return Err(Halt::Refused(Stop {
+                left: stop.left,
+                place: FieldPlace::InItem(stop.place),
+            }));
+        }
+        Err(Halt::Fault(fault)) => return Err(Halt::Fault(fault)),
+    };
+    let (run, left) = short_run::<Space>(end.left);
+    if run.is_empty() {
+        return Ok(Stop {
+            left: end.left,
+            place: FieldPlace::InItem(end.place),
+        });
+    }
+    Ok(Stop {
+        left,
+        place: FieldPlace::Spaces,
+    })
+}

@@ -1,0 +1,133 @@
+//! Inner Lists (RFC 9651 section 4.2.1.2).
+ghost use Rattle.std.specs.Prelude.{◌≡◌, [], ◌∷◌};
+ghost use Rattle.sf_value.specs.Ascii.{open_bracket};
+ghost use Rattle.sf_scan.specs.InnerLists.{SpellsRawInner, ScansItems};
+ghost use Rattle.sf_scan.specs.InnerLists.{made_rest, in_inner, ends_inner};
+ghost use Rattle.sf_scan.specs.Items.{made_item};
+ghost use Rattle.sf_scan.specs.Outcomes.{Scans};
+ghost use Rattle.sf_scan.specs.Sets.{Marks};
+ghost use Rattle.sf_scan.specs.Stops.{Past};
+
+use crate::builder::Builder;
+use crate::byte_sets::{SPACE, set_if};
+use crate::item::{ItemPlace, item};
+use crate::param::params;
+use crate::place::{BarePlace, Halt, ParamPlace, Stop};
+use crate::runs::{short_run, strip};
+use sf_value::Dialect;
+use sf_value::classes::Space;
+
+/// A place in an Inner List.
+#[derive(Clone, Copy)]
+pub enum InnerPlace {
+    /// After the opening bracket or a space: before an Item or the closing bracket.
+    Open,
+    /// In an Item, or after it.
+    InItem(ItemPlace),
+    /// After the closing bracket, in the parameters.
+    InParams(ParamPlace),
+}
+
+const AFTER_ITEM: u128 = SPACE | 1 << b')';
+
+impl InnerPlace {
+    /// The bytes below 128 that may come, a bit for each.
+    pub fn expected(self, dialect: Dialect) -> u128
+        ensures { Marks result (in_inner dialect self) }
+    {
+        match self {
+            InnerPlace::Open => BarePlace::Start.expected(dialect) | AFTER_ITEM,
+            InnerPlace::InItem(place) => {
+                place.expected(dialect) | set_if(place.may_end(), AFTER_ITEM)
+            }
+            InnerPlace::InParams(place) => place.expected(dialect),
+        }
+    }
+
+    /// Whether the Inner List may end here.
+    pub fn may_end(self) -> bool
+        ensures { result ≡ ends_inner self }
+    {
+        match self {
+            InnerPlace::Open | InnerPlace::InItem(_) => false,
+            InnerPlace::InParams(place) => place.may_end(),
+        }
+    }
+}
+
+/// Gives the maker the Inner List that the text begins with, after its opening bracket, and returns
+/// where it stops.
+pub fn inner_list<'a, M: Builder<'a>>(
+    dialect: Dialect,
+    text: &'a [u8],
+    maker: &mut M,
+) -> Result<Stop<'a, InnerPlace>, Halt<'a, InnerPlace, M::Fault>>
+    ensures { Scans (Past (open_bracket ∷ []) (SpellsRawInner dialect))
+        (in_inner dialect) ends_inner
+        (λ m v. made_rest M.bare M.with M.closed (M.opened m) v)
+        text.now maker.old maker.new result }
+{
+    if let Err(fault) = maker.begin_inner() {
+        return Err(Halt::Fault(fault));
+    }
+    let after = items(dialect, text, maker)?;
+    if let Err(fault) = maker.end_inner() {
+        return Err(Halt::Fault(fault));
+    }
+    match params(dialect, after, maker) {
+        Ok(stop) => Ok(Stop {
+            left: stop.left,
+            place: InnerPlace::InParams(stop.place),
+        }),
+        Err(Halt::Refused(stop)) => Err(Halt::Refused(Stop {
+            left: stop.left,
+            place: InnerPlace::InParams(stop.place),
+        })),
+        Err(Halt::Fault(fault)) => Err(Halt::Fault(fault)),
+    }
+}
+
+/// Gives the maker the Items of an Inner List, after its opening bracket, and returns what is after
+/// its closing bracket.
+fn items<'a, M: Builder<'a>>(
+    dialect: Dialect,
+    text: &'a [u8],
+    maker: &mut M,
+) -> Result<&'a [u8], Halt<'a, InnerPlace, M::Fault>>
+    ensures { ScansItems M.bare M.with M.closed dialect text.now
+        maker.old maker.new result }
+{
+    let mut rest = text;
+    loop {
+        let (_, at) = short_run::<Space>(rest);
+        if let Some(after) = strip(at, b')') {
+            return Ok(after);
+        }
+        let end = match item(dialect, at, maker) {
+            Ok(end) => end,
+            Err(Halt::Refused(stop)) => {
+                if stop.left.len() == at.len() {
+                    return Err(Halt::Refused(Stop {
+                        left: stop.left,
+                        place: InnerPlace::Open,
+                    }));
+                }
+                return Err(Halt::Refused(Stop {
+                    left: stop.left,
+                    place: InnerPlace::InItem(stop.place),
+                }));
+            }
+            Err(Halt::Fault(fault)) => return Err(Halt::Fault(fault)),
+        };
+        if let Some(after) = strip(end.left, b')') {
+            return Ok(after);
+        }
+        let Some(more) = strip(end.left, b' ') else {
+            return Err(Halt::Refused(Stop {
+                left: end.left,
+                place: InnerPlace::InItem(end.place),
+            }));
+        };
+        rest = more;
+    }
+}

@@ -1,0 +1,93 @@
+//! Items (RFC 9651 section 4.2.3).
+ghost use Rattle.std.specs.Prelude.{◌≡◌};
+ghost use Rattle.sf_scan.specs.Items.{SpellsRawItem, made_item, in_item, ends_item};
+ghost use Rattle.sf_scan.specs.Outcomes.{Scans, Keeps};
+ghost use Rattle.sf_scan.specs.Sets.{Marks};
+
+use crate::bare::bare;
+use crate::builder::Builder;
+use crate::byte_sets::{SEMICOLON, set_if};
+use crate::param::params;
+use crate::place::{BarePlace, Halt, ParamPlace, Stop};
+use crate::runs::strip;
+use sf_value::Dialect;
+
+/// A place in an Item.
+#[derive(Clone, Copy)]
+pub enum ItemPlace {
+    /// In its bare item, or after it.
+    InBare(BarePlace),
+    /// In its parameters, after the first semicolon.
+    InParams(ParamPlace),
+}
+
+impl ItemPlace {
+    /// The bytes below 128 that may come, a bit for each.
+    pub fn expected(self, dialect: Dialect) -> u128
+        ensures { Marks result (in_item dialect self) }
+    {
+        match self {
+            ItemPlace::InBare(place) => {
+                place.expected(dialect) | set_if(place.may_end(), SEMICOLON)
+            }
+            ItemPlace::InParams(place) => place.expected(dialect),
+        }
+    }
+
+    /// Whether the Item may end here.
+    pub fn may_end(self) -> bool
+        ensures { result ≡ ends_item self }
+    {
+        match self {
+            ItemPlace::InBare(place) => place.may_end(),
+            ItemPlace::InParams(place) => place.may_end(),
+        }
+    }
+}
+
+/// Gives the maker the Item that the text begins with, and returns where it stops.
+///
+/// ```text
+/// let mut q = Find::new(b"q");
+/// let stop = item(Dialect::Rfc9651, b"a;q=1;r, b", &mut q)?; // stop.left is b", b"
+/// q.found() // Some(Leaf::Integer(1))
+/// ```
+pub fn item<'a, M: Builder<'a>>(
+    dialect: Dialect,
+    text: &'a [u8],
+    maker: &mut M,
+) -> Result<Stop<'a, ItemPlace>, Halt<'a, ItemPlace, M::Fault>>
+    ensures scans { Scans (SpellsRawItem dialect) (in_item dialect) ends_item
+        (made_item M.bare M.with) text.now maker.old maker.new result }
+    ensures kept { Keeps text.now maker.old maker.new result }
+{
+    let (leaf, end) = match bare(dialect, text) {
+        Ok(found) => found,
+        Err(stop) => {
+            return Err(Halt::Refused(Stop {
+                left: stop.left,
+                place: ItemPlace::InBare(stop.place),
+            }));
+        }
+    };
+    if let Err(fault) = maker.bare_item(leaf) {
+        return Err(Halt::Fault(fault));
+    }
+    let Some(_) = strip(end.left, b';') else {
+        return Ok(Stop {
+            left: end.left,
+            place: ItemPlace::InBare(end.place),
+        });
+    };
+    match params(dialect, end.left, maker) {
+        Ok(stop) => Ok(Stop {
+            left: stop.left,
+            place: ItemPlace::InParams(stop.place),
+        }),
+        Err(Halt::Refused(stop)) => Err(Halt::Refused(Stop {
+            left: stop.left,
+            place: ItemPlace::InParams(stop.place),
+        })),
+        Err(Halt::Fault(fault)) => Err(Halt::Fault(fault)),
+    }
+}

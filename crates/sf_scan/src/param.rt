@@ -1,0 +1,110 @@
+//! Parameters (RFC 9651 section 4.2.3.2).
+ghost use Rattle.std.specs.Prelude.{◌≡◌, ◌++◌, MatchOption};
+ghost use Rattle.sf_value.specs.Grammar.Classes.{is_in_key, is_key_start};
+ghost use Rattle.sf_value.specs.Grammar.Tokens.{IsKey};
+ghost use Rattle.sf_scan.specs.Parameters.{ScansParam};
+ghost use Rattle.sf_scan.specs.Makers.{ScansParams};
+ghost use Rattle.sf_scan.specs.Stops.{Lacks};
+
+use crate::bare::bare;
+use crate::leaf::Leaf;
+use crate::maker::Maker;
+use crate::place::{Halt, ParamPlace, Stop};
+use crate::runs::{short_run, split, strip};
+use sf_value::classes::{InKey, Space};
+use sf_value::{Dialect, can_start_key};
+
+/// A parameter of a text.
+#[derive(Clone, Copy)]
+pub struct Param<'a> {
+    /// The bytes of its key.
+    pub key: &'a [u8],
+    /// Its value.
+    pub leaf: Leaf<'a>,
+}
+
+/// Gives the maker each parameter that the text begins with, repeated keys included, and returns
+/// where they stop. A fault of the maker is returned at once.
+///
+/// ```text
+/// let mut all = Collect::new(alloc);
+/// let stop = params(Dialect::Rfc9651, b";a;b=1, c", &mut all)?; // stop.left is b", c"
+/// all.params().len() // 2
+/// ```
+pub fn params<'a, M: Maker<'a>>(
+    dialect: Dialect,
+    text: &'a [u8],
+    maker: &mut M,
+) -> Result<Stop<'a, ParamPlace>, Halt<'a, ParamPlace, M::Fault>>
+    ensures { ScansParams M.with dialect text.now maker.old maker.new result }
+{
+    let mut end = Stop {
+        left: text,
+        place: ParamPlace::Before,
+    };
+    while let Some(more) = strip(end.left, b';') {
+        match next_param(dialect, more) {
+            Ok((found, stop)) => {
+                if let Err(fault) = maker.parameter(found) {
+                    return Err(Halt::Fault(fault));
+                }
+                end = stop;
+            }
+            Err(stop) => return Err(Halt::Refused(stop)),
+        }
+    }
+    Ok(end)
+}
+
+/// The parameter that the text begins with, after its semicolon, and where it stops.
+fn next_param(
+    dialect: Dialect,
+    text: &[u8],
+) -> Result<(Param<'_>, Stop<'_, ParamPlace>), Stop<'_, ParamPlace>>
+    ensures { ScansParam dialect text.now result }
+{
+    let (_, named) = short_run::<Space>(text);
+    let Some((key, after)) = find_key(named) else {
+        return Err(Stop {
+            left: named,
+            place: ParamPlace::Semicolon,
+        });
+    };
+    let Some(value) = strip(after, b'=') else {
+        let leaf = Leaf::Boolean(true);
+        return Ok((
+            Param { key, leaf },
+            Stop {
+                left: after,
+                place: ParamPlace::InKey,
+            },
+        ));
+    };
+    match bare(dialect, value) {
+        Ok((leaf, stop)) => {
+            let end = Stop {
+                left: stop.left,
+                place: ParamPlace::InValue(stop.place),
+            };
+            Ok((Param { key, leaf }, end))
+        }
+        Err(stop) => Err(Stop {
+            left: stop.left,
+            place: ParamPlace::InValue(stop.place),
+        }),
+    }
+}
+
+/// The longest key that the text begins with, and the rest; `None` if it begins with none.
+pub fn find_key(text: &[u8]) -> Option<(&[u8], &[u8])>
+    ensures { MatchOption result (Lacks is_key_start text.now)
+        (λ r. (text.now ≡ r.0.now ++ r.1.now) × IsKey r.0.now × Lacks is_in_key r.1.now) }
+{
+    let (first, more) = split(text)?;
+    if !can_start_key(first) {
+        return None;
+    }
+    let (run, rest) = short_run::<InKey>(more);
+    let (key, _) = text.split_at(run.len() + 1);
+    Some((key, rest))
+}
