@@ -296,7 +296,9 @@ static inline sf_text sf_joined_text(const sf_lines *lines);
  *
  *   SF_OK         it is
  *   SF_REFUSED    it is not; context->refusal says where and why
- *   SF_NO_MEMORY, SF_BAD_CALL
+ *   SF_BAD_CALL
+ *
+ * Does not allocate.
  */
 SF_USE_RESULT
 static inline sf_status sf_check_text(sf_context *context, sf_kind kind, sf_text text);
@@ -1313,8 +1315,7 @@ typedef struct sf_verdict {
  *
  * Unless SF_OK is returned, *verdict is unchanged. The heuristics of section 4.2.2 are the
  * caller's, and so are the method, directives of the request and Vary (sections 3, 4 and 4.1). The
- * fields that it joins are not kept in head->joined. Allocates only for a target that is malformed,
- * or of 4 GiB or more.
+ * fields that it joins are not kept in head->joined. Allocates only for a target that is malformed.
  */
 SF_USE_RESULT
 static inline sf_status sf_decide_response(sf_context *context, sf_head *head, sf_target *targets,

@@ -27,12 +27,10 @@ uint32_t sf_version(void);
  *
  *   SF_OK         it is
  *   SF_REFUSED    it is not; refusal says where and why
- *   SF_NO_MEMORY, SF_BAD_CALL
+ *   SF_BAD_CALL
  *
- * Does not allocate for a well-formed text of less than 4 GiB. For a malformed List or Dictionary
- * of more than 128 bytes and less than 4 GiB, each function but sf_normalise, sf_equal and
- * sf_cache_status_append allocates only for the malformed member and the one before it, not for the
- * whole value.
+ * Does not allocate. A malformed text is refused without an allocation by each function but
+ * sf_normalise, sf_equal and sf_cache_status_append.
  *
  * Each function writes refusal only if it returns SF_REFUSED or SF_SECOND_REFUSED.
  */
@@ -206,8 +204,7 @@ uint32_t sf_write(const sf_seed *seed, uint32_t dialect, uint32_t kind, const sf
  *   SF_REFUSED    the text is not a well-formed Dictionary; refusal says where and why
  *   SF_NO_MEMORY
  *
- * Unless SF_OK is returned, *priority is unchanged. Does not allocate for a well-formed text of
- * less than 4 GiB.
+ * Unless SF_OK is returned, *priority is unchanged. Does not allocate.
  */
 uint32_t sf_priority(const sf_seed *seed, const void *text, size_t text_length,
                      sf_priority_flags *priority, sf_refusal *refusal) SF_USE_RESULT;
@@ -225,8 +222,7 @@ uint32_t sf_priority_in(const sf_seed *seed, uint32_t dialect, const void *text,
  *   SF_REFUSED    the text is not a well-formed Dictionary; refusal says where and why
  *   SF_NO_MEMORY, SF_BAD_CALL
  *
- * Unless SF_OK is returned, *priority is unchanged. Does not allocate for a well-formed text of
- * less than 4 GiB.
+ * Unless SF_OK is returned, *priority is unchanged. Does not allocate.
  */
 uint32_t sf_response_priority(const sf_seed *seed, uint32_t dialect, const void *text,
                               size_t text_length, sf_response_priority_flags *priority,
@@ -310,8 +306,7 @@ uint32_t sf_priority_change(const sf_seed *seed, const void *text, size_t text_l
  *   SF_REFUSED    the text is not a well-formed Dictionary; refusal says where and why
  *   SF_NO_MEMORY
  *
- * Unless SF_OK is returned, *policy is unchanged. Does not allocate for a well-formed text of less
- * than 4 GiB.
+ * Unless SF_OK is returned, *policy is unchanged. Does not allocate.
  */
 uint32_t sf_cache_control(const sf_seed *seed, const void *text, size_t text_length,
                           sf_policy *policy, sf_refusal *refusal) SF_USE_RESULT;
@@ -327,8 +322,7 @@ uint32_t sf_cache_control(const sf_seed *seed, const void *text, size_t text_len
  *   SF_REFUSED    the text is not a well-formed Dictionary; refusal says where and why
  *   SF_NO_MEMORY, SF_BAD_CALL
  *
- * Unless SF_OK is returned, *rules is unchanged. Does not allocate for a well-formed text of less
- * than 4 GiB.
+ * Unless SF_OK is returned, *rules is unchanged. Does not allocate.
  */
 uint32_t sf_cache_rules(const sf_seed *seed, uint32_t dialect, const void *text, size_t text_length,
                         sf_rules *rules, sf_refusal *refusal) SF_USE_RESULT;
@@ -349,7 +343,7 @@ uint32_t sf_cache_rules(const sf_seed *seed, uint32_t dialect, const void *text,
  *
  * After SF_OK, the fields after fields[*index] and their ranges have no effect. Unless SF_OK is
  * returned, *index and *policy are unchanged. Call sf_check to learn which of the ignored fields
- * are malformed, and where. Allocates only for fields that are malformed, or of 4 GiB or more.
+ * are malformed, and where. Allocates only for fields that are malformed.
  */
 uint32_t sf_select(const sf_seed *seed, const void *texts, size_t texts_length,
                    const sf_span *fields, size_t fields_length, size_t *index, sf_policy *policy)
@@ -458,7 +452,7 @@ typedef struct sf_path {
  * The bytes are, for each hop in order, its name, why_token, key and detail, with nothing between
  * them; an empty range is at the offset at which it would begin. Buffers of
  * SF_NODES_SIZE(text_length) hops and SF_BYTES_SIZE(text_length) bytes are always large enough. A
- * call that returns SF_OK or SF_SHORT does not allocate, unless the text has 4 GiB or more.
+ * call that returns SF_OK or SF_SHORT does not allocate.
  *
  * After SF_OK, the contents of the hops and bytes beyond these sizes are unspecified; after any
  * other status, those of all are. With SF_OK and SF_SHORT, all of *path but nameless is written;

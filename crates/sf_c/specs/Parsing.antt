@@ -1,5 +1,5 @@
 -- Parsing a text, which every call begins with.
-use Rattle.std.specs.Prelude.{◌≡◌, ℕ, List, Result, Ok, Err}
+use Rattle.std.specs.Prelude.{◌≡◌, ℕ, Bool, true, false, List, Result, Ok, Err}
 use Rattle.sf_value.specs.declared.dialect.Dialect.{Dialect}
 use Rattle.sf_value.specs.declared.value.Field.{Field}
 use Rattle.sf_value.specs.declared.value.Kind.{Kind}
@@ -17,3 +17,8 @@ ParsesOrSays old new t d k (Ok v) = IsOnly d k t v × (new ≡ old)
 ParsesOrSays old new t d k (Err Refused) = SaysRefusal d k t new
 ParsesOrSays old new t d k (Err OutOfMemory) = new ≡ old
 ParsesOrSays old new t d k (Err status) = ⊥
+
+-- the struct has the refusal of the text; or it spells a value, and the struct is unchanged
+abbrev pub RefusesOrNot : SyntaxRefusal → SyntaxRefusal → List ℕ → Dialect → Kind → Bool → Type 0
+RefusesOrNot old new t d k true = SaysRefusal d k t new
+RefusesOrNot old new t d k false = ((v : Field) × IsOnly d k t v) × (new ≡ old)

@@ -3,18 +3,15 @@ ghost use Rattle.std.specs.Prelude.{◌≡◌};
 ghost use Rattle.std.specs.Result.{result_map_both};
 ghost use Rattle.sf_value.specs.declared.value.Field.TheVariants as field_is;
 ghost use Rattle.sf_value.specs.declared.value.Kind.TheVariants as kind_is;
-ghost use Rattle.sf_parse.specs.Parsers.{Parses};
 ghost use Rattle.sf_c.specs.Calls.{dialect_at, kind_at};
-ghost use Rattle.sf_c.specs.Parsing.{ParsesOrSays};
+ghost use Rattle.sf_c.specs.Parsing.{ParsesOrSays, RefusesOrNot};
 
 use crate::refusal::SyntaxRefusal;
 use crate::seed::Seed;
 use crate::status::Status;
-use sf_parse::{Refusal, parse_text_in};
+use sf_parse::{Refusal, parse_text_in, refuse_text};
 use sf_value::{Dialect, Dict, Field, Kind};
-use sf_view::parse_declined;
 use std::alloc::Global;
-use std::hash::RandomState;
 
 /// What a scanner made of a text before it is parsed.
 #[derive(Clone, Copy, Debug, Drop)]
@@ -48,8 +45,33 @@ pub(crate) fn kind_of(number: u32) -> Option<Kind>
     }
 }
 
+/// Whether the text spells no value of the kind; if so, its refusal is put into the struct, which is
+/// otherwise unchanged. It does not allocate. It is not inlined, so that an accepted text doesn't pay
+/// for its stack.
+#[inline(never)]
+pub(crate) fn refuse(dialect: Dialect, kind: Kind, text: &[u8], refusal: &mut SyntaxRefusal) -> bool
+    ensures { RefusesOrNot refusal.old refusal.new text.now dialect kind result }
+{
+    match refuse_text(dialect, kind, text) {
+        Some(
+            Refusal::Syntax {
+                place,
+                found,
+                expected,
+                may_end,
+            },
+        ) => {
+            *refusal = SyntaxRefusal::of(place, found, expected, may_end);
+            true
+        }
+        Some(_) => unreachable!(),
+        None => false,
+    }
+}
+
 /// The value that the text spells, or the status that says why there is none. A refusal is put into
-/// its struct, which is otherwise unchanged.
+/// its struct, which is otherwise unchanged. A declined text that is malformed is refused without
+/// memory; for another one, memory may be wanting.
 pub(crate) fn parse(
     alloc: Global,
     seed: &Seed,
@@ -63,10 +85,29 @@ pub(crate) fn parse(
     // failed.
     ensures { ParsesOrSays refusal.old refusal.new text.now dialect kind result }
 {
+    if let Scan::Declined = scan {
+        if refuse(dialect, kind, text, refusal) {
+            return Err(Status::Refused);
+        }
+    }
+    build(alloc, seed, dialect, kind, text, refusal)
+}
+
+/// As [`parse`], but the text is not refused first.
+fn build(
+    alloc: Global,
+    seed: &Seed,
+    dialect: Dialect,
+    kind: Kind,
+    text: &[u8],
+    refusal: &mut SyntaxRefusal,
+) -> Result<Field, Status>
+    ensures { ParsesOrSays refusal.old refusal.new text.now dialect kind result }
+{
     let Some(state) = seed.state() else {
         return Err(Status::OutOfMemory);
     };
-    match parse_after(alloc, &state, scan, dialect, kind, text) {
+    match parse_text_in(alloc, &state, dialect, kind, text) {
         Ok(field) => Ok(field),
         Err(Refusal::OutOfMemory) => Err(Status::OutOfMemory),
         Err(
@@ -101,23 +142,5 @@ pub(crate) fn parse_dict(
     match parse(alloc, seed, scan, dialect, Kind::Dict, text, refusal)? {
         Field::Dict(dict) => Ok(dict),
         _ => unreachable!(),
-    }
-}
-
-/// The value that the text spells, or its refusal, without the members before a malformed one if
-/// the text was declined.
-fn parse_after(
-    alloc: Global,
-    state: &RandomState,
-    scan: Scan,
-    dialect: Dialect,
-    kind: Kind,
-    text: &[u8],
-) -> Result<Field, Refusal>
-    ensures { Parses dialect kind text.now result }
-{
-    match scan {
-        Scan::Skipped => return parse_text_in(alloc, state, dialect, kind, text),
-        Scan::Declined => return parse_declined(alloc, state, dialect, kind, text),
     }
 }

@@ -3,21 +3,19 @@ ghost use Rattle.sf_c.specs.Calls.{ChecksCall, dialect_at, kind_at};
 ghost use Rattle.sf_c.specs.Checks.{Checks};
 ghost use Rattle.sf_c.specs.Statuses.{status_at};
 
-use crate::call::{Scan, dialect_of, kind_of, parse};
+use crate::call::{dialect_of, kind_of, refuse};
 use crate::refusal::SyntaxRefusal;
 use crate::seed::Seed;
 use crate::status::Status;
 use sf_value::{Dialect, Kind};
 use sf_view::accepts;
-use std::alloc::Global;
 
 /// Whether the text spells a value of the kind in the dialect (RFC 9651 section 4.2). Returns
 /// `Answered` if it does; `Refused` if it doesn't, with the refusal in `refusal`, which is
-/// otherwise unchanged; `OutOfMemory`; or `BadCall` for a number that is no kind or no dialect.
+/// otherwise unchanged; or `BadCall` for a number that is no kind or no dialect. Does not allocate.
 #[unsafe(no_mangle)]
 pub extern "C" fn sf_check(
-    alloc: Global,
-    seed: &Seed,
+    _seed: &Seed,
     dialect: u32,
     kind: u32,
     text: &[u8],
@@ -31,42 +29,19 @@ pub extern "C" fn sf_check(
     let (Some(dialect), Some(kind)) = (dialect_of(dialect), kind_of(kind)) else {
         return Status::BadCall.code();
     };
-    check(alloc, seed, dialect, kind, text, refusal).code()
+    check(dialect, kind, text, refusal).code()
 }
 
 /// As [`sf_check`], for a dialect and a kind.
-fn check(
-    alloc: Global,
-    seed: &Seed,
-    dialect: Dialect,
-    kind: Kind,
-    text: &[u8],
-    refusal: &mut SyntaxRefusal,
-) -> Status
+fn check(dialect: Dialect, kind: Kind, text: &[u8], refusal: &mut SyntaxRefusal) -> Status
     // Whether the text spells a value; if it is Refused, the struct says why.
     ensures { Checks refusal.old refusal.new text.now dialect kind result }
 {
     if accepts(dialect, kind, text) {
         return Status::Answered;
     }
-    check_tree(alloc, seed, dialect, kind, text, refusal)
-}
-
-/// As [`sf_check`], for a text that was declined, by the tree of its value. It is not inlined, so
-/// that an accepted text doesn't pay for its stack.
-#[inline(never)]
-fn check_tree(
-    alloc: Global,
-    seed: &Seed,
-    dialect: Dialect,
-    kind: Kind,
-    text: &[u8],
-    refusal: &mut SyntaxRefusal,
-) -> Status
-    ensures { Checks refusal.old refusal.new text.now dialect kind result }
-{
-    match parse(alloc, seed, Scan::Declined, dialect, kind, text, refusal) {
-        Ok(_) => Status::Answered,
-        Err(status) => status,
+    if refuse(dialect, kind, text, refusal) {
+        return Status::Refused;
     }
+    Status::Answered
 }

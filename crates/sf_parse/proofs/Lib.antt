@@ -23,9 +23,6 @@ pub mod SeriesSteps
 pub mod WholeParts
 pub mod WholeSteps
 pub mod WholeMembers
-pub mod BegunParts
-pub mod Stops
-pub mod BareStops
 pub mod Leading
 pub mod ByteRuns
 pub mod RunSteps

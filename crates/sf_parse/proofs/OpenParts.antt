@@ -1,6 +1,6 @@
 -- How each level goes on where its open part does.
 use Rattle.std.specs.Option.{option_and_then, option_map}
-use Rattle.std.proofs.Common.{◌≡◌, ℕ, Bool, true, false, List, [], ◌∷◌, ◌++◌, Option, Some, None, Result}
+use Rattle.std.proofs.Common.{◌≡◌, ℕ, true, List, [], ◌∷◌, ◌++◌, Option, Some, None, Result}
 use Rattle.std.proofs.Common.{IfOk}
 use Rattle.std.proofs.Common.{IsSome, refl, sym, ap, subst, ◌∙◌}
 use Rattle.sf_value.specs.declared.dialect.Dialect.{Dialect}
@@ -172,13 +172,6 @@ flag_kept d k (InOne (InBare s)) t chunk rest h a = absurd h
 flag_kept d k (InOne (InParams x p)) t chunk rest h a =
     subst IsFlag (sym (flag_goes d k x p t chunk rest a).1) h
 flag_kept d k (InMany s) t chunk rest h a = absurd h
-
--- parts that were put, or not
-pub flag_resumed : (d : Dialect) (k : List ℕ) (s t : MemberState) (from left : List ℕ) (put : Bool)
-    → IsFlag s → (put ≡ true → Goes (member_step d) s from left t) → (put ≡ false → t ≡ s)
-    → IsFlag t
-flag_resumed d k s t from left true h a b = flag_kept d k s t from left h (a refl)
-flag_resumed d k s t from left false h a b = subst IsFlag (sym (b refl)) h
 
 pub space_before : (d : Dialect) (b : ℕ) → is_sp b ≡ true → step d BeforeItem b ≡ Some BeforeItem
 space_before d b h = rw h refl

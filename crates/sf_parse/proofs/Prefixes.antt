@@ -25,11 +25,6 @@ goes_more next s t u chunk rest more a b = record {
   leads = run_append next s t a.taken b.taken a.leads ∙ b.leads;
 }
 
-pub prefix_more : {S : Type 0} (next : S → ℕ → Option S) (s t u : S) (chunk rest more : List ℕ)
-    → Goes next s chunk rest t → LongestPrefix next t rest more u → LongestPrefix next s chunk more u
-prefix_more next s t u chunk rest more a b =
-    record { goes = goes_more next s t u chunk rest more a b.goes; stops = b.stops }
-
 -- no more is left than there was
 pub left_within : {S : Type 0} (next : S → ℕ → Option S) (s t : S) (chunk rest : List ℕ)
     → Goes next s chunk rest t → length rest ≤ length chunk
@@ -246,14 +241,3 @@ pub free_goes : {S : Type 0} (next : S → ℕ → Option S) (free : S → List 
     → (s t : S) (chunk rest : List ℕ) → free s chunk → Goes next s chunk rest t → free t rest
 free_goes next free keeps s t chunk rest h a =
     free_run next free keeps s t a.taken rest (subst (free s) a.split h) a.leads
-
--- a byte that was taken by itself, before more
-pub taken_alone : {S : Type 0} (next : S → ℕ → Option S) (s t : S) (chunk more : List ℕ) (b : ℕ)
-    (took : Bool) → chunk ≡ b ∷ more → LongestPrefix next s (b ∷ []) (unless took b) t
-    → took ≡ true → Goes next s chunk more t
-taken_alone next s t chunk more b true e a f = record {
-  taken = a.goes.taken;
-  split = e ∙ ap (λ p. p ++ more) (a.goes.split ∙ append-nil a.goes.taken);
-  leads = a.goes.leads;
-}
-taken_alone next s t chunk more b false e a f = absurd cc

@@ -17,7 +17,8 @@ use Rattle.sf_parse.specs.Machine.Fields.{step, finish}
 use Rattle.sf_parse.specs.Machine.Tests.{takes, may_end}
 use Rattle.sf_parse.specs.Reaching.{IsReachedBy}
 use Rattle.sf_parse.specs.Expected.{Marks}
-use Rattle.sf_parse.specs.Parsers.{IsSyntax, IsOnly}
+use Rattle.sf_parse.specs.Parsers.{IsOnly}
+use Rattle.sf_value.specs.Grammar.Refusals.{IsSyntax}
 use Rattle.sf_parse.proofs.GrammarLaws.{one_value}
 use Rattle.sf_parse.proofs.Reaching.{reached_end, reached_stops, reached_all}
 use Rattle.sf_parse.proofs.StateTests.{takes_next, ends_text}

@@ -16,7 +16,7 @@ use Rattle.sf_parse.specs.declared.series.SeriesPhase.{SeriesPhase}
 use Rattle.sf_parse.specs.declared.series.SeriesPhase.TheVariants as phase
 use Rattle.sf_parse.specs.WholeParts.{ReadsAs}
 use Rattle.sf_parse.specs.WholeMembers.{IsWholeMember, MayBegin, MayEnd, NoneOpen}
-use Rattle.sf_parse.specs.WholeMembers.{TakesMembers, IsBetween, IsBehindMember}
+use Rattle.sf_parse.specs.WholeMembers.{TakesMembers, IsBehindMember}
 use Rattle.sf_parse.proofs.Machine.Language.{is_none}
 use Rattle.sf_parse.proofs.Machine.Series.{SeriesLaws, ows_after, sp_ows}
 use Rattle.sf_parse.proofs.Prefixes.{goes_one, goes_more, goes_above, free_goes}
@@ -267,12 +267,6 @@ module _ {S X V : Type 0} (first : ℕ → Option S) (next : S → ℕ → Optio
   may_begin_open phase.Gap given m = tt
   may_begin_open phase.Comma given m = tt
 
-  pub none_between : (p : SeriesPhase) (given : V) → NoneOpen none p given → IsBetween p
-  none_between phase.Begin given m = tt
-  none_between phase.InMember given m = m
-  none_between phase.Gap given m = tt
-  none_between phase.Comma given m = tt
-
   -- members that are all of a text
   pub taken_value : (is_whole : Bool) (old : SeriesState S V) (chunk rest : List ℕ)
       (p : SeriesPhase) (given : V) (s : S)
@@ -287,12 +281,3 @@ module _ {S X V : Type 0} (first : ℕ → Option S) (next : S → ℕ → Optio
       by phase.InMember m e = absurd m
       by phase.Gap m e = refl
       by phase.Comma m e = absurd e
-
-  -- and that are not
-  pub taken_left : (is_whole : Bool) (old new : SeriesState S V) (chunk rest : List ℕ)
-      (p : SeriesPhase) (given : V) (s : S)
-      → TakesMembers Next End is_whole old chunk rest p given s
-      → new ≡ series_of p given s → (rest ≡ [] → MayEnd p → ⊥) → Goes Next old chunk rest new
-  taken_left is_whole old new chunk rest p given s t e n = ⊎_elim
-      (λ h. subst (Goes Next old chunk rest) (h ∙ sym e) t.goes)
-      (λ h. absurd (n h.1 (subst MayEnd (sym h.2) tt))) t.reached

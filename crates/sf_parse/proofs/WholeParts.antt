@@ -28,12 +28,11 @@ use Rattle.sf_parse.specs.Machine.Texts.{Inside, Closed, text_step}
 use Rattle.sf_parse.specs.Machine.Bares.{BareState, InNumber, InText, GoodBare, ResidualBare}
 use Rattle.sf_parse.specs.Machine.Bares.{bare_start, bare_step, bare_finish}
 use Rattle.sf_parse.specs.Machine.Params.{MoreParams}
-use Rattle.sf_parse.specs.Leaves.{number_bare, leaf_bare}
-use Rattle.sf_parse.specs.declared.whole_parts.BehindItems.{BehindItems}
-use Rattle.sf_parse.specs.declared.whole_parts.BehindItems.TheVariants as behind
+use Rattle.sf_parse.specs.Leaves.{number_bare}
+use Rattle.sf_parse.specs.declared.whole_parts.BehindItem.{BehindItem}
 use Rattle.sf_parse.specs.Prefixes.{Goes, LongestPrefix, Starts}
 use Rattle.sf_parse.specs.declared.number.Number.{Number}
-use Rattle.sf_parse.specs.WholeParts.{ReadsAs, ReadsParam, ReadsItems, AddsItem, TakesItem, Behind}
+use Rattle.sf_parse.specs.WholeParts.{ReadsAs, ReadsParam, ReadsItems, AddsItem, Behind}
 use Rattle.sf_parse.proofs.Machine.Language.{and_then_cases}
 use Rattle.sf_parse.proofs.Machine.Bares.{bare_reads, bare_starts, bare_lives}
 use Rattle.sf_parse.proofs.Machines.{may_end, accepted}
@@ -252,19 +251,12 @@ built_item d text after rest x y ps b e r =
     item_whole d text after rest y ps
     (subst (λ z. ReadsAs (SpellsBare d) text z after) (sym e) b) r
 
--- an Item that is whole
-pub adds_taken : (d : Dialect) (text : List ℕ) (old new : List Item) (end : BehindItems)
-    → AddsItem d text old new end → TakesItem d text old new end
-adds_taken d text old new (behind.Open rest) a = a
-adds_taken d text old new (behind.Closed rest) a = a
-adds_taken d text old new (behind.InParams rest) a = absurd a.behind
-
 -- an Item that begins with this bare item
 pub takes_found : (d : Dialect) (x : Bare) (text after : List ℕ) (old new : List Item)
-    → ReadsAs (SpellsBare d) text x after → (o : Option BehindItems)
+    → ReadsAs (SpellsBare d) text x after → (o : Option BehindItem)
     → IfSome o (λ end. (t : List ℕ) → ReadsAs (SpellsBare d) t x after
-    → TakesItem d t old new end)
-    → IfSome o (TakesItem d text old new)
+    → AddsItem d t old new end)
+    → IfSome o (AddsItem d text old new)
 takes_found d x text after old new b None h = h
 takes_found d x text after old new b (Some end) h = h text b
 

@@ -9,7 +9,7 @@ use Rattle.sf_value.specs.Grammar.Words.{Every}
 use Rattle.sf_value.specs.Grammar.Classes.{is_ows}
 use Rattle.sf_value.specs.Grammar.Fields.{SpellsField}
 use Rattle.sf_value.specs.Grammar.Lines.{Viable}
-use Rattle.sf_parse.specs.Parsers.{IsSyntax}
+use Rattle.sf_value.specs.Grammar.Refusals.{IsSyntax}
 
 -- the text spells some field of the kind
 abbrev pub SpellsSome : Dialect → Kind → List ℕ → Type 0

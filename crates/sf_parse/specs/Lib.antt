@@ -29,5 +29,3 @@ pub mod BareView
 pub mod Leaves
 pub mod WholeParts
 pub mod WholeMembers
-pub mod BegunParts
-pub mod Stops

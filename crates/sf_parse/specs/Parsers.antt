@@ -1,13 +1,13 @@
 -- What a parser keeps, which bytes it took, and what it refuses.
-use Rattle.std.specs.Prelude.{◌≡◌, ℕ, ◌+◌, ◌<◌, ◌≤◌, ◌↔◌, Bool, true, false, List, [], ◌∷◌, ◌++◌}
-use Rattle.std.specs.Prelude.{length, take, Option, Some, None, Result, Ok, Err, slice_get, ⊤}
-use Rattle.std.specs.Int.{bit_at}
+use Rattle.std.specs.Prelude.{◌≡◌, ℕ, ◌+◌, ◌<◌, ◌≤◌, ◌↔◌, Bool, true, false, List, ◌∷◌, ◌++◌}
+use Rattle.std.specs.Prelude.{length, take, Option, Some, None, Result, Ok, Err, ⊤}
 use Rattle.sf_value.specs.Ascii.{comma, space}
 use Rattle.sf_value.specs.declared.dialect.Dialect.{Dialect}
 use Rattle.sf_value.specs.declared.value.Field.{Field}
 use Rattle.sf_value.specs.declared.value.Kind.{Kind}
 use Rattle.sf_value.specs.Grammar.Fields.{SpellsField}
-use Rattle.sf_value.specs.Grammar.Lines.{Viable, IsPlace}
+use Rattle.sf_value.specs.Grammar.Lines.{Viable}
+use Rattle.sf_value.specs.Grammar.Refusals.{IsSyntax}
 use Rattle.sf_parse.specs.declared.refusal.Refusal.{Refusal}
 use Rattle.sf_parse.specs.declared.refusal.Refusal.TheVariants.{OutOfMemory, Syntax, TooLong}
 use Rattle.sf_parse.specs.declared.refusal.Refusal.TheVariants.{ReadFault}
@@ -52,20 +52,6 @@ pub record Refuses (takes : ℕ → Bool) (ends : Bool) (place : ℕ) (found : O
 abbrev pub Sound : Option Refusal → State → ℕ → ℕ → Type 0
 Sound None state count max = Good state × (count ≤ max)
 Sound (Some e) state count max = StandsAt e count max
-
--- an exact refusal of the text t
-pub record IsSyntax (d : Dialect) (kind : Kind) (t : List ℕ) (place : ℕ) (found : Option ℕ)
-    (expected : ℕ) (may_end : Bool) : Type 0 where
-  -- no value is spelled
-  pub unspelled : (v : Field) → SpellsField d kind t v → ⊥
-  -- the place is the length of the longest viable prefix
-  pub is_place : IsPlace d kind t place
-  pub byte : found ≡ slice_get t place
-  -- bit b is set exactly if byte b may follow that prefix
-  pub next : (b : ℕ) → b < 128 → (bit_at expected b ≡ 1) ↔ Viable d kind (take place t ++ b ∷ [])
-  pub some : 0 < expected
-  -- whether that prefix is itself a text
-  pub ends : (may_end ≡ true) ↔ ((v : Field) × SpellsField d kind (take place t) v)
 
 -- the text spells this value, and no other
 pub record IsOnly (d : Dialect) (kind : Kind) (t : List ℕ) (v : Field) : Type 0 where
@@ -130,6 +116,14 @@ Parses d kind t (Err (Syntax place (Some b) expected may_end)) =
     IsSyntax d kind t place (Some b) expected may_end
 Parses d kind t (Err (TooLong limit)) = ⊥
 Parses d kind t (Err (ReadFault place)) = ⊥
+
+-- out of memory only if the text t spells a value: a malformed text needs no memory to be refused
+abbrev pub NeedsValue : {A : Type 0} → Dialect → Kind → List ℕ → Result A Refusal → Type 0
+NeedsValue d kind t (Ok v) = ⊤
+NeedsValue d kind t (Err OutOfMemory) = (v : Field) × IsOnly d kind t v
+NeedsValue d kind t (Err (Syntax place found expected may_end)) = ⊤
+NeedsValue d kind t (Err (TooLong limit)) = ⊤
+NeedsValue d kind t (Err (ReadFault place)) = ⊤
 
 -- P holds for the field of the result, and for a refusal as it is
 abbrev pub Makes : {A : Type 0} → (A → Field) → (Result Field Refusal → Type 0)

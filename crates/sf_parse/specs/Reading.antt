@@ -9,7 +9,8 @@ use Rattle.sf_value.specs.Grammar.Lines.{Viable}
 use Rattle.sf_parse.specs.declared.refusal.Refusal.{Refusal}
 use Rattle.sf_parse.specs.declared.refusal.Refusal.TheVariants.{OutOfMemory, Syntax, TooLong}
 use Rattle.sf_parse.specs.declared.refusal.Refusal.TheVariants.{ReadFault}
-use Rattle.sf_parse.specs.Parsers.{IsSyntax, Finishes}
+use Rattle.sf_parse.specs.Parsers.{Finishes}
+use Rattle.sf_value.specs.Grammar.Refusals.{IsSyntax}
 use Rattle.sf_parse.specs.AllocationFree.{TakesNoMemory}
 
 -- calls gave these bytes up to the source's end, which one call returned; or these are as many as a

@@ -1,15 +1,13 @@
 -- Whole members that are added to a value: their machine, and what taking them returns.
 use Rattle.std.specs.Prelude.{◌≡◌, ℕ, Bool, true, false, List, [], ◌∷◌, ◌++◌, Option, Some, None}
-use Rattle.std.specs.Prelude.{◌⊎◌, ◌≢◌, ⊤, ◌-◌, ◌<◌, is_some, length, slice_get}
+use Rattle.std.specs.Prelude.{◌⊎◌, ◌≢◌, ⊤}
 use Rattle.sf_value.specs.Ascii.{comma}
 use Rattle.sf_value.specs.Grammar.Classes.{is_ows}
 use Rattle.sf_value.specs.Grammar.Words.{Every}
 use Rattle.sf_parse.specs.Machine.Language.{run, is_after}
 use Rattle.sf_parse.specs.Machine.Series.{SeriesState}
-use Rattle.sf_parse.specs.Parsers.{Refuses}
-use Rattle.sf_parse.specs.Prefixes.{Goes, FirstIs, Halts}
+use Rattle.sf_parse.specs.Prefixes.{Goes}
 use Rattle.sf_parse.specs.SeriesView.{series_of}
-use Rattle.sf_parse.specs.declared.refusal.Refusal.{Refusal}
 use Rattle.sf_parse.specs.declared.series.SeriesPhase.{SeriesPhase}
 use Rattle.sf_parse.specs.declared.series.SeriesPhase.TheVariants as phase
 
@@ -55,28 +53,7 @@ NoneOpen none phase.InMember given = ⊥
 NoneOpen none phase.Gap given = ⊤
 NoneOpen none phase.Comma given = ⊤
 
--- no member is open
-abbrev pub IsBetween : SeriesPhase → Type 0
-IsBetween phase.Begin = ⊤
-IsBetween phase.InMember = ⊥
-IsBetween phase.Gap = ⊤
-IsBetween phase.Comma = ⊤
-
--- a member may begin, where none is open
-abbrev pub begins_between : SeriesPhase → Bool
-begins_between phase.Begin = true
-begins_between phase.InMember = false
-begins_between phase.Gap = false
-begins_between phase.Comma = true
-
 -- members may end, where none is open
-abbrev pub ends_between : SeriesPhase → Bool
-ends_between phase.Begin = true
-ends_between phase.InMember = false
-ends_between phase.Gap = true
-ends_between phase.Comma = false
-
--- the same as a fact
 abbrev pub MayEnd : SeriesPhase → Type 0
 MayEnd phase.Begin = ⊤
 MayEnd phase.InMember = ⊥
@@ -93,19 +70,3 @@ pub record TakesMembers {S V : Type 0} (next : SeriesState S V → ℕ → Optio
   pub goes : Goes next old chunk rest state
   pub reached : (state ≡ series_of p given s)
       ⊎ ((is_whole ≡ true) × (rest ≡ []) × (p ≡ phase.Gap) × (end state ≡ Some given))
-
--- the exact refusal, at this place, of what is left of a text where the machine is in this state; no
--- byte above 127 is in any text
-pub record RefusesAt {S : Type 0} (next : S → ℕ → Option S) (ends : S → Bool) (s : S)
-    (left : List ℕ) (place : ℕ) (e : Refusal) : Type 0 where
-  pub stops : FirstIs (λ b. b < 128 → Halts next s b) left
-  pub unended : left ≡ [] → ends s ≡ false
-  pub refuses : Refuses (λ b. is_some (next s b)) (ends s) place (slice_get left 0) e
-
--- the same after some bytes, in a text of this length that ends with them
-pub record RefusesAfter {S : Type 0} (next : S → ℕ → Option S) (ends : S → Bool) (s : S)
-    (text : List ℕ) (length_of_whole : ℕ) (e : Refusal) : Type 0 where
-  pub state : S
-  pub left : List ℕ
-  pub goes : Goes next s text left state
-  pub refuses : RefusesAt next ends state left (length_of_whole - length left) e

@@ -13,13 +13,8 @@ use Rattle.sf_value.specs.Grammar.Pairs.{Pairs, put}
 use Rattle.sf_value.specs.Grammar.Parameters.{SpellsParam}
 use Rattle.sf_value.specs.Grammar.InnerLists.{SpellsItems}
 use Rattle.sf_parse.specs.Leaves.{leaf_bare}
-use Rattle.sf_parse.specs.Machine.Inners.{BetweenItems, InItem}
-use Rattle.sf_parse.specs.Machine.Items.{InParams}
-use Rattle.sf_parse.specs.Machine.Members.{InMany, member_step}
-use Rattle.sf_parse.specs.Machine.Params.{Opened}
-use Rattle.sf_parse.specs.Prefixes.{Goes}
-use Rattle.sf_parse.specs.declared.whole_parts.BehindItems.{BehindItems}
-use Rattle.sf_parse.specs.declared.whole_parts.BehindItems.TheVariants as behind
+use Rattle.sf_parse.specs.declared.whole_parts.BehindItem.{BehindItem}
+use Rattle.sf_parse.specs.declared.whole_parts.BehindItem.TheVariants as behind
 use Rattle.sf_parse.specs.declared.whole_parts.Found.{Found}
 
 -- the start of the text, up to the rest, spells the value as P says
@@ -51,14 +46,13 @@ pub record PutsParam (d : Dialect) (text : List ℕ) (old new : Pairs Bare) (res
   pub added : new ≡ put old key value
 
 -- after an Item of an Inner List come one or more spaces, or the closing bracket
-abbrev pub IsBehindItem : List ℕ → BehindItems → Type 0
+abbrev pub IsBehindItem : List ℕ → BehindItem → Type 0
 IsBehindItem text (behind.Open rest) =
     (more : List ℕ) × (text ≡ space ∷ more) × Behind is_sp more rest.now
 IsBehindItem text (behind.Closed rest) = text ≡ close_bracket ∷ rest.now
-IsBehindItem text (behind.InParams rest) = ⊥
 
 -- the start of the text spells an Item, which is added to the old ones
-pub record AddsItem (d : Dialect) (text : List ℕ) (old new : List Item) (end : BehindItems)
+pub record AddsItem (d : Dialect) (text : List ℕ) (old new : List Item) (end : BehindItem)
     : Type 0 where
   pub item : Item
   pub rest : List ℕ
@@ -66,30 +60,9 @@ pub record AddsItem (d : Dialect) (text : List ℕ) (old new : List Item) (end :
   pub added : new ≡ old ++ item ∷ []
   pub behind : IsBehindItem rest end
 
--- the start of the text spells an Item, which is not added, and a semicolon follows
-pub record OpensItem (d : Dialect) (text : List ℕ) (old new : List Item) (rest : List ℕ)
-    : Type 0 where
-  pub item : Item
-  pub reads : ReadsAs (SpellsItem d) text item (semicolon ∷ rest)
-  pub same : new ≡ old
-
--- the start of the text spells an Item, which is added if no parameter follows
-abbrev pub TakesItem : Dialect → List ℕ → List Item → List Item → BehindItems → Type 0
-TakesItem d text old new (behind.Open rest) = AddsItem d text old new (behind.Open rest)
-TakesItem d text old new (behind.Closed rest) = AddsItem d text old new (behind.Closed rest)
-TakesItem d text old new (behind.InParams rest) = OpensItem d text old new rest.now
-
 -- what was found, with these parameters, as a member
 abbrev pub found_member : Found × Pairs Bare → Member
 found_member f = member.Item (item (leaf_bare f.0.leaf) f.1)
-
--- the bytes before the rest lead from where an Item of an Inner List may begin, after the old ones,
--- to where a parameter of an Item may begin, after the new ones
-pub record OpensParams (d : Dialect) (old new : List Item) (text rest : List ℕ) : Type 0 where
-  pub bare : Bare
-  pub params : Pairs Bare
-  pub goes : Goes (member_step d) (InMany (BetweenItems old)) text rest
-      (InMany (InItem new (InParams bare (Opened params))))
 
 -- the start of the text spells Items of an Inner List, after at least this many spaces, and a
 -- closing bracket follows; they are added to the old ones
@@ -100,11 +73,3 @@ pub record ReadsItems (d : Dialect) (least : ℕ) (text : List ℕ) (old new : L
   pub split : text ≡ prefix ++ close_bracket ∷ rest
   pub spelled : SpellsItems d least prefix items
   pub added : new ≡ old ++ items
-
--- the start of the text spells Items of an Inner List, which are added to the old ones: up to the
--- closing bracket, or to where another one may begin, or to a semicolon in another one
-abbrev pub ReachesItems : Dialect → List ℕ → List Item → List Item → BehindItems → Type 0
-ReachesItems d text old new (behind.Closed rest) = ReadsItems d 0 text old new rest.now
-ReachesItems d text old new (behind.Open rest) =
-    Goes (member_step d) (InMany (BetweenItems old)) text rest.now (InMany (BetweenItems new))
-ReachesItems d text old new (behind.InParams rest) = OpensParams d old new text rest.now

@@ -20,7 +20,7 @@ fn head(text: &[u8]) -> &[u8]
 
 /// Whether this byte is near the beginning of a text.
 #[inline]
-pub fn has(text: &[u8], byte: u8) -> bool {
+fn has(text: &[u8], byte: u8) -> bool {
     memchr(byte, head(text)).is_some()
 }
 
@@ -37,25 +37,6 @@ pub fn from_near(text: &[u8], byte: u8) -> Option<&[u8]> {
     let place = memchr(byte, head(text))?;
     let (_, from) = text.split_at(place);
     Some(from)
-}
-
-/// What follows an opening bracket is searched for the closing one only if it has at most this many
-/// bytes.
-const SEARCHED_INSIDE: usize = 8;
-
-/// Whether an Inner List may be closed in this text, which follows its opening bracket. Only a
-/// short text is searched: in a longer one there is enough to read directly even if it isn't
-/// closed.
-pub fn may_close(inside: &[u8]) -> bool {
-    if inside.len() > SEARCHED_INSIDE {
-        return true;
-    }
-    for byte in inside {
-        if *byte == b')' {
-            return true;
-        }
-    }
-    false
 }
 
 /// How many commas, or spaces and brackets, are looked at. If all of these are within Strings, the

@@ -11,7 +11,6 @@ ghost use Rattle.sf_parse.specs.SeriesView.{Ends};
 ghost use Rattle.sf_parse.specs.Machine.Entries.{InMemberValue, entry_start, entry_step};
 ghost use Rattle.sf_parse.specs.Machine.Entries.{entry_finish};
 
-use crate::begun::Begun;
 use crate::context::Context;
 use crate::gathering::extend;
 use crate::level::Level;
@@ -153,21 +152,6 @@ impl Level for EntryReader {
                 let rest = self.member.take(context, chunk)?;
                 self.phase = EntryPhase::InFlag;
                 return Ok(rest);
-            }
-        }
-    }
-
-    fn resume(&mut self, context: &Context, begun: Begun<'_>) -> bool {
-        match self.phase {
-            EntryPhase::InKey | EntryPhase::Equals => return false,
-            EntryPhase::InMemberValue => return self.member.resume(context, begun),
-            EntryPhase::InFlag => {
-                // This phase requires that the member is a flag, which need not hold while parts
-                // are put.
-                self.phase = EntryPhase::InMemberValue;
-                let resumed = self.member.resume(context, begun);
-                self.phase = EntryPhase::InFlag;
-                return resumed;
             }
         }
     }

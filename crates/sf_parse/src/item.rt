@@ -14,7 +14,6 @@ ghost use Rattle.sf_parse.specs.Machine.Params.{ParamsState, Between, Opened, pa
 ghost use Rattle.sf_parse.specs.Machine.Items.{InParams, item_start, item_step, item_finish};
 
 use crate::bare::BareReader;
-use crate::begun::Begun;
 use crate::context::Context;
 use crate::gathering::Gather;
 use crate::level::Level;
@@ -100,16 +99,6 @@ impl ItemReader {
         self.in_params = true;
     }
 
-    /// The same, after these parameters and a semicolon.
-    pub fn open_after(&mut self, params: Entries<Bare>)
-        ensures { self.new ≡ InParams (bare_is.Boolean true) (Opened params) }
-    {
-        self.in_params = false;
-        self.bare.set_true();
-        self.params.open_after(params);
-        self.in_params = true;
-    }
-
     /// The parameters alone, if the last one is complete. Their value is taken out of the reader.
     pub fn finish_params(&mut self, context: &Context) -> Result<Option<Entries<Bare>>, OutOfMemory>
         // In parameters, they are the value that the state has at the end, if it has one.
@@ -192,13 +181,6 @@ impl Level for ItemReader {
             return self.params.take(context, chunk);
         }
         self.bare.take(context, chunk)
-    }
-
-    fn resume(&mut self, context: &Context, begun: Begun<'_>) -> bool {
-        if !self.in_params {
-            return false;
-        }
-        self.params.resume(context, begun)
     }
 
     fn push_part(&mut self, context: &Context, byte: u8) -> Result<bool, OutOfMemory> {

@@ -2,17 +2,14 @@
 ghost use Rattle.std.specs.Option.{option_map};
 ghost use Rattle.std.specs.Prelude.{◌≡◌, [], IfOk, IsOk};
 ghost use Rattle.sf_value.specs.declared.value.Field.TheVariants as field;
-ghost use Rattle.sf_parse.specs.BegunParts.{IsBegunIn};
 ghost use Rattle.sf_parse.specs.ItemFieldView.{item_field_stuck};
 ghost use Rattle.sf_parse.specs.AllocationFree.{FieldFree};
 ghost use Rattle.sf_parse.specs.StaysFree.{field_keeps};
 ghost use Rattle.sf_parse.specs.Machine.States.{BeforeItem};
-ghost use Rattle.sf_parse.specs.Prefixes.{Goes};
 ghost use Rattle.sf_parse.specs.Machine.Fields.{step as step_of, finish as finish_of};
 ghost use Rattle.sf_parse.specs.Machine.Tests.{may_end as may_end_at};
 
 use crate::bare::BareReader;
-use crate::begun::Begun;
 use crate::context::Context;
 use crate::item::ItemReader;
 use crate::level::Level;
@@ -62,34 +59,6 @@ impl ItemFieldReader {
             phase: ItemFieldPhase::Before,
             item: ItemReader::new(context),
             whole: None,
-        }
-    }
-
-    /// Begins the item that a text begins with, goes on with the parts of it that were read, and
-    /// returns the rest.
-    pub fn take_begun_item<'a>(
-        &mut self,
-        context: &Context,
-        text: &'a [u8],
-        begun: Begun<'a>,
-    ) -> Result<&'a [u8], OutOfMemory>
-        requires { IsBegunIn context.now.dialect text.now begun }
-        // The bytes before the rest lead to the new state.
-        ensures { IfOk result (λ rest. Goes (step_of context.now.dialect) self.old text.now rest.now
-            self.new) }
-    {
-        let Some((byte, more)) = text.split_first() else {
-            return Ok(text);
-        };
-        if !self.push(context, *byte)? {
-            return Ok(text);
-        }
-        if more.len() < begun.from.len() {
-            return Ok(more);
-        }
-        match self.phase {
-            ItemFieldPhase::Inside => return self.item.take_begun(context, more, begun),
-            ItemFieldPhase::Before | ItemFieldPhase::Behind => return Ok(more),
         }
     }
 

@@ -1,5 +1,5 @@
 //! Bare items that are found in a text and built only where they are stored (RFC 9651 section
-//! 4.2.3.1). What was found is `Copy`: what follows it is tested before anything is allocated.
+//! 4.2.3.1). What was found is `Copy`: what follows it can be tested before anything is allocated.
 ghost use Rattle.std.specs.Prelude.{◌≡◌, ◌<◌, ◌++◌, ◌∷◌, IfSome, if◌then◌else◌};
 ghost use Rattle.sf_value.specs.Ascii.{digit_zero, digit_one, quote};
 ghost use Rattle.sf_value.specs.declared.dialect.Dialect.{Dialect};

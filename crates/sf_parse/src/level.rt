@@ -1,13 +1,11 @@
 //! What every level of the grammar has in common: it takes the longest prefix of a chunk.
 ghost use Rattle.std.specs.Prelude.{◌≡◌, ℕ, Bool, List, [], ◌∷◌, Option, Some, true, false, is_some, IfOk, IsOk};
 ghost use Rattle.sf_value.specs.declared.dialect.Dialect.{Dialect};
-ghost use Rattle.sf_parse.specs.BegunParts.{IsBegun, IsBegunIn};
 ghost use Rattle.sf_parse.specs.Expected.{MarksStep};
 ghost use Rattle.sf_parse.specs.Prefixes.{Goes, FirstIs, LongestPrefix, unless};
 ghost use Rattle.sf_parse.specs.Machine.Language.{Steps};
 ghost use Rattle.sf_parse.specs.Parsers.{Refuses};
 
-use crate::begun::Begun;
 use crate::context::Context;
 use crate::refusal::Refusal;
 use sf_value::{Dialect, OutOfMemory};
@@ -69,18 +67,6 @@ pub trait Level {
     /// Whether the level may end here.
     fn may_end(&self) -> bool
         ensures { result ≡ ends self.now };
-
-    /// Takes over parts that were begun, if the level is about to read the first of them; otherwise
-    /// returns false and changes nothing.
-    fn resume(&mut self, context: &Context, begun: Begun<'_>) -> bool
-        requires { IsBegun context.now.dialect begun }
-        // The bytes of the parts lead to the new state.
-        ensures goes { result ≡ true → Goes (next context.now.dialect) self.old
-            begun.entry.from.now begun.entry.left.now self.new }
-        ensures same { result ≡ false → self.new ≡ self.old }
-    {
-        false
-    }
 
     // If the bytes are allocation-free, those after the first are, too.
     ghost keeps: { (d : Dialect) (s t : Self) (b : ℕ) (more : List ℕ)
@@ -146,59 +132,5 @@ pub trait Level {
             rest = more;
         }
         Ok(rest)
-    }
-
-    /// Takes the bytes before the parts that were begun in this text, and the parts without reading
-    /// them again, and returns the rest.
-    final fn take_begun<'a>(
-        &mut self,
-        context: &Context,
-        text: &'a [u8],
-        begun: Begun<'a>,
-    ) -> Result<&'a [u8], OutOfMemory>
-        requires { IsBegunIn context.now.dialect text.now begun }
-        // The bytes before the rest lead to the new state.
-        ensures { IfOk result (λ rest. Goes (next context.now.dialect) self.old text.now rest.now
-            self.new) }
-    {
-        let from = begun.from;
-        let left = begun.left;
-        let (front, _) = text.split_at(text.len() - from.len());
-        let rest = self.take(context, front)?;
-        // In fact all bytes before the parts are taken, and so are the parts, but neither is
-        // proved.
-        if !rest.is_empty() {
-            let (_, rest) = text.split_at(front.len() - rest.len());
-            return Ok(rest);
-        }
-        if !self.resume(context, begun) {
-            return Ok(from);
-        }
-        Ok(left)
-    }
-
-    /// Takes the longest prefix of the chunk, as `take` does, but its first byte by itself: so no
-    /// whole part is looked for at its beginning, where one was looked for before.
-    #[inline(always)]
-    final fn take_by_bytes<'a>(
-        &mut self,
-        context: &Context,
-        chunk: &'a [u8],
-    ) -> Result<&'a [u8], OutOfMemory>
-        // The bytes before the rest lead to the new state, which can't take the first of the rest.
-        ensures prefix { IfOk result
-            (λ rest. LongestPrefix (next context.now.dialect) self.old chunk.now
-            rest.now self.new) }
-        // If the chunk is allocation-free, no allocation fails.
-        ensures allocation_free { allocation_free context.now.dialect self.old chunk.now
-            → IsOk result }
-    {
-        let Some((byte, more)) = chunk.split_first() else {
-            return Ok(chunk);
-        };
-        if !self.push(context, *byte)? {
-            return Ok(chunk);
-        }
-        self.take(context, more)
     }
 }

@@ -20,7 +20,6 @@
 
 mod ahead;
 mod bare;
-mod begun;
 mod blob;
 mod boolean;
 mod byte_runs;
@@ -43,12 +42,12 @@ mod parser;
 mod parsing;
 mod reader;
 mod refusal;
+mod refusing;
 mod series;
 mod series_members;
 mod sets;
 mod spots;
 mod state;
-mod stop;
 mod text;
 mod whole_bare;
 mod whole_parts;
@@ -58,4 +57,5 @@ pub use parser::Parser;
 pub use parsing::{parse_dict, parse_item, parse_list, parse_text, parse_text_in};
 pub use reader::parse_reader;
 pub use refusal::Refusal;
+pub use refusing::refuse_text;
 pub use spots::{InLine, Spot};

@@ -6,7 +6,6 @@ ghost use Rattle.sf_value.specs.declared.dialect.Dialect.{Dialect};
 ghost use Rattle.sf_value.specs.declared.value.Bare.TheVariants as bare_is;
 ghost use Rattle.sf_value.specs.declared.value.Member.TheVariants as member_is;
 ghost use Rattle.sf_value.specs.Grammar.Items.{item};
-ghost use Rattle.sf_parse.specs.BegunParts.{LeadsBy};
 ghost use Rattle.sf_parse.specs.Expected.{MarksStep};
 ghost use Rattle.sf_parse.specs.Prefixes.{Goes, Starts};
 ghost use Rattle.sf_parse.specs.MemberView.{member_stuck};
@@ -19,7 +18,6 @@ ghost use Rattle.sf_parse.specs.Machine.Members.{InOne, InMany, member_start, me
 ghost use Rattle.sf_parse.specs.Machine.Members.{member_finish};
 
 use crate::bare::BareReader;
-use crate::begun::{Begun, Parts};
 use crate::context::Context;
 use crate::item::ItemReader;
 use crate::level::Level;
@@ -114,35 +112,6 @@ impl MemberReader {
         ensures { MarksStep result (member_start dialect) }
     {
         BareReader::first_bytes(dialect) | OPEN
-    }
-
-    /// Puts the parts of an inner list whose opening bracket was read.
-    fn resume_inner(&mut self, context: &Context, parts: Parts) -> bool
-        // The state is the one that they lead to.
-        ensures goes { result ≡ true → (d : Dialect) (from left : List ℕ)
-            → LeadsBy d parts from left
-            → Goes (member_step d) (InMany (BetweenItems [])) from left self.new }
-        ensures same { result ≡ false → self.new ≡ self.old }
-    {
-        match parts {
-            Parts::Params(_) | Parts::Unkept => return false,
-            Parts::Items(items) => {
-                self.phase = MemberPhase::BetweenItems;
-                self.items = items;
-            }
-            Parts::Inner(items, params) => {
-                // The phase after the bracket requires that the item is in parameters, which need
-                // not hold yet.
-                self.phase = MemberPhase::BetweenItems;
-                self.items = items;
-                match params {
-                    Some(params) => self.item.open_after(params),
-                    None => self.item.begin_params(context),
-                }
-                self.phase = MemberPhase::Closing;
-            }
-        }
-        true
     }
 
     /// The inner list whose closing bracket was read, if its last parameter is complete.
@@ -285,19 +254,6 @@ impl Level for MemberReader {
                 self.phase = MemberPhase::Closing;
                 return Ok(rest);
             }
-        }
-    }
-
-    fn resume(&mut self, context: &Context, begun: Begun<'_>) -> bool {
-        match self.phase {
-            MemberPhase::One => return self.item.resume(context, begun),
-            MemberPhase::BetweenItems => {
-                if !self.items.is_empty() {
-                    return false;
-                }
-                return self.resume_inner(context, begun.parts);
-            }
-            MemberPhase::InItem | MemberPhase::Closing => return false,
         }
     }
 

@@ -6,7 +6,6 @@ ghost use Rattle.sf_parse.specs.Machine.Params.{Between, Opened, params_step, pa
 ghost use Rattle.sf_parse.specs.ParamsView.{params_stuck};
 
 use crate::bare::BareReader;
-use crate::begun::{Begun, Parts};
 use crate::context::Context;
 use crate::gathering::extend;
 use crate::level::Level;
@@ -82,14 +81,6 @@ impl ParamsReader {
         self.params = Entries::new(context.alloc, &context.seed);
     }
 
-    /// Begins again, after these parameters and a semicolon.
-    pub fn open_after(&mut self, params: Entries<Bare>)
-        ensures { self.new ≡ Opened params }
-    {
-        self.phase = ParamsPhase::Opened;
-        self.params = params;
-    }
-
     /// The parameters, if the last one is complete. Their value is taken out of the reader.
     pub fn finish(&mut self, context: &Context) -> Result<Option<Entries<Bare>>, OutOfMemory>
         // They are the value that the state has at the end, if it has one.
@@ -152,19 +143,6 @@ impl Level for ParamsReader {
             }
             ParamsPhase::InValue => return self.value.take(context, chunk),
             ParamsPhase::Between | ParamsPhase::Equals => return Ok(chunk),
-        }
-    }
-
-    fn resume(&mut self, _context: &Context, begun: Begun<'_>) -> bool {
-        if !self.params.is_empty() {
-            return false;
-        }
-        match (self.phase, begun.parts) {
-            (ParamsPhase::Opened, Parts::Params(params)) => {
-                self.open_after(params);
-                true
-            }
-            _ => false,
         }
     }
 

@@ -3,7 +3,7 @@ ghost use Rattle.std.specs.Prelude.{IfErr};
 ghost use Rattle.sf_value.specs.declared.dialect.Dialect.TheVariants.{Rfc9651};
 ghost use Rattle.sf_value.specs.declared.value.Field.TheVariants as field_is;
 ghost use Rattle.sf_value.specs.declared.value.Kind.TheVariants as kind_is;
-ghost use Rattle.sf_parse.specs.Parsers.{Parses, Makes};
+ghost use Rattle.sf_parse.specs.Parsers.{Parses, Makes, NeedsValue};
 ghost use Rattle.sf_parse.specs.AllocationFree.{TakesNoMemory};
 ghost use Rattle.sf_parse.specs.AllocationFreeParsers.{IsOther, NotForMemory};
 
@@ -16,10 +16,10 @@ use std::alloc::Global;
 use std::hash::RandomState;
 
 /// The value that the text spells, in the dialect of RFC 9651 (section 4.2). A text that spells
-/// none is refused with Syntax, and a failed allocation with OutOfMemory; it is never TooLong or
-/// ReadFault. For an Item, a text of spaces, digits and `-.?@` does not allocate, nor do at most 16
-/// bytes without `;`, `:` and `%`, such as a short Token or String; nor does an empty List or
-/// Dictionary.
+/// none is refused with Syntax, also if there is no memory; a text that spells one may be refused
+/// with OutOfMemory. No text is refused with TooLong or ReadFault. For an Item, a text of spaces,
+/// digits and `-.?@` does not allocate, nor do at most 16 bytes without `;`, `:` and `%`, such as a
+/// short Token or String; nor does an empty List or Dictionary.
 ///
 /// ```
 /// let field = parse_text(alloc, &seed, Kind::Dict, b"u=1, i")?;
@@ -35,6 +35,8 @@ pub fn parse_text(
     ensures parses { Parses Rfc9651 kind text.now result }
     // An allocation-free text is not refused as out of memory.
     ensures allocation_free { TakesNoMemory kind text.now → NotForMemory result }
+    // A malformed text is not refused as out of memory.
+    ensures needs_value { NeedsValue Rfc9651 kind text.now result }
 {
     parse_text_in(alloc, seed, Dialect::Rfc9651, kind, text)
 }
@@ -56,6 +58,8 @@ pub fn parse_text_in(
     ensures parses { Parses dialect kind text.now result }
     // An allocation-free text is not refused as out of memory.
     ensures allocation_free { TakesNoMemory kind text.now → NotForMemory result }
+    // A malformed text is not refused as out of memory.
+    ensures needs_value { NeedsValue dialect kind text.now result }
 {
     let context = Context::new(alloc, seed, dialect);
     match kind {
@@ -77,6 +81,8 @@ pub fn parse_item(alloc: Global, seed: &RandomState, text: &[u8]) -> Result<Item
     ensures parses { Makes field_is.Item (Parses Rfc9651 kind_is.Item text.now) result }
     // An allocation-free text is not refused as out of memory.
     ensures allocation_free { TakesNoMemory kind_is.Item text.now → IfErr result IsOther }
+    // A malformed text is not refused as out of memory.
+    ensures needs_value { NeedsValue Rfc9651 kind_is.Item text.now result }
 {
     parse_whole::<ItemFieldReader>(&Context::new(alloc, seed, Dialect::Rfc9651), text)
 }
@@ -93,6 +99,8 @@ pub fn parse_list(alloc: Global, seed: &RandomState, text: &[u8]) -> Result<List
     ensures parses { Makes field_is.List (Parses Rfc9651 kind_is.List text.now) result }
     // An empty List is not refused as out of memory.
     ensures allocation_free { TakesNoMemory kind_is.List text.now → IfErr result IsOther }
+    // A malformed text is not refused as out of memory.
+    ensures needs_value { NeedsValue Rfc9651 kind_is.List text.now result }
 {
     parse_whole::<ListReader>(&Context::new(alloc, seed, Dialect::Rfc9651), text)
 }
@@ -110,6 +118,8 @@ pub fn parse_dict(alloc: Global, seed: &RandomState, text: &[u8]) -> Result<Dict
     ensures parses { Makes field_is.Dict (Parses Rfc9651 kind_is.Dict text.now) result }
     // An empty Dictionary is not refused as out of memory.
     ensures allocation_free { TakesNoMemory kind_is.Dict text.now → IfErr result IsOther }
+    // A malformed text is not refused as out of memory.
+    ensures needs_value { NeedsValue Rfc9651 kind_is.Dict text.now result }
 {
     parse_whole::<DictReader>(&Context::new(alloc, seed, Dialect::Rfc9651), text)
 }

@@ -1,12 +1,11 @@
 //! Members with commas between them that are being read: the members of a List or a Dictionary (RFC
 //! 9651 sections 4.2.1 and 4.2.2).
-ghost use Rattle.std.specs.Prelude.{◌≡◌, ◌<◌, ◌≤◌, ℕ, List, [], false, true, length};
-ghost use Rattle.std.specs.Prelude.{is_some, Option, None, IfOk, OnOk, IsOk, IfSome, IfNone};
+ghost use Rattle.std.specs.Prelude.{◌≡◌, ◌<◌, ℕ, List, [], false, true, length};
+ghost use Rattle.std.specs.Prelude.{is_some, Option, IfOk, OnOk, IsOk, IfSome};
 ghost use Rattle.sf_value.specs.declared.dialect.Dialect.{Dialect};
 ghost use Rattle.sf_value.specs.declared.value.Bare.{Bare};
 ghost use Rattle.sf_value.specs.Grammar.Pairs.{Pairs};
 ghost use Rattle.sf_value.specs.Grammar.Parameters.{SpellsParams};
-ghost use Rattle.sf_parse.specs.BegunParts.{IsBegunBeside, IsBegunIn};
 ghost use Rattle.sf_parse.specs.Expected.{MarksStep};
 ghost use Rattle.sf_parse.specs.WholeParts.{ReadsAs};
 ghost use Rattle.sf_parse.specs.Prefixes.{Goes, FirstIs, Starts};
@@ -14,22 +13,17 @@ ghost use Rattle.sf_parse.specs.SeriesView.{series_next, series_end, series_stuc
 ghost use Rattle.sf_parse.specs.Machine.Series.{Begin};
 ghost use Rattle.sf_parse.specs.AllocationFree.{SeriesFree};
 ghost use Rattle.sf_parse.specs.StaysFree.{series_keeps};
-ghost use Rattle.sf_parse.specs.Stops.{StopsIn};
 ghost use Rattle.sf_parse.specs.SeriesView.{series_of};
 ghost use Rattle.sf_parse.specs.WholeMembers.{IsWholeMember, MayBegin, MayEnd, NoneOpen};
-ghost use Rattle.sf_parse.specs.WholeMembers.{TakesMembers, IsBetween, RefusesAt, RefusesAfter};
-ghost use Rattle.sf_parse.specs.WholeMembers.{IsBehindMember, begins_between, ends_between};
+ghost use Rattle.sf_parse.specs.WholeMembers.{TakesMembers, IsBehindMember};
 ghost use Rattle.sf_parse.specs.declared.whole_parts.Found.{Found};
 ghost use Rattle.sf_parse.specs.declared.series.SeriesPhase.TheVariants as phase_is;
 
 use crate::ahead::has_comma;
-use crate::begun::{Begun, WHOLE_PARTS, keep_params};
 use crate::context::Context;
 use crate::level::Level;
-use crate::refusal::Refusal;
 use crate::sets::{COMMA, OWS, SPACE, set_if};
-use crate::stop::{Stop, refuse_left};
-use crate::whole_parts::{Found, Owner, begins_param, may_begin_params, read_params};
+use crate::whole_parts::{Found, WHOLE_PARTS, begins_param, may_begin_params, read_params};
 use sf_value::classes::{Ows, Space, ends, short_prefix, split, strip_byte};
 use sf_value::{Bare, Dialect, Entries, OutOfMemory, is_ows};
 use std::marker::Model;
@@ -111,32 +105,15 @@ pub trait SeriesMember<G>: Level {
     /// is a hint that saves time; no proof relies on it.
     fn may_read(text: &[u8], is_whole: bool) -> bool;
 
-    /// A whole member that the text begins with, and the rest. None says nothing about the text;
-    /// the whole parts of the member may be kept.
-    fn read<'a>(
-        context: &Context,
-        text: &'a [u8],
-        owner: Owner,
-        begun: &mut Option<Begun<'a>>,
-    ) -> Option<(Self::Whole, &'a [u8])>
-        requires { begun.old ≡ None }
+    /// A whole member that the text begins with, and the rest. None says nothing about the text.
+    fn read<'a>(context: &Context, text: &'a [u8]) -> Option<(Self::Whole, &'a [u8])>
         // The bytes before the rest are those of the member.
-        ensures whole { IfSome result (λ r. IsWholeMember (first context.now.dialect)
-            (Self.Level.next context.now.dialect) added with text.now r.0 r.1.now) }
-        ensures none { IfSome result (λ _. begun.new ≡ None) }
-        // The parts are those of a member that the text begins with.
-        ensures begun { IfNone result (IfSome begun.new (IsBegunIn context.now.dialect text.now)) };
+        ensures { IfSome result (λ r. IsWholeMember (first context.now.dialect)
+            (Self.Level.next context.now.dialect) added with text.now r.0 r.1.now) };
 
     /// Adds a whole member.
     fn add(given: &mut G, member: Self::Whole) -> Result<(), OutOfMemory>
         ensures { OnOk result (given.new ≡ with given.old member) };
-
-    /// Where a text that begins with a member stops, searched after the parts of it that were kept.
-    /// None says nothing about the text.
-    fn stop<'a>(context: &Context, text: &'a [u8], begun: &Option<Begun<'a>>) -> Option<Stop<'a>>
-        requires { IfSome begun.now (IsBegunBeside context.now.dialect text.now) }
-        ensures { IfSome result (StopsIn (first context.now.dialect)
-            (Self.Level.next context.now.dialect) Self.Level.ends text.now) };
 
     // A member is added exactly if it may end.
     ghost adds: { (s : Self) (given : G) → is_some (added s given) ≡ Self.Level.ends s };
@@ -186,21 +163,8 @@ impl<P: SeriesMember<G>, G: Drop> SeriesReader<P, G> {
         }
     }
 
-    /// After whole members.
-    pub fn after(context: &Context, phase: SeriesPhase, given: G) -> SeriesReader<P, G>
-        requires { NoneOpen P.none phase given }
-        ensures { (s : P) → result ≡ series_of phase given s }
-    {
-        SeriesReader {
-            phase,
-            given,
-            member: P::new(context),
-        }
-    }
-
-    /// Takes whole members where one may begin, and the parts of the next one that are whole, and
-    /// returns the rest. It is not inlined: a chunk without whole members would pay for clearing
-    /// its stack.
+    /// Takes whole members where one may begin, and returns the rest. It is not inlined: a chunk
+    /// without whole members would pay for clearing its stack.
     #[inline(never)]
     fn take_members<'a>(
         &mut self,
@@ -216,102 +180,13 @@ impl<P: SeriesMember<G>, G: Drop> SeriesReader<P, G> {
         ensures allocation_free { SeriesFree self.old chunk.now → IsOk result }
     {
         match self.phase {
-            SeriesPhase::InMember => return self.member.take_by_bytes(context, chunk),
+            SeriesPhase::InMember => return self.member.take(context, chunk),
             SeriesPhase::Gap => return Ok(chunk),
             // Before the first member no value was given, whatever the reader holds.
             SeriesPhase::Begin => self.given = P::none(context),
             SeriesPhase::Comma => {}
         }
-        let mut begun = None;
-        let left = add_each_member::<P, G>(
-            context,
-            chunk,
-            false,
-            &mut self.phase,
-            &mut self.given,
-            &mut begun,
-        )?;
-        match begun {
-            Some(begun) => self.take_begun_member(context, left, begun),
-            None => Ok(left),
-        }
-    }
-
-    /// Begins the member that a text begins with, goes on with the parts of it that were read, and
-    /// returns the rest.
-    #[inline(never)]
-    fn take_begun_member<'a>(
-        &mut self,
-        context: &Context,
-        text: &'a [u8],
-        begun: Begun<'a>,
-    ) -> Result<&'a [u8], OutOfMemory>
-        requires { IsBegunIn context.now.dialect text.now begun }
-        // The bytes before the rest lead to the new state.
-        ensures goes { IfOk result (λ rest. Goes (series_next (P.first context.now.dialect)
-            (P.next context.now.dialect) P.added P.none) self.old text.now rest.now self.new) }
-        // A member that is open can't continue with the first byte of the rest.
-        ensures stuck { IfOk result (λ rest. FirstIs (series_stuck (P.next context.now.dialect)
-            self.new) rest.now) }
-        ensures allocation_free { SeriesFree self.old text.now → IsOk result }
-    {
-        if let SeriesPhase::InMember = self.phase {
-            return self.member.take_by_bytes(context, text);
-        }
-        let Some((byte, more)) = text.split_first() else {
-            return Ok(text);
-        };
-        if !self.turn(context, *byte)? {
-            return Ok(text);
-        }
-        let SeriesPhase::InMember = self.phase else {
-            return Ok(more);
-        };
-        if more.len() < begun.from.len() {
-            return self.member.take_by_bytes(context, more);
-        }
-        let rest = self.member.take_begun(context, more, begun)?;
-        self.member.take_by_bytes(context, rest)
-    }
-
-    /// Goes on with the parts that are kept of the member that a text begins with, if there are some,
-    /// and returns the rest.
-    #[inline(always)]
-    pub fn take_kept_parts<'a>(
-        &mut self,
-        context: &Context,
-        text: &'a [u8],
-        begun: &mut Option<Begun<'a>>,
-    ) -> Result<&'a [u8], OutOfMemory>
-        requires { IfSome begun.old (IsBegunIn context.now.dialect text.now) }
-        // The bytes before the rest lead to the new state.
-        ensures goes { IfOk result (λ rest. Goes (series_next (P.first context.now.dialect)
-            (P.next context.now.dialect) P.added P.none) self.old text.now rest.now self.new) }
-        ensures allocation_free { SeriesFree self.old text.now → IsOk result }
-    {
-        if begun.is_none() {
-            return Ok(text);
-        }
-        self.take_parts(context, text, begun)
-    }
-
-    /// As [`SeriesReader::take_kept_parts`], which only tests whether there are some.
-    #[inline(never)]
-    fn take_parts<'a>(
-        &mut self,
-        context: &Context,
-        text: &'a [u8],
-        begun: &mut Option<Begun<'a>>,
-    ) -> Result<&'a [u8], OutOfMemory>
-        requires { IfSome begun.old (IsBegunIn context.now.dialect text.now) }
-        ensures goes { IfOk result (λ rest. Goes (series_next (P.first context.now.dialect)
-            (P.next context.now.dialect) P.added P.none) self.old text.now rest.now self.new) }
-        ensures allocation_free { SeriesFree self.old text.now → IsOk result }
-    {
-        match mem::replace(begun, None) {
-            Some(begun) => self.take_begun_member(context, text, begun),
-            None => Ok(text),
-        }
+        add_each_member::<P, G>(context, chunk, false, &mut self.phase, &mut self.given)
     }
 
     /// The value of the members, if the last one is complete. It is taken out of the reader.
@@ -441,12 +316,12 @@ impl<P: SeriesMember<G>, G: Drop> Level for SeriesReader<P, G> {
 
     fn expected(&self, dialect: Dialect) -> u128 {
         match self.phase {
+            SeriesPhase::Begin => return SPACE | P::first_bytes(dialect),
             SeriesPhase::InMember => {
                 return self.member.expected(dialect) | set_if(self.member.may_end(), OWS | COMMA);
             }
-            SeriesPhase::Begin => return expected_between::<P, G>(dialect, SeriesPhase::Begin),
-            SeriesPhase::Gap => return expected_between::<P, G>(dialect, SeriesPhase::Gap),
-            SeriesPhase::Comma => return expected_between::<P, G>(dialect, SeriesPhase::Comma),
+            SeriesPhase::Gap => return OWS | COMMA,
+            SeriesPhase::Comma => return OWS | P::first_bytes(dialect),
         }
     }
 
@@ -459,90 +334,14 @@ impl<P: SeriesMember<G>, G: Drop> Level for SeriesReader<P, G> {
     }
 }
 
-/// The bytes below 128 that may come where no member is open, a bit for each.
-#[inline(always)]
-fn expected_between<P: SeriesMember<G>, G>(dialect: Dialect, phase: SeriesPhase) -> u128
-    // If no member is open, bit b is set exactly if byte b may come.
-    ensures { (given : G) (s : P) → IsBetween phase → MarksStep result
-        (series_next (P.first dialect) (P.next dialect) P.added P.none (series_of phase given s)) }
-{
-    match phase {
-        SeriesPhase::Begin => return SPACE | P::first_bytes(dialect),
-        SeriesPhase::InMember => return 0,
-        SeriesPhase::Gap => return OWS | COMMA,
-        SeriesPhase::Comma => return OWS | P::first_bytes(dialect),
-    }
-}
-
-/// The refusal of what is left of a text where no member is open: at a byte that is not allowed, or
-/// at the end after a comma. None says nothing about the text.
-#[inline(always)]
-pub fn refuse_between<P: SeriesMember<G>, G>(
-    dialect: Dialect,
-    phase: SeriesPhase,
-    place: usize,
-    left: &[u8],
-) -> Option<Refusal>
-    ensures { IfSome result (λ e. (given : G) (s : P) → IsBetween phase → RefusesAt
-        (series_next (P.first dialect) (P.next dialect) P.added P.none)
-        (λ t. is_some (series_end P.added P.none t)) (series_of phase given s) left.now place e) }
-{
-    let expected = expected_between::<P, G>(dialect, phase);
-    refuse_left(left, expected, may_end_between(phase), place)
-}
-
-/// The refusal of what is left of a text of this length where a member may begin: at a byte of the
-/// member or after it, or at the end. None says nothing about the text.
-#[inline(never)]
-pub fn refuse_member<'a, P: SeriesMember<G>, G>(
-    context: &Context,
-    phase: SeriesPhase,
-    whole: usize,
-    left: &'a [u8],
-    begun: &Option<Begun<'a>>,
-) -> Option<Refusal>
-    requires whole { length left.now ≤ whole }
-    requires begun { IfSome begun.now (IsBegunIn context.now.dialect left.now) }
-    ensures { IfSome result (λ e. (given : G) (s : P) → NoneOpen P.none phase given → RefusesAfter
-        (series_next (P.first context.now.dialect) (P.next context.now.dialect) P.added P.none)
-        (λ t. is_some (series_end P.added P.none t)) (series_of phase given s) left.now whole e) }
-{
-    if !may_begin_between(phase) {
-        return None;
-    }
-    let stop = P::stop(context, left, begun)?;
-    let expected = stop.expected | set_if(stop.may_end, OWS | COMMA);
-    refuse_left(stop.left, expected, stop.may_end, whole - stop.left.len())
-}
-
-/// Whether a member may begin where none is open.
-#[inline(always)]
-fn may_begin_between(phase: SeriesPhase) -> bool
-    ensures { result ≡ begins_between phase }
-{
-    match phase {
-        SeriesPhase::Begin | SeriesPhase::Comma => true,
-        SeriesPhase::InMember | SeriesPhase::Gap => false,
-    }
-}
-
-/// Whether members may end where none is open.
-#[inline(always)]
-fn may_end_between(phase: SeriesPhase) -> bool
-    ensures { result ≡ ends_between phase }
-{
-    match phase {
-        SeriesPhase::Begin | SeriesPhase::Gap => true,
-        SeriesPhase::InMember | SeriesPhase::Comma => false,
-    }
-}
-
 /// Whether whole members are all of a text, of which this rest is left after them.
 pub fn are_all(phase: SeriesPhase, rest: &[u8]) -> bool
-    ensures all { result ≡ true → (rest.now ≡ []) × MayEnd phase }
-    ensures some { result ≡ false → rest.now ≡ [] → MayEnd phase → ⊥ }
+    ensures { result ≡ true → (rest.now ≡ []) × MayEnd phase }
 {
-    ends(rest) && may_end_between(phase)
+    match phase {
+        SeriesPhase::Begin | SeriesPhase::Gap => ends(rest),
+        SeriesPhase::InMember | SeriesPhase::Comma => false,
+    }
 }
 
 /// Adds the whole members that what is left of a whole text begins with, each with the comma or the
@@ -553,11 +352,9 @@ pub fn add_members<'a, P: SeriesMember<G>, G>(
     text: &'a [u8],
     phase: &mut SeriesPhase,
     given: &mut G,
-    begun: &mut Option<Begun<'a>>,
 ) -> Result<&'a [u8], OutOfMemory>
     // A member may begin.
     requires may_begin { MayBegin P.none phase.old given.old }
-    requires none_begun { begun.old ≡ None }
     // The bytes before the rest lead to the new phase and value, whatever member was read last; or
     // no byte is left, and the value is that of the members.
     ensures goes { IfOk result (λ rest. (s : P) → TakesMembers
@@ -566,9 +363,6 @@ pub fn add_members<'a, P: SeriesMember<G>, G>(
         phase.new given.new s) }
     // No member is open.
     ensures none_open { IfOk result (λ _. NoneOpen P.none phase.new given.new) }
-    // Parts that are begun are those of the member that the rest begins with.
-    ensures begun { IfOk result (λ rest. IfSome begun.new (IsBegunIn context.now.dialect
-        rest.now)) }
     // Before the first member spaces do not allocate.
     ensures allocation_free { (s : P) → SeriesFree (series_of phase.old given.old s) text.now
         → IsOk result }
@@ -576,7 +370,7 @@ pub fn add_members<'a, P: SeriesMember<G>, G>(
     if !P::may_begin(text, true) {
         return Ok(text);
     }
-    add_each_member::<P, G>(context, text, true, phase, given, begun)
+    add_each_member::<P, G>(context, text, true, phase, given)
 }
 
 /// Whether whole members are looked for in a chunk: only if the first one may be whole. It is a
@@ -618,11 +412,9 @@ fn add_each_member<'a, P: SeriesMember<G>, G>(
     is_whole: bool,
     phase: &mut SeriesPhase,
     given: &mut G,
-    begun: &mut Option<Begun<'a>>,
 ) -> Result<&'a [u8], OutOfMemory>
     // A member may begin.
     requires may_begin { MayBegin P.none phase.old given.old }
-    requires none_begun { begun.old ≡ None }
     // The bytes before the rest lead to the new phase and value, whatever member was read last; or
     // no byte is left of a whole text, and the value is that of the members.
     ensures goes { IfOk result (λ rest. (s : P) → TakesMembers
@@ -631,9 +423,6 @@ fn add_each_member<'a, P: SeriesMember<G>, G>(
         phase.new given.new s) }
     // No member is open.
     ensures none_open { IfOk result (λ _. NoneOpen P.none phase.new given.new) }
-    // Parts that are begun are those of the member that the rest begins with.
-    ensures begun { IfOk result (λ rest. IfSome begun.new (IsBegunIn context.now.dialect
-        rest.now)) }
     // Before the first member spaces do not allocate.
     ensures allocation_free { (s : P) → SeriesFree (series_of phase.old given.old s) text.now
         → IsOk result }
@@ -645,7 +434,7 @@ fn add_each_member<'a, P: SeriesMember<G>, G>(
             if !P::may_read(rest, is_whole) || !may_be_whole(is_whole || is_first, rest) {
                 return Ok(rest);
             }
-            let left = add_read_member::<P, G>(context, rest, is_whole, phase, given, begun)?;
+            let left = add_read_member::<P, G>(context, rest, is_whole, phase, given)?;
             if !goes_on(*phase, rest, left) {
                 return Ok(left);
             }
@@ -658,7 +447,7 @@ fn add_each_member<'a, P: SeriesMember<G>, G>(
                 return Ok(rest);
             }
             let left = add_with_params::<P, G>(
-                context, rest, found, after, is_whole, phase, given, begun,
+                context, rest, found, after, is_whole, phase, given,
             )?;
             if !goes_on(*phase, rest, left) {
                 return Ok(left);
@@ -690,8 +479,7 @@ fn goes_on(phase: SeriesPhase, text: &[u8], left: &[u8]) -> bool
 
 /// Adds the member that a text begins with and that was found, with the parameters after it and the
 /// comma or white space after those, and returns the rest. If they are not whole, it returns all of
-/// the text, and may keep the parameters that are whole. It is not inlined: a call clears its
-/// stack.
+/// the text. It is not inlined: a call clears its stack.
 #[inline(never)]
 fn add_with_params<'a, P: SeriesMember<G>, G>(
     context: &Context,
@@ -701,11 +489,9 @@ fn add_with_params<'a, P: SeriesMember<G>, G>(
     is_whole: bool,
     phase: &mut SeriesPhase,
     given: &mut G,
-    begun: &mut Option<Begun<'a>>,
 ) -> Result<&'a [u8], OutOfMemory>
     // A member may begin.
     requires may_begin { MayBegin P.none phase.old given.old }
-    requires none_begun { begun.old ≡ None }
     requires found { P.is_found found }
     requires whole { (params : Pairs Bare) (rest : List ℕ)
         → ReadsAs (SpellsParams context.now.dialect) after.now params rest
@@ -719,17 +505,13 @@ fn add_with_params<'a, P: SeriesMember<G>, G>(
         phase.new given.new s) }
     // No member is open.
     ensures none_open { IfOk result (λ _. NoneOpen P.none phase.new given.new) }
-    // Parts that are begun are those of the member, of which nothing was taken.
-    ensures begun { IfOk result (λ rest. IfSome begun.new (λ b. (rest.now ≡ text.now)
-        × IsBegunIn context.now.dialect text.now b)) }
     // Before the first member spaces do not allocate.
     ensures allocation_free { (s : P) → SeriesFree (series_of phase.old given.old s) text.now
         → IsOk result }
 {
     let mut params = Entries::new(context.alloc, &context.seed);
-    let rest = read_params(context, after, Owner::member(is_whole), &mut params);
+    let rest = read_params(context, after, &mut params);
     let Some((next, more)) = after_member(rest, is_whole) else {
-        keep_params(begun, after, params, rest);
         return Ok(text);
     };
     if !P::add_found(context, given, found, params)? {
@@ -740,8 +522,8 @@ fn add_with_params<'a, P: SeriesMember<G>, G>(
 }
 
 /// Adds the whole member of any type that a text begins with, with the comma or white space after
-/// it, and returns the rest. If the member is not whole, it returns all of the text, and may keep
-/// the whole parts of the member. It is not inlined: a call clears its stack.
+/// it, and returns the rest. If the member is not whole, it returns all of the text. It is not
+/// inlined: a call clears its stack.
 #[inline(never)]
 fn add_read_member<'a, P: SeriesMember<G>, G>(
     context: &Context,
@@ -749,11 +531,9 @@ fn add_read_member<'a, P: SeriesMember<G>, G>(
     is_whole: bool,
     phase: &mut SeriesPhase,
     given: &mut G,
-    begun: &mut Option<Begun<'a>>,
 ) -> Result<&'a [u8], OutOfMemory>
     // A member may begin.
     requires may_begin { MayBegin P.none phase.old given.old }
-    requires none_begun { begun.old ≡ None }
     // The bytes before the rest lead to the new phase and value, whatever member was read last; or
     // no byte is left of a whole text, and the value is that of the members.
     ensures goes { IfOk result (λ rest. (s : P) → TakesMembers
@@ -762,14 +542,11 @@ fn add_read_member<'a, P: SeriesMember<G>, G>(
         phase.new given.new s) }
     // No member is open.
     ensures none_open { IfOk result (λ _. NoneOpen P.none phase.new given.new) }
-    // Parts that are begun are those of the member, of which nothing was taken.
-    ensures begun { IfOk result (λ rest. IfSome begun.new (λ b. (rest.now ≡ text.now)
-        × IsBegunIn context.now.dialect text.now b)) }
     // Before the first member spaces do not allocate.
     ensures allocation_free { (s : P) → SeriesFree (series_of phase.old given.old s) text.now
         → IsOk result }
 {
-    let Some((member, after)) = P::read(context, text, Owner::member(is_whole), begun) else {
+    let Some((member, after)) = P::read(context, text) else {
         return Ok(text);
     };
     let Some((next, more)) = after_member(after, is_whole) else {

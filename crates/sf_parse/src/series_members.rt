@@ -8,8 +8,6 @@ ghost use Rattle.sf_parse.specs.Machine.Members.{member_start, member_finish};
 ghost use Rattle.sf_parse.specs.Machine.Entries.{entry_start, entry_finish};
 ghost use Rattle.sf_parse.specs.MemberEnds.{with_member, with_entry, some_map};
 
-use crate::ahead::may_close;
-use crate::begun::Begun;
 use crate::context::Context;
 use crate::entry::EntryReader;
 use crate::leaf::{find_leaf, make};
@@ -17,10 +15,9 @@ use crate::level::Level;
 use crate::member::MemberReader;
 use crate::series::SeriesMember;
 use crate::sets::KEY_START;
-use crate::stop::{Stop, stop_in_entry, stop_in_member};
 use crate::whole_bare::may_begin_bare;
 use crate::whole_parts::{
-    Found, Owner, find_named, may_begin_part, may_begin_value, read_entry, read_member,
+    Found, find_named, may_begin_part, may_begin_value, read_entry, read_member,
 };
 use sf_value::classes::{split, strip_byte};
 use sf_value::{Bare, Dialect, Entries, Item, Key, Member, OutOfMemory, Sequence, can_start_key};
@@ -46,7 +43,7 @@ fn may_read_member(text: &[u8], is_whole: bool) -> bool {
 #[inline(always)]
 fn may_begin_other(text: &[u8], is_whole: bool) -> bool {
     match split(text) {
-        Some((b'(', inside)) => !is_whole || may_close(inside),
+        Some((b'(', _)) => true,
         Some((b'@' | b'%', _)) => is_whole,
         _ => false,
     }
@@ -124,23 +121,13 @@ impl SeriesMember<Sequence<Member>> for MemberReader {
     }
 
     #[inline(always)]
-    fn read<'a>(
-        context: &Context,
-        text: &'a [u8],
-        owner: Owner,
-        begun: &mut Option<Begun<'a>>,
-    ) -> Option<(Member, &'a [u8])> {
-        read_member(context, text, owner, begun)
+    fn read<'a>(context: &Context, text: &'a [u8]) -> Option<(Member, &'a [u8])> {
+        read_member(context, text)
     }
 
     #[inline(always)]
     fn add(given: &mut Sequence<Member>, member: Member) -> Result<(), OutOfMemory> {
         given.push_or_drop(member)
-    }
-
-    #[inline(always)]
-    fn stop<'a>(context: &Context, text: &'a [u8], begun: &Option<Begun<'a>>) -> Option<Stop<'a>> {
-        stop_in_member(context, text, begun)
     }
 }
 
@@ -218,13 +205,8 @@ impl SeriesMember<Entries<Member>> for EntryReader {
     }
 
     #[inline(always)]
-    fn read<'a>(
-        context: &Context,
-        text: &'a [u8],
-        owner: Owner,
-        begun: &mut Option<Begun<'a>>,
-    ) -> Option<(Entry, &'a [u8])> {
-        let (key, member, rest) = read_entry(context, text, owner, begun)?;
+    fn read<'a>(context: &Context, text: &'a [u8]) -> Option<(Entry, &'a [u8])> {
+        let (key, member, rest) = read_entry(context, text)?;
         Some((Entry { key, member }, rest))
     }
 
@@ -232,10 +214,5 @@ impl SeriesMember<Entries<Member>> for EntryReader {
     fn add(given: &mut Entries<Member>, entry: Entry) -> Result<(), OutOfMemory> {
         let Entry { key, member } = entry;
         given.set(key, member)
-    }
-
-    #[inline(always)]
-    fn stop<'a>(context: &Context, text: &'a [u8], begun: &Option<Begun<'a>>) -> Option<Stop<'a>> {
-        stop_in_entry(context, text, begun)
     }
 }

@@ -1,9 +1,9 @@
 //! Parts of a field that are whole in a text, read without a state between two calls, and built
 //! where they are stored. A function that returns None says nothing about the text, which is then
 //! refused, or read by the levels.
-ghost use Rattle.std.specs.Prelude.{◌≡◌, ◌++◌, ◌∷◌, ℕ, List, [], true, false, None};
+ghost use Rattle.std.specs.Prelude.{◌≡◌, ◌++◌, ◌∷◌, ℕ, List, [], true, false};
 ghost use Rattle.std.specs.Prelude.{IfSome, IfNone, IfOk, OnErr};
-ghost use Rattle.sf_value.specs.Ascii.{open_bracket, semicolon};
+ghost use Rattle.sf_value.specs.Ascii.{open_bracket};
 ghost use Rattle.sf_value.specs.declared.dialect.Dialect.{Dialect};
 ghost use Rattle.sf_value.specs.Grammar.BareItems.{SpellsBare};
 ghost use Rattle.sf_value.specs.Grammar.Classes.{is_sp};
@@ -19,14 +19,10 @@ ghost use Rattle.sf_parse.specs.Machine.Members.{InMany, member_step};
 ghost use Rattle.sf_parse.specs.Machine.Params.{Opened, params_step};
 ghost use Rattle.sf_parse.specs.Prefixes.{Goes};
 ghost use Rattle.sf_parse.specs.WholeParts.{ReadsAs, ReadsParam, PutsParam, Behind};
-ghost use Rattle.sf_parse.specs.WholeParts.{ReachesItems, IsBehindItem, TakesItem};
+ghost use Rattle.sf_parse.specs.WholeParts.{ReadsItems, IsBehindItem, AddsItem};
 ghost use Rattle.sf_parse.specs.WholeParts.{found_member};
-ghost use Rattle.sf_parse.specs.BegunParts.{IsBegunAt, IsBegunIn};
 
-use crate::ahead::{from_near, has_space, may_close};
-use crate::begun::{
-    Begun, WHOLE_PARTS, keep_closed, keep_end, keep_inner, keep_items, keep_params,
-};
+use crate::ahead::{from_near, has_space};
 use crate::context::Context;
 use crate::leaf::{Leaf, find_leaf, make};
 use crate::whole_bare::{needs_reader, read_bare};
@@ -34,6 +30,10 @@ use sf_value::classes::{InKey, Space, short_prefix, split, strip_byte};
 use sf_value::{
     Bare, Entries, Inner, Item, Key, Member, OutOfMemory, Sequence, ShortBytes, can_start_key,
 };
+
+/// Whole parts are looked for only in chunks of at least this many bytes. A smaller chunk seldom
+/// has a whole part and what follows it, and would take more time.
+pub const WHOLE_PARTS: usize = 64;
 
 /// The rest after spaces.
 #[inline(always)]
@@ -46,7 +46,7 @@ pub fn after_spaces(text: &[u8]) -> &[u8]
 
 /// The bytes of a key, and the rest.
 #[inline(always)]
-pub fn find_key(text: &[u8]) -> Option<(&[u8], &[u8])>
+fn find_key(text: &[u8]) -> Option<(&[u8], &[u8])>
     ensures { IfSome result (λ r. (text.now ≡ r.0.now ++ r.1.now) × IsKey r.0.now) }
 {
     let (first, more) = split(text)?;
@@ -94,8 +94,7 @@ pub fn find_named(text: &[u8]) -> Option<(Found<'_>, &[u8])>
 #[inline(always)]
 pub fn may_begin_part(text: &[u8]) -> bool {
     match split(text) {
-        Some((b'(', inside)) => may_close(inside),
-        Some((b'@', _)) => true,
+        Some((b'(' | b'@', _)) => true,
         Some((b'%' | b'"' | b':', _)) => needs_reader(text),
         _ => false,
     }
@@ -147,52 +146,16 @@ pub fn begins_param(text: &[u8]) -> bool {
     let Some(more) = strip_byte(text, b';') else {
         return false;
     };
-    match find_named(after_spaces(more)) {
-        Some((_, rest)) => may_follow(Owner::ChunkMember, rest),
-        None => may_begin_value(after_spaces(more)),
-    }
-}
-
-/// What parameters belong to, which decides what may follow them.
-#[derive(Clone, Copy)]
-pub enum Owner {
-    /// The Item that is a whole text.
-    Text,
-    /// A member of a whole text.
-    Member,
-    /// A member in a chunk, which may end within a parameter.
-    ChunkMember,
-    /// An Item of an Inner List.
-    InnerItem,
-}
-
-impl Owner {
-    /// A member of a whole text, or of a chunk.
-    #[inline(always)]
-    pub fn member(is_whole: bool) -> Owner {
-        if is_whole {
-            return Owner::Member;
-        }
-        Owner::ChunkMember
-    }
-}
-
-/// Whether an accepted text may go on with this one after something that can have parameters, or
-/// after one of its parameters. It is a hint that saves time; no proof relies on it.
-#[inline(always)]
-fn may_follow(owner: Owner, text: &[u8]) -> bool {
-    match split(text) {
-        Some((b';' | b' ', _)) => true,
-        Some((b')', _)) => matches!(owner, Owner::InnerItem),
-        Some((b',' | b'\t', _)) => matches!(owner, Owner::Member | Owner::ChunkMember),
-        Some(_) => false,
-        None => matches!(owner, Owner::Text | Owner::Member),
+    let named = after_spaces(more);
+    match find_named(named) {
+        Some((_, rest)) => matches!(split(rest), Some((b';' | b',' | b' ' | b'\t', _))),
+        None => may_begin_value(named),
     }
 }
 
 /// A key, and the rest.
 #[inline(always)]
-pub fn read_key<'a>(context: &Context, text: &'a [u8]) -> Option<(Key, &'a [u8])>
+fn read_key<'a>(context: &Context, text: &'a [u8]) -> Option<(Key, &'a [u8])>
     ensures split { IfSome result (λ r. text.now ≡ r.0 ++ r.1.now) }
     ensures key { IfSome result (λ r. IsKey r.0) }
 {
@@ -290,35 +253,25 @@ fn put_leaf(
 /// semicolon if the next parameter is not whole. It costs a call only if the text begins with a
 /// semicolon.
 #[inline(always)]
-pub fn read_params<'a>(
-    context: &Context,
-    text: &'a [u8],
-    owner: Owner,
-    params: &mut Entries<Bare>,
-) -> &'a [u8]
+pub fn read_params<'a>(context: &Context, text: &'a [u8], params: &mut Entries<Bare>) -> &'a [u8]
     requires { params.old ≡ [] }
     ensures { ReadsAs (SpellsParams context.now.dialect) text.now params.new result.now }
 {
     if strip_byte(text, b';').is_none() {
         return text;
     }
-    read_each_param(context, text, owner, params)
+    read_each_param(context, text, params)
 }
 
 /// As [`read_params`].
 #[inline(never)]
-fn read_each_param<'a>(
-    context: &Context,
-    text: &'a [u8],
-    owner: Owner,
-    params: &mut Entries<Bare>,
-) -> &'a [u8]
+fn read_each_param<'a>(context: &Context, text: &'a [u8], params: &mut Entries<Bare>) -> &'a [u8]
     requires { params.old ≡ [] }
     ensures { ReadsAs (SpellsParams context.now.dialect) text.now params.new result.now }
 {
     let mut rest = text;
     while let Some(more) = strip_byte(rest, b';') {
-        let Some(left) = put_param(context, more, owner, params) else {
+        let Some(left) = put_param(context, more, params) else {
             return rest;
         };
         rest = left;
@@ -329,12 +282,7 @@ fn read_each_param<'a>(
 /// Puts the parameter that a text begins with, after its semicolon, and returns the rest. If it is
 /// not whole, or an allocation fails, it changes nothing.
 #[inline(always)]
-fn put_param<'a>(
-    context: &Context,
-    text: &'a [u8],
-    owner: Owner,
-    params: &mut Entries<Bare>,
-) -> Option<&'a [u8]>
+fn put_param<'a>(context: &Context, text: &'a [u8], params: &mut Entries<Bare>) -> Option<&'a [u8]>
     ensures puts { IfSome result (λ rest. PutsParam context.now.dialect text.now params.old
         params.new rest.now) }
     ensures same { IfNone result (params.new ≡ params.old) }
@@ -343,11 +291,8 @@ fn put_param<'a>(
         if !may_read_param(text) {
             return None;
         }
-        return put_read_param(context, text, owner, params);
+        return put_read_param(context, text, params);
     };
-    if !may_follow(owner, rest) {
-        return None;
-    }
     let Ok(true) = put_leaf(context, found, params) else {
         return None;
     };
@@ -359,7 +304,6 @@ fn put_param<'a>(
 fn put_read_param<'a>(
     context: &Context,
     text: &'a [u8],
-    owner: Owner,
     params: &mut Entries<Bare>,
 ) -> Option<&'a [u8]>
     ensures puts { IfSome result (λ rest. PutsParam context.now.dialect text.now params.old
@@ -367,9 +311,6 @@ fn put_read_param<'a>(
     ensures same { IfNone result (params.new ≡ params.old) }
 {
     let (key, value, rest) = read_param(context, text)?;
-    if !may_follow(owner, rest) {
-        return None;
-    }
     let Ok(()) = params.set_named(context.alloc, key, value) else {
         return None;
     };
@@ -388,7 +329,7 @@ fn read_any_bare<'a>(context: &Context, text: &'a [u8]) -> Option<(Bare, &'a [u8
     Some((bare, rest))
 }
 
-/// An Item of an Inner List with its whole parameters, and the rest.
+/// An Item with its whole parameters, and the rest.
 #[inline(always)]
 fn read_item<'a>(context: &Context, text: &'a [u8]) -> Option<(Item, &'a [u8])>
     ensures { IfSome result (λ r. ReadsAs (SpellsItem context.now.dialect) text.now r.0 r.1.now) }
@@ -399,22 +340,21 @@ fn read_item<'a>(context: &Context, text: &'a [u8]) -> Option<(Item, &'a [u8])>
 
 /// As [`read_item`], for a text that begins with no leaf.
 #[inline(always)]
-fn read_other_item<'a>(context: &Context, text: &'a [u8]) -> Option<(Item, &'a [u8])>
+pub fn read_other_item<'a>(context: &Context, text: &'a [u8]) -> Option<(Item, &'a [u8])>
     ensures { IfSome result (λ r. ReadsAs (SpellsItem context.now.dialect) text.now r.0 r.1.now) }
 {
     let (bare, after) = read_bare(context, text)?;
     Some(item_before(context, bare, after))
 }
 
-/// The Item of an Inner List with this bare item and the whole parameters that the text begins with,
-/// and the rest.
+/// The Item with this bare item and the whole parameters that the text begins with, and the rest.
 #[inline(always)]
 fn item_before<'a>(context: &Context, bare: Bare, text: &'a [u8]) -> (Item, &'a [u8])
     ensures { (bare_text : List ℕ) → ReadsAs (SpellsBare context.now.dialect) bare_text bare text.now
         → ReadsAs (SpellsItem context.now.dialect) bare_text result.0 result.1.now }
 {
     let mut params = Entries::new(context.alloc, &context.seed);
-    let rest = read_params(context, text, Owner::InnerItem, &mut params);
+    let rest = read_params(context, text, &mut params);
     (Item { bare, params }, rest)
 }
 
@@ -520,52 +460,42 @@ fn push_leaf(
     Ok(true)
 }
 
-/// What comes after Items of an Inner List.
+/// What comes after an Item of an Inner List.
 #[derive(Clone, Copy)]
-pub enum BehindItems<'a> {
-    /// The rest, where another Item may begin: after the opening bracket or a space.
+pub enum BehindItem<'a> {
+    /// The rest after spaces, where another Item may begin.
     Open(&'a [u8]),
     /// The rest after the closing bracket.
     Closed(&'a [u8]),
-    /// The rest after an Item that is not added, and the semicolon after it.
-    InParams(&'a [u8]),
 }
 
-/// Adds the whole Items of an Inner List, up to its closing bracket or one that is not whole. In a
-/// whole text the parameters of that one are read, too.
+/// Adds the whole Items of an Inner List, and returns the rest after its closing bracket. None says
+/// nothing about the text.
 #[inline(always)]
-pub fn read_items<'a>(
-    context: &Context,
-    text: &'a [u8],
-    is_whole: bool,
-    items: &mut Sequence<Item>,
-) -> BehindItems<'a>
-    ensures { ReachesItems context.now.dialect text.now items.old items.new result }
+fn read_items<'a>(context: &Context, text: &'a [u8], items: &mut Sequence<Item>) -> Option<&'a [u8]>
+    ensures { IfSome result (λ rest. ReadsItems context.now.dialect 0 text.now items.old items.new
+        rest.now) }
 {
     let mut rest = after_spaces(text);
     loop {
         if let Some(left) = strip_byte(rest, b')') {
-            return BehindItems::Closed(left);
+            return Some(left);
         }
-        let Some(end) = push_item(context, rest, is_whole, items) else {
-            return BehindItems::Open(rest);
-        };
-        match end {
-            BehindItems::Open(left) => rest = left,
-            BehindItems::Closed(left) => return BehindItems::Closed(left),
-            BehindItems::InParams(left) => return BehindItems::InParams(left),
+        match push_item(context, rest, items)? {
+            BehindItem::Open(left) => rest = left,
+            BehindItem::Closed(left) => return Some(left),
         }
     }
 }
 
 /// What comes after an Item of an Inner List: at least one space, or the closing bracket.
 #[inline(always)]
-fn after_item(text: &[u8]) -> Option<BehindItems<'_>>
+fn after_item(text: &[u8]) -> Option<BehindItem<'_>>
     ensures { IfSome result (IsBehindItem text.now) }
 {
     match split(text) {
-        Some((b' ', more)) => Some(BehindItems::Open(after_spaces(more))),
-        Some((b')', rest)) => Some(BehindItems::Closed(rest)),
+        Some((b' ', more)) => Some(BehindItem::Open(after_spaces(more))),
+        Some((b')', rest)) => Some(BehindItem::Closed(rest)),
         _ => None,
     }
 }
@@ -576,17 +506,16 @@ fn after_item(text: &[u8]) -> Option<BehindItems<'_>>
 fn push_item<'a>(
     context: &Context,
     text: &'a [u8],
-    is_whole: bool,
     items: &mut Sequence<Item>,
-) -> Option<BehindItems<'a>>
-    ensures takes { IfSome result (TakesItem context.now.dialect text.now items.old items.new) }
+) -> Option<BehindItem<'a>>
+    ensures takes { IfSome result (AddsItem context.now.dialect text.now items.old items.new) }
     ensures same { IfNone result (items.new ≡ items.old) }
 {
     let Some((leaf, after)) = find_leaf(text) else {
-        return push_read_item(context, text, is_whole, items);
+        return push_read_item(context, text, items);
     };
     if strip_byte(after, b';').is_some() {
-        return push_with_params(context, leaf, after, is_whole, items);
+        return push_with_params(context, leaf, after, items);
     }
     let end = after_item(after)?;
     let params = Entries::new(context.alloc, &context.seed);
@@ -602,38 +531,21 @@ fn push_with_params<'a>(
     context: &Context,
     leaf: Leaf<'_>,
     after: &'a [u8],
-    is_whole: bool,
     items: &mut Sequence<Item>,
-) -> Option<BehindItems<'a>>
+) -> Option<BehindItem<'a>>
     requires { IsLeaf leaf }
     ensures takes { IfSome result (λ end. (text : List ℕ)
         → ReadsAs (SpellsBare context.now.dialect) text (leaf_bare leaf.entry) after.now
-        → TakesItem context.now.dialect text items.old items.new end) }
+        → AddsItem context.now.dialect text items.old items.new end) }
     ensures same { IfNone result (items.new ≡ items.old) }
 {
     let mut params = Entries::new(context.alloc, &context.seed);
-    let rest = read_params(context, after, Owner::InnerItem, &mut params);
-    let Some(end) = after_item(rest) else {
-        let more = after_whole(is_whole, rest)?;
-        // The levels build the bare item at the first semicolon: without memory they refuse there.
-        make(context, leaf)?;
-        return Some(BehindItems::InParams(more));
-    };
+    let rest = read_params(context, after, &mut params);
+    let end = after_item(rest)?;
     let Ok(true) = push_leaf(context, leaf, params, items) else {
         return None;
     };
     Some(end)
-}
-
-/// The rest after the semicolon that a whole text goes on with, after parameters that were read.
-#[inline(always)]
-fn after_whole(is_whole: bool, text: &[u8]) -> Option<&[u8]>
-    ensures { IfSome result (λ rest. text.now ≡ semicolon ∷ rest.now) }
-{
-    if !is_whole {
-        return None;
-    }
-    strip_byte(text, b';')
 }
 
 /// As [`push_item`], for a text that begins with no leaf.
@@ -641,112 +553,56 @@ fn after_whole(is_whole: bool, text: &[u8]) -> Option<&[u8]>
 fn push_read_item<'a>(
     context: &Context,
     text: &'a [u8],
-    is_whole: bool,
     items: &mut Sequence<Item>,
-) -> Option<BehindItems<'a>>
-    ensures takes { IfSome result (TakesItem context.now.dialect text.now items.old items.new) }
+) -> Option<BehindItem<'a>>
+    ensures takes { IfSome result (AddsItem context.now.dialect text.now items.old items.new) }
     ensures same { IfNone result (items.new ≡ items.old) }
 {
     if !needs_reader(text) {
         return None;
     }
     let (item, rest) = read_other_item(context, text)?;
-    let Some(end) = after_item(rest) else {
-        let more = after_whole(is_whole, rest)?;
-        return Some(BehindItems::InParams(more));
-    };
+    let end = after_item(rest)?;
     let Ok(()) = items.push_or_drop(item) else {
         return None;
     };
     Some(end)
 }
 
-/// An Inner List after its opening bracket, and the rest. If it is not whole, its whole Items and
-/// parameters are kept.
+/// An Inner List after its opening bracket, and the rest.
 #[inline(never)]
-fn read_inner<'a>(
-    context: &Context,
-    inside: &'a [u8],
-    owner: Owner,
-    begun: &mut Option<Begun<'a>>,
-) -> Option<(Inner, &'a [u8])>
-    requires { begun.old ≡ None }
-    ensures reads { IfSome result (λ r. ReadsAs (SpellsInner context.now.dialect)
+fn read_inner<'a>(context: &Context, inside: &'a [u8]) -> Option<(Inner, &'a [u8])>
+    ensures { IfSome result (λ r. ReadsAs (SpellsInner context.now.dialect)
         (open_bracket ∷ inside.now) r.0 r.1.now) }
-    ensures none { IfSome result (λ _. begun.new ≡ None) }
-    ensures begun { IfNone result (IfSome begun.new (IsBegunAt context.now.dialect inside.now)) }
 {
     let mut items = Sequence::new(context.alloc);
-    let is_whole = matches!(owner, Owner::Member);
-    let after = match read_items(context, inside, is_whole, &mut items) {
-        BehindItems::Closed(after) => after,
-        BehindItems::Open(left) => {
-            keep_items(begun, inside, items, left);
-            return None;
-        }
-        BehindItems::InParams(left) => {
-            keep_end(begun, inside, left);
-            return None;
-        }
-    };
-    if !may_follow(owner, after) {
-        keep_closed(begun, inside, items, after);
-        return None;
-    }
+    let after = read_items(context, inside, &mut items)?;
     let mut params = Entries::new(context.alloc, &context.seed);
-    let rest = read_params(context, after, owner, &mut params);
-    let Some(left) = strip_byte(rest, b';') else {
-        return Some((Inner { items, params }, rest));
-    };
-    keep_inner(begun, inside, items, params, left);
-    None
+    let rest = read_params(context, after, &mut params);
+    Some((Inner { items, params }, rest))
 }
 
-/// A member of a List, and the rest. If it is not whole, its whole parts are kept.
+/// A member of a List that begins with no leaf, and the rest.
 #[inline(always)]
-pub fn read_member<'a>(
-    context: &Context,
-    text: &'a [u8],
-    owner: Owner,
-    begun: &mut Option<Begun<'a>>,
-) -> Option<(Member, &'a [u8])>
-    requires { begun.old ≡ None }
-    ensures reads { IfSome result (λ r. ReadsAs (SpellsMember context.now.dialect) text.now r.0
-        r.1.now) }
-    ensures none { IfSome result (λ _. begun.new ≡ None) }
-    ensures begun { IfNone result (IfSome begun.new (IsBegunIn context.now.dialect text.now)) }
+pub fn read_member<'a>(context: &Context, text: &'a [u8]) -> Option<(Member, &'a [u8])>
+    ensures { IfSome result (λ r. ReadsAs (SpellsMember context.now.dialect) text.now r.0 r.1.now) }
 {
     if let Some(inside) = strip_byte(text, b'(') {
-        let (inner, rest) = read_inner(context, inside, owner, begun)?;
+        let (inner, rest) = read_inner(context, inside)?;
         return Some((Member::Inner(inner), rest));
     }
-    let (bare, after) = read_bare(context, text)?;
-    let mut params = Entries::new(context.alloc, &context.seed);
-    let rest = read_params(context, after, owner, &mut params);
-    if strip_byte(rest, b';').is_some() {
-        keep_params(begun, after, params, rest);
-        return None;
-    }
-    Some((Member::Item(Item { bare, params }), rest))
+    let (item, rest) = read_other_item(context, text)?;
+    Some((Member::Item(item), rest))
 }
 
-/// A member of a Dictionary with a value: its key, the value, and the rest. If it is not whole, its
-/// whole parts are kept.
+/// A member of a Dictionary with a value that begins with no leaf: its key, the value, and the rest.
 #[inline(always)]
-pub fn read_entry<'a>(
-    context: &Context,
-    text: &'a [u8],
-    owner: Owner,
-    begun: &mut Option<Begun<'a>>,
-) -> Option<(Key, Member, &'a [u8])>
-    requires { begun.old ≡ None }
-    ensures reads { IfSome result (λ r. ReadsAs (SpellsEntry context.now.dialect) text.now (r.0, r.1)
+pub fn read_entry<'a>(context: &Context, text: &'a [u8]) -> Option<(Key, Member, &'a [u8])>
+    ensures { IfSome result (λ r. ReadsAs (SpellsEntry context.now.dialect) text.now (r.0, r.1)
         r.2.now) }
-    ensures none { IfSome result (λ _. begun.new ≡ None) }
-    ensures begun { IfNone result (IfSome begun.new (IsBegunIn context.now.dialect text.now)) }
 {
     let (key, after) = read_key(context, text)?;
     let value = strip_byte(after, b'=')?;
-    let (member, rest) = read_member(context, value, owner, begun)?;
+    let (member, rest) = read_member(context, value)?;
     Some((key, member, rest))
 }

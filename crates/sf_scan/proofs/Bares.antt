@@ -20,7 +20,8 @@ use Rattle.sf_value.proofs.Runs.{every_append}
 use Rattle.sf_value.specs.Grammar.BareItems.{SpellsBare}
 use Rattle.sf_scan.specs.Leaves.{leaf_bare}
 use Rattle.sf_scan.specs.Places.{in_bare, ends_bare, is_bare_start, is_coded_start}
-use Rattle.sf_scan.specs.Stops.{Past, IsFollowed, Lacks, FirstIs}
+use Rattle.sf_scan.specs.Stops.{Past, IsFollowed}
+use Rattle.sf_value.specs.Runs.{Lacks, FirstIs}
 use Rattle.sf_scan.specs.Scans.{ReadsLeaf, RefusesLeaf, ScansLeaf}
 use Rattle.sf_scan.specs.declared.leaf.Leaf.{Leaf}
 use Rattle.sf_scan.specs.declared.leaf.Leaf.TheVariants as leaf

@@ -5,7 +5,8 @@ use Rattle.sf_value.specs.declared.dialect.Dialect.{Dialect}
 use Rattle.sf_value.specs.declared.value.Bare.{Bare}
 use Rattle.sf_value.specs.Grammar.Lines.{Continues}
 use Rattle.sf_scan.specs.Scans.{ScansLeaf}
-use Rattle.sf_scan.specs.Stops.{Past, IsFollowed, Lacks, Stops}
+use Rattle.sf_scan.specs.Stops.{Past, IsFollowed, Stops}
+use Rattle.sf_value.specs.Runs.{Lacks}
 use Rattle.sf_scan.specs.declared.leaf.Leaf.{Leaf}
 use Rattle.sf_scan.specs.declared.place.Stop.{Stop}
 use Rattle.sf_scan.specs.declared.place.BarePlace.{BarePlace}

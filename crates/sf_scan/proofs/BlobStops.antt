@@ -13,7 +13,8 @@ use Rattle.sf_value.specs.Grammar.ByteSequences.{Sextets, SpellsByteSequence}
 use Rattle.sf_scan.specs.Blobs.{in_blob, padded, place_at, values, more_values, octets, blob_bytes}
 use Rattle.sf_value.specs.Grammar.BareItems.{SpellsBare}
 use Rattle.sf_scan.specs.Leaves.{leaf_bare}
-use Rattle.sf_scan.specs.Stops.{Past, Lacks, FirstIs, IsFollowed}
+use Rattle.sf_scan.specs.Stops.{Past, IsFollowed}
+use Rattle.sf_value.specs.Runs.{Lacks, FirstIs}
 use Rattle.sf_scan.specs.Scans.{ReadsLeaf, RefusesLeaf}
 use Rattle.sf_scan.specs.declared.blob_place.BlobPlace.{BlobPlace}
 use Rattle.sf_scan.specs.declared.blob_place.BlobPlace.TheVariants as blob

@@ -18,7 +18,8 @@ use Rattle.sf_scan.specs.NumberPlaces.{is_signed_start}
 use Rattle.sf_scan.specs.NumberTexts.{DateAfterAt, DateAfterSign, TakesDigits}
 use Rattle.sf_scan.specs.NumberTexts.{BeginsDigit}
 use Rattle.sf_scan.specs.Scans.{ReadsLeaf, RefusesLeaf, ScansLeaf}
-use Rattle.sf_scan.specs.Stops.{Past, IsFollowed, Lacks, FirstIs}
+use Rattle.sf_scan.specs.Stops.{Past, IsFollowed}
+use Rattle.sf_value.specs.Runs.{Lacks, FirstIs}
 use Rattle.sf_scan.specs.declared.leaf.Leaf.{Leaf}
 use Rattle.sf_scan.specs.declared.number.Digits.{Digits}
 use Rattle.sf_scan.specs.declared.number_place.NumberPlace.TheVariants as number

@@ -1,7 +1,8 @@
 -- Runs of digits: their values, and what may follow them.
 use Rattle.std.proofs.Common.{◌≡◌, ◌≢◌, ℕ, zero, suc, ◌+◌, ◌-◌, ◌*◌, ◌^◌, ◌<◌, ◌≤◌, true, false, List, [], ◌∷◌}
 use Rattle.std.proofs.Common.{◌++◌, length, refl, sym, ap, ◌∙◌, subst, nat_lt, nat_le, ◌&&◌, arith}
-use Rattle.std.proofs.Common.{length-append, append_assoc, append-nil}
+use Rattle.std.proofs.Common.{length-append, append_assoc, append-nil, get_or, drop}
+use Rattle.std.proofs.Math.Seq.{drop-cons}
 use Rattle.std.proofs.Math.Nat.{pow-le-pow_right}
 use Rattle.std.proofs.lemmas.Grind.{pow_more}
 use Rattle.sf_value.specs.Ascii.{digit_zero}
@@ -23,7 +24,8 @@ use Rattle.sf_scan.specs.declared.place.BarePlace.TheVariants as place
 use Rattle.sf_scan.specs.declared.place.Stop.{Stop}
 use Rattle.sf_scan.specs.declared.place.BarePlace.{BarePlace}
 use Rattle.sf_scan.proofs.Bares.{reads_leaf, refuses_leaf}
-use Rattle.sf_scan.specs.Stops.{IsFollowed, Lacks}
+use Rattle.sf_scan.specs.Stops.{IsFollowed}
+use Rattle.sf_value.specs.Runs.{Lacks}
 use Rattle.sf_scan.proofs.Lists.{every_at}
 use Rattle.sf_scan.proofs.NumberStarts.{are_digits, no_digits}
 
@@ -80,6 +82,13 @@ past_digit text rest more count value x p b = record {
       omega (arith, k, i, value_push 0 p.digits b.0);
   small = next_small count value x p.small (begins_small rest more x b);
 }
+
+-- the digit at a place begins what is left there
+pub begins_at : (text : List ℕ) (n x : ℕ) → n < length text → is_digit (get_or text n 0) ≡ true
+    → x ≡ get_or text n 0 - digit_zero → BeginsDigit (drop n text) x (drop (n + 1) text)
+begins_at text n x h d v =
+    let next : suc n ≡ n + 1 = omega arith in
+    (get_or text n 0, drop-cons text n 0 h ∙ ap (λ k. get_or text n 0 ∷ drop k text) next, d, v)
 
 -- a language of 1 to `high` digits
 pub record DigitTexts {V : Type 0} (high : ℕ) (L : List ℕ → V → Type 0) : Type 0 where

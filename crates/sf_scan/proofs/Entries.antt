@@ -16,7 +16,8 @@ use Rattle.sf_scan.specs.Lifts.{Lifts}
 use Rattle.sf_scan.specs.Members.{RawMember, SpellsRawMember}
 use Rattle.sf_value.specs.Grammar.Parameters.{SpellsRaw}
 use Rattle.sf_scan.specs.Places.{is_follow, is_after}
-use Rattle.sf_scan.specs.Stops.{Past, IsFollowed, Reads, Refuses, Lacks, FirstIs}
+use Rattle.sf_scan.specs.Stops.{Past, IsFollowed, Reads, Refuses}
+use Rattle.sf_value.specs.Runs.{Lacks, FirstIs}
 use Rattle.sf_scan.proofs.Following.{bare_apart}
 use Rattle.sf_scan.proofs.Enclosed.{Begun, begun_first}
 use Rattle.sf_scan.proofs.Items.{raw_starts, one_raw, no_semicolon}

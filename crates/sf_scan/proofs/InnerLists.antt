@@ -16,7 +16,8 @@ use Rattle.sf_scan.specs.Makers.{MakesParams, RefusesParams, made_of}
 use Rattle.sf_scan.specs.Outcomes.{Accepts, Rejects, Scans}
 use Rattle.sf_value.specs.Grammar.Parameters.{SpellsRaw}
 use Rattle.sf_scan.specs.Places.{in_bare, is_follow}
-use Rattle.sf_scan.specs.Stops.{Past, IsFollowed, Reads, Refuses, Lacks, FirstIs}
+use Rattle.sf_scan.specs.Stops.{Past, IsFollowed, Reads, Refuses}
+use Rattle.sf_value.specs.Runs.{Lacks, FirstIs}
 use Rattle.std.proofs.Common.{Err}
 use Rattle.sf_scan.specs.declared.place.Halt.{Halt}
 use Rattle.sf_scan.specs.declared.place.Halt.TheVariants as halt

@@ -13,7 +13,8 @@ use Rattle.sf_scan.specs.Makers.{MakesParams, RefusesParams, made_of}
 use Rattle.sf_scan.specs.Outcomes.{Accepts, Rejects}
 use Rattle.sf_value.specs.Grammar.Parameters.{SpellsRaw}
 use Rattle.sf_scan.specs.Places.{in_bare, ends_bare, in_params, is_follow}
-use Rattle.sf_scan.specs.Stops.{IsFollowed, Reads, Refuses, Lacks, FirstIs}
+use Rattle.sf_scan.specs.Stops.{IsFollowed, Reads, Refuses}
+use Rattle.sf_value.specs.Runs.{Lacks, FirstIs}
 use Rattle.sf_scan.specs.declared.place.Stop.{Stop}
 use Rattle.sf_scan.specs.declared.place.BarePlace.{BarePlace}
 use Rattle.sf_scan.specs.declared.place.ParamPlace.{ParamPlace}

@@ -2,7 +2,8 @@
 use Rattle.std.proofs.Common.{◌≡◌, ℕ, Bool, true, List, [], ◌∷◌, ◌++◌, sym, ap, ◌∙◌, subst}
 use Rattle.std.proofs.Common.{inl, inr, append_assoc}
 use Rattle.sf_value.specs.Grammar.Lines.{Continues}
-use Rattle.sf_scan.specs.Stops.{Past, IsFollowed, Stops, Reads, Refuses, FirstIs}
+use Rattle.sf_scan.specs.Stops.{Past, IsFollowed, Stops, Reads, Refuses}
+use Rattle.sf_value.specs.Runs.{FirstIs}
 use Rattle.sf_scan.proofs.Lists.{Longer, two_parts}
 
 -- what continues a prefix and a byte continues the prefix

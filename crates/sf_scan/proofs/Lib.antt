@@ -32,3 +32,5 @@ pub mod Pairs
 pub mod Raws
 pub mod Grammar
 pub mod Wholes
+pub mod Due
+pub mod Refused

@@ -5,7 +5,7 @@ use Rattle.std.proofs.Math.Seq.{take-append_seam}
 use Rattle.sf_value.specs.Grammar.Words.{Every}
 use Rattle.sf_value.specs.Grammar.Classes.{is_one_of}
 use Rattle.sf_scan.specs.Places.{follow, is_follow}
-use Rattle.sf_scan.specs.Stops.{Lacks}
+use Rattle.sf_value.specs.Runs.{Lacks}
 
 -- the parts of equal lists
 pub heads : (x y : ℕ) (s t : List ℕ) → x ∷ s ≡ y ∷ t → x ≡ y

@@ -12,7 +12,8 @@ use Rattle.sf_scan.specs.Members.{RawMember, SpellsRawMember, in_member, ends_me
 use Rattle.sf_scan.specs.Outcomes.{Rejects}
 use Rattle.sf_value.specs.Grammar.Parameters.{SpellsRaw}
 use Rattle.sf_scan.specs.Places.{in_bare, is_follow, is_after}
-use Rattle.sf_scan.specs.Stops.{Past, IsFollowed, Reads, Refuses, Lacks, FirstIs}
+use Rattle.sf_scan.specs.Stops.{Past, IsFollowed, Reads, Refuses}
+use Rattle.sf_value.specs.Runs.{Lacks, FirstIs}
 use Rattle.sf_scan.specs.declared.place.Stop.{Stop}
 use Rattle.sf_scan.specs.declared.place.BarePlace.TheVariants as bare_place
 use Rattle.sf_scan.specs.declared.item.ItemPlace.{ItemPlace}

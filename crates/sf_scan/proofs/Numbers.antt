@@ -20,7 +20,8 @@ use Rattle.sf_scan.specs.NumberTexts.{IntegerAfterSign, NumberAfterSign}
 use Rattle.sf_scan.specs.NumberTexts.{NumberAfterPoint, TakesDigits}
 use Rattle.sf_scan.specs.NumberTexts.{PastPoint}
 use Rattle.sf_scan.specs.Scans.{ReadsLeaf, RefusesLeaf, ScansLeaf}
-use Rattle.sf_scan.specs.Stops.{Past, IsFollowed, Lacks}
+use Rattle.sf_scan.specs.Stops.{Past, IsFollowed}
+use Rattle.sf_value.specs.Runs.{Lacks}
 use Rattle.sf_scan.specs.declared.leaf.Leaf.{Leaf}
 use Rattle.sf_scan.specs.declared.number.Digits.{Digits}
 use Rattle.sf_scan.specs.declared.number_place.NumberPlace.TheVariants as number

@@ -13,7 +13,8 @@ use Rattle.sf_scan.specs.Parameters.{SpellsPair}
 use Rattle.sf_value.specs.Grammar.Parameters.{SpellsValue, SpellsParam}
 use Rattle.sf_value.specs.Grammar.BareItems.{SpellsBare}
 use Rattle.sf_value.specs.declared.dialect.Dialect.{Dialect}
-use Rattle.sf_scan.specs.Stops.{Past, IsFollowed, Reads, Refuses, Lacks, FirstIs}
+use Rattle.sf_scan.specs.Stops.{Past, IsFollowed, Reads, Refuses}
+use Rattle.sf_value.specs.Runs.{Lacks, FirstIs}
 use Rattle.sf_scan.proofs.Languages.{same_reads, same_refuses, past_reads, past_refuses}
 use Rattle.sf_scan.proofs.Languages.{SameTexts}
 use Rattle.sf_scan.proofs.Languages.{Apart}

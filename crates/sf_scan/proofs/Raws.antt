@@ -12,7 +12,8 @@ use Rattle.sf_value.specs.declared.dialect.Dialect.{Dialect}
 use Rattle.sf_scan.proofs.Following.{bare_apart}
 use Rattle.sf_scan.specs.Makers.{made_of}
 use Rattle.sf_scan.specs.Places.{is_follow}
-use Rattle.sf_scan.specs.Stops.{IsFollowed, Reads, Refuses, Lacks, FirstIs}
+use Rattle.sf_scan.specs.Stops.{IsFollowed, Reads, Refuses}
+use Rattle.sf_value.specs.Runs.{Lacks, FirstIs}
 use Rattle.sf_scan.proofs.Languages.{Apart, cut}
 use Rattle.sf_scan.proofs.Lists.{heads, tails, cons_nil}
 use Rattle.sf_scan.proofs.Pairs.{pair_apart}

@@ -4,7 +4,8 @@ use Rattle.std.proofs.Common.{◌≡◌, ◌≢◌, length, length-append, ℕ, 
 use Rattle.std.proofs.Common.{◌⊎◌, inl, inr, ◌||◌, subst, append_assoc, append-nil, arith}
 use Rattle.sf_value.specs.Grammar.Lines.{Continues}
 use Rattle.sf_scan.specs.Languages.{Then}
-use Rattle.sf_scan.specs.Stops.{Past, IsFollowed, Stops, Reads, Refuses, Lacks, FirstIs}
+use Rattle.sf_scan.specs.Stops.{Past, IsFollowed, Stops, Reads, Refuses}
+use Rattle.sf_value.specs.Runs.{Lacks, FirstIs}
 use Rattle.sf_scan.proofs.Languages.{Apart, cut, continues_before, past_reads, past_refuses}
 use Rattle.sf_scan.proofs.Languages.{SameTexts}
 use Rattle.sf_scan.proofs.Languages.{same_reads, same_refuses}

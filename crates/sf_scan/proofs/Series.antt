@@ -11,7 +11,8 @@ use Rattle.sf_scan.specs.Languages.{Then}
 use Rattle.sf_scan.specs.Lifts.{Lifts}
 use Rattle.sf_scan.specs.Places.{is_after}
 use Rattle.sf_scan.specs.Series.{made_each}
-use Rattle.sf_scan.specs.Stops.{Past, IsFollowed, Reads, Refuses, Lacks, FirstIs}
+use Rattle.sf_scan.specs.Stops.{Past, IsFollowed, Reads, Refuses}
+use Rattle.sf_value.specs.Runs.{Lacks, FirstIs}
 use Rattle.sf_scan.proofs.Enclosed.{Begun, begun_first}
 use Rattle.sf_scan.proofs.Languages.{Apart}
 use Rattle.sf_scan.proofs.Languages.{SameTexts}

@@ -20,7 +20,8 @@ use Rattle.sf_scan.specs.DisplayStrings.{digit_or_zero, escaped_byte, shown_byte
 use Rattle.sf_scan.specs.DisplayStrings.{BeginsDigit, BeginsByte}
 use Rattle.sf_value.specs.Grammar.BareItems.{SpellsBare}
 use Rattle.sf_scan.specs.Leaves.{leaf_bare}
-use Rattle.sf_scan.specs.Stops.{Past, Lacks, FirstIs, IsFollowed}
+use Rattle.sf_scan.specs.Stops.{Past, IsFollowed}
+use Rattle.sf_value.specs.Runs.{Lacks, FirstIs}
 use Rattle.sf_scan.specs.Scans.{ReadsLeaf, RefusesLeaf}
 use Rattle.sf_scan.specs.DisplayStrings.{PastEscape, StopsEscape, Closes, StaysOpen}
 use Rattle.sf_scan.specs.declared.char_place.CharPlace.{CharPlace}

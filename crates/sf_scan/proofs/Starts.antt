@@ -12,7 +12,8 @@ use Rattle.sf_scan.specs.Items.{RawItem, SpellsRawItem}
 use Rattle.sf_value.specs.Grammar.BareItems.{SpellsBare}
 use Rattle.sf_value.specs.Grammar.Parameters.{SpellsRaw, SpellsParam}
 use Rattle.sf_scan.specs.Places.{in_bare, is_bare_start, is_after, is_follow}
-use Rattle.sf_scan.specs.Stops.{IsFollowed, FirstIs}
+use Rattle.sf_scan.specs.Stops.{IsFollowed}
+use Rattle.sf_value.specs.Runs.{FirstIs}
 use Rattle.sf_scan.specs.declared.place.BarePlace.TheVariants as place
 use Rattle.sf_scan.proofs.Bares.{first_byte, start_of, started, unstarted, some_bare}
 use Rattle.sf_scan.proofs.Enclosed.{Begun, begun_first}

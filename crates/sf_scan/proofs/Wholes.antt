@@ -5,7 +5,8 @@ use Rattle.std.proofs.Common.{◌≤◌, ◌+◌, ◌-◌, suc, inl, inr, length
 use Rattle.std.proofs.Math.Seq.{take-append-add}
 use Rattle.std.proofs.lemmas.Bool.{cases_lt}
 use Rattle.sf_value.specs.Grammar.Lines.{Continues, IsLongest}
-use Rattle.sf_scan.specs.Stops.{Stops, Reads, Refuses, Lacks}
+use Rattle.sf_scan.specs.Stops.{Stops, Reads, Refuses}
+use Rattle.sf_value.specs.Runs.{Lacks}
 use Rattle.sf_scan.proofs.Languages.{SameTexts}
 use Rattle.sf_scan.proofs.Languages.{same_stops}
 use Rattle.sf_scan.proofs.Languages.{continues_before}

@@ -4,7 +4,7 @@ use Rattle.std.specs.Prelude.{List, [], ◌∷◌, Option, Some, None}
 use Rattle.sf_value.specs.Ascii.{colon, equals}
 use Rattle.sf_value.specs.Digits.{sextet}
 use Rattle.sf_value.specs.Grammar.ByteSequences.{is_base64}
-use Rattle.sf_scan.specs.Stops.{FirstIs}
+use Rattle.sf_value.specs.Runs.{FirstIs}
 use Rattle.sf_scan.specs.declared.blob_place.BlobPlace.{BlobPlace}
 use Rattle.sf_scan.specs.declared.blob_place.BlobPlace.TheVariants as blob
 

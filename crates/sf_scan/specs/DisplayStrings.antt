@@ -7,7 +7,7 @@ use Rattle.sf_value.specs.Grammar.Classes.{is_visible}
 use Rattle.sf_value.specs.Grammar.DisplayStrings.{is_unencoded}
 use Rattle.sf_value.specs.Grammar.Words.{Every}
 use Rattle.sf_scan.specs.Characters.{char_step, can_begin, low_digits, is_low}
-use Rattle.sf_scan.specs.Stops.{Lacks, FirstIs}
+use Rattle.sf_value.specs.Runs.{Lacks, FirstIs}
 use Rattle.sf_scan.specs.declared.char_place.CharPlace.{CharPlace}
 use Rattle.sf_scan.specs.declared.char_place.CharPlace.TheVariants as chars
 use Rattle.sf_scan.specs.declared.char_place.LowDigits.{LowDigits}

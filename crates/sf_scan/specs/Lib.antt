@@ -21,3 +21,4 @@ pub mod Series
 pub mod Entries
 pub mod ItemFields
 pub mod Settled
+pub mod Refusals

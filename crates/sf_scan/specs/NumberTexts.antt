@@ -6,7 +6,7 @@ use Rattle.sf_value.specs.declared.value.Bare.TheVariants as bare
 use Rattle.sf_value.specs.Grammar.Classes.{is_digit}
 use Rattle.sf_value.specs.Grammar.Numbers.{signed, value_from, AreDigits, thousandths, SpellsInteger}
 use Rattle.sf_value.specs.Grammar.Words.{Every}
-use Rattle.sf_scan.specs.Stops.{Lacks}
+use Rattle.sf_value.specs.Runs.{Lacks}
 use Rattle.sf_scan.specs.declared.number.Digits.{Digits}
 
 -- an Integer after its sign

@@ -8,7 +8,8 @@ use Rattle.sf_value.specs.Grammar.Strings.{is_unescaped, is_escaped, escaped}
 use Rattle.sf_value.specs.Grammar.Words.{Every}
 use Rattle.sf_scan.specs.Leaves.{leaf_bare}
 use Rattle.sf_scan.specs.Places.{in_bare, ends_bare}
-use Rattle.sf_scan.specs.Stops.{Lacks, Reads, Refuses}
+use Rattle.sf_scan.specs.Stops.{Reads, Refuses}
+use Rattle.sf_value.specs.Runs.{Lacks}
 use Rattle.sf_scan.specs.declared.leaf.Leaf.{Leaf}
 use Rattle.sf_scan.specs.declared.place.Stop.{Stop}
 use Rattle.sf_scan.specs.declared.place.BarePlace.{BarePlace}

@@ -1,16 +1,8 @@
 -- Where reading a text stops, told by the texts of the grammar alone. L is a language: it relates
 -- texts and the values that they spell.
-use Rattle.std.specs.Prelude.{◌≡◌, ℕ, Bool, true, false, List, [], ◌∷◌, ◌++◌, ⊤}
+use Rattle.std.specs.Prelude.{◌≡◌, ℕ, Bool, true, List, [], ◌∷◌, ◌++◌}
 use Rattle.sf_value.specs.Grammar.Lines.{Continues}
-
--- P holds for the first byte, if there is one
-abbrev pub FirstIs : (ℕ → Type 0) → List ℕ → Type 0
-FirstIs P [] = ⊤
-FirstIs P (b ∷ more) = P b
-
--- the first byte, if there is one, fails the test
-abbrev pub Lacks : (ℕ → Bool) → List ℕ → Type 0
-Lacks p = FirstIs (λ b. p b ≡ false)
+use Rattle.sf_value.specs.Runs.{Lacks}
 
 -- the texts of L after these first bytes
 abbrev pub Past : {V : Type 0} → List ℕ → (List ℕ → V → Type 0) → List ℕ → V → Type 0

@@ -5,7 +5,8 @@ ghost use Rattle.sf_value.specs.declared.dialect.Dialect.{Dialect as Which};
 ghost use Rattle.sf_value.specs.Grammar.Strings.{is_escaped};
 ghost use Rattle.sf_value.specs.Grammar.BareItems.{SpellsBare};
 ghost use Rattle.sf_scan.specs.Scans.{ScansLeaf, Escapes, StopsEscaped, BeginsToken, BeginsEscaped};
-ghost use Rattle.sf_scan.specs.Stops.{Past, Lacks};
+ghost use Rattle.sf_scan.specs.Stops.{Past};
+ghost use Rattle.sf_value.specs.Runs.{Lacks};
 
 use crate::byte_sequence::byte_sequence;
 use crate::display_string::display_string;
@@ -13,8 +14,7 @@ use crate::leaf::Leaf;
 use crate::number::{date, number};
 use crate::number_place::can_start_date;
 use crate::place::{BarePlace, Stop};
-use crate::runs::{short_run, split, strip};
-use sf_value::classes::{InToken, Unescaped};
+use sf_value::classes::{InToken, Unescaped, long_prefix, split, strip_byte};
 use sf_value::{Dialect, can_start_token};
 
 /// The bare item that the text begins with, and where it stops: the longest one that is there. If
@@ -24,6 +24,7 @@ use sf_value::{Dialect, can_start_token};
 /// bare(Dialect::Rfc9651, b"sugar;q")?; // (Leaf::Token(b"sugar"), stop), stop.left is b";q"
 /// bare(Dialect::Rfc9651, b"1.x"); // Err(stop), stop.left is b"x", and a digit may come there
 /// ```
+#[inline(always)]
 pub fn bare(
     dialect: Dialect,
     text: &[u8],
@@ -67,6 +68,7 @@ pub fn bare(
 }
 
 /// What begins with a percent sign; `more` is the text without it.
+#[inline(never)]
 fn percent<'a>(
     dialect: Dialect,
     text: &'a [u8],
@@ -85,17 +87,18 @@ fn percent<'a>(
 }
 
 /// A Boolean, after its question mark.
+#[inline(always)]
 fn boolean(text: &[u8]) -> Result<(Leaf<'_>, Stop<'_, BarePlace>), Stop<'_, BarePlace>>
     ensures { (d : Which) → ScansLeaf d (Past (question_mark ∷ []) (SpellsBare d)) text.now result }
 {
-    if let Some(rest) = strip(text, b'0') {
+    if let Some(rest) = strip_byte(text, b'0') {
         let end = Stop {
             left: rest,
             place: BarePlace::Complete,
         };
         return Ok((Leaf::Boolean(false), end));
     }
-    if let Some(rest) = strip(text, b'1') {
+    if let Some(rest) = strip_byte(text, b'1') {
         let end = Stop {
             left: rest,
             place: BarePlace::Complete,
@@ -109,11 +112,12 @@ fn boolean(text: &[u8]) -> Result<(Leaf<'_>, Stop<'_, BarePlace>), Stop<'_, Bare
 }
 
 /// The Token that the text begins with; `more` is the text without its first byte.
+#[inline(always)]
 fn token<'a>(text: &'a [u8], more: &'a [u8]) -> (Leaf<'a>, Stop<'a, BarePlace>)
     requires { BeginsToken text.now more.now }
     ensures { (d : Which) → ScansLeaf d (SpellsBare d) text.now (Ok result) }
 {
-    let (run, left) = short_run::<InToken>(more);
+    let (run, left) = long_prefix::<InToken>(more);
     let (token, _) = text.split_at(run.len() + 1);
     (
         Leaf::Token(token),
@@ -125,11 +129,12 @@ fn token<'a>(text: &'a [u8], more: &'a [u8]) -> (Leaf<'a>, Stop<'a, BarePlace>)
 }
 
 /// A String, after its opening quote.
+#[inline(always)]
 fn string(text: &[u8]) -> Result<(Leaf<'_>, Stop<'_, BarePlace>), Stop<'_, BarePlace>>
     ensures { (d : Which) → ScansLeaf d (Past (quote ∷ []) (SpellsBare d)) text.now result }
 {
-    let (run, left) = short_run::<Unescaped>(text);
-    if let Some(rest) = strip(left, b'"') {
+    let (run, left) = long_prefix::<Unescaped>(text);
+    if let Some(rest) = strip_byte(left, b'"') {
         return Ok((
             Leaf::Text(run),
             Stop {
@@ -139,7 +144,7 @@ fn string(text: &[u8]) -> Result<(Leaf<'_>, Stop<'_, BarePlace>), Stop<'_, BareP
         ));
     }
     let left = after_escapes(text)?;
-    let Some(rest) = strip(left, b'"') else {
+    let Some(rest) = strip_byte(left, b'"') else {
         return Err(Stop {
             left,
             place: BarePlace::InString,
@@ -156,19 +161,20 @@ fn string(text: &[u8]) -> Result<(Leaf<'_>, Stop<'_, BarePlace>), Stop<'_, BareP
 }
 
 /// The rest after the bytes of a String, some of which may be escaped.
+#[inline(never)]
 fn after_escapes(text: &[u8]) -> Result<&[u8], Stop<'_, BarePlace>>
     ensures { MatchResult result (λ rest. Escapes text.now rest.now)
         (λ stop. StopsEscaped text.now stop) }
 {
-    let (_, mut rest) = short_run::<Unescaped>(text);
-    while let Some(escape) = strip(rest, b'\\') {
+    let (_, mut rest) = long_prefix::<Unescaped>(text);
+    while let Some(escape) = strip_byte(rest, b'\\') {
         let Some(more) = after_escaped(escape) else {
             return Err(Stop {
                 left: escape,
                 place: BarePlace::Backslash,
             });
         };
-        let (_, left) = short_run::<Unescaped>(more);
+        let (_, left) = long_prefix::<Unescaped>(more);
         rest = left;
     }
     Ok(rest)

@@ -9,22 +9,23 @@ ghost use Rattle.sf_scan.specs.DisplayStrings.{is_first_digit, is_second_digit};
 ghost use Rattle.sf_scan.specs.DisplayStrings.{PastEscape, StopsEscape, Closes, StaysOpen};
 ghost use Rattle.sf_value.specs.Grammar.BareItems.{SpellsBare};
 ghost use Rattle.sf_scan.specs.Scans.{ScansLeaf};
-ghost use Rattle.sf_scan.specs.Stops.{Past, Lacks};
+ghost use Rattle.sf_scan.specs.Stops.{Past};
+ghost use Rattle.sf_value.specs.Runs.{Lacks};
 
 use crate::char_place::CharPlace;
 use crate::leaf::Leaf;
 use crate::place::{BarePlace, Stop};
-use crate::runs::{short_run, split, strip};
 use crate::shown_place::ShownPlace;
-use sf_value::classes::UnencodedByte;
+use sf_value::classes::{UnencodedByte, long_prefix, split, strip_byte};
 use sf_value::unhex;
 
 /// A Display String, after its percent sign.
+#[inline(never)]
 pub fn display_string(text: &[u8]) -> Result<(Leaf<'_>, Stop<'_, BarePlace>), Stop<'_, BarePlace>>
     ensures { (d : Which) → is_rfc9651 d ≡ true
         → ScansLeaf d (Past (percent ∷ []) (SpellsBare d)) text.now result }
 {
-    let Some(inside) = strip(text, b'"') else {
+    let Some(inside) = strip_byte(text, b'"') else {
         return Err(Stop {
             left: text,
             place: BarePlace::Shown(ShownPlace::Quote),
@@ -32,7 +33,7 @@ pub fn display_string(text: &[u8]) -> Result<(Leaf<'_>, Stop<'_, BarePlace>), St
     };
     let mut chars = CharPlace::Start;
     let mut left = after_unencoded(CharPlace::Start, inside);
-    while let Some(escape) = strip(left, b'%') {
+    while let Some(escape) = strip_byte(left, b'%') {
         let (next, more) = after_escape(chars, escape)?;
         chars = next;
         left = after_unencoded(next, more);
@@ -59,7 +60,7 @@ fn after_unencoded(chars: CharPlace, text: &[u8]) -> &[u8]
 {
     match chars {
         CharPlace::Start => {
-            let (_, rest) = short_run::<UnencodedByte>(text);
+            let (_, rest) = long_prefix::<UnencodedByte>(text);
             rest
         }
         _ => text,
@@ -72,7 +73,7 @@ fn after_quote(chars: CharPlace, text: &[u8]) -> Option<&[u8]>
         (λ rest. Closes chars text.now rest.now) }
 {
     match chars {
-        CharPlace::Start => strip(text, b'"'),
+        CharPlace::Start => strip_byte(text, b'"'),
         _ => None,
     }
 }

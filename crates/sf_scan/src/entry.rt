@@ -10,8 +10,8 @@ use crate::leaf::Leaf;
 use crate::member::{MemberPlace, member};
 use crate::param::{find_key, params};
 use crate::place::{Halt, ParamPlace, Stop};
-use crate::runs::strip;
 use sf_value::Dialect;
+use sf_value::classes::strip_byte;
 
 /// A place in a member of a Dictionary.
 #[derive(Clone, Copy)]
@@ -53,6 +53,7 @@ impl EntryPlace {
 }
 
 /// Gives the maker the member of a Dictionary that the text begins with, and returns where it stops.
+#[inline(always)]
 pub fn entry<'a, M: Builder<'a>>(
     dialect: Dialect,
     text: &'a [u8],
@@ -71,7 +72,7 @@ pub fn entry<'a, M: Builder<'a>>(
     if let Err(fault) = maker.key(key) {
         return Err(Halt::Fault(fault));
     }
-    if let Some(value) = strip(rest, b'=') {
+    if let Some(value) = strip_byte(rest, b'=') {
         return match member(dialect, value, maker) {
             Ok(stop) => Ok(Stop {
                 left: stop.left,
@@ -87,7 +88,7 @@ pub fn entry<'a, M: Builder<'a>>(
     if let Err(fault) = maker.bare_item(Leaf::Boolean(true)) {
         return Err(Halt::Fault(fault));
     }
-    let Some(_) = strip(rest, b';') else {
+    let Some(_) = strip_byte(rest, b';') else {
         return Ok(Stop {
             left: rest,
             place: EntryPlace::InKey,

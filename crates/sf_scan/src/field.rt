@@ -9,9 +9,8 @@ use crate::builder::Builder;
 use crate::byte_sets::{SPACE, set_if};
 use crate::item::{ItemPlace, item};
 use crate::place::{BarePlace, Halt, Stop};
-use crate::runs::short_run;
 use sf_value::Dialect;
-use sf_value::classes::Space;
+use sf_value::classes::{Space, short_prefix};
 
 /// A place in a field of one Item.
 #[derive(Clone, Copy)]
@@ -60,7 +59,7 @@ pub fn item_field<'a, M: Builder<'a>>(
     ensures { Scans (SpellsRawField dialect) (in_field dialect) ends_field
         (made_item M.bare M.with) text.now maker.old maker.new result }
 {
-    let (_, start) = short_run::<Space>(text);
+    let (_, start) = short_prefix::<Space>(text);
     let end = match item(dialect, start, maker) {
         Ok(end) => end,
         Err(Halt::Refused(stop)) => {
@@ -77,7 +76,7 @@ pub fn item_field<'a, M: Builder<'a>>(
         }
         Err(Halt::Fault(fault)) => return Err(Halt::Fault(fault)),
     };
-    let (run, left) = short_run::<Space>(end.left);
+    let (run, left) = short_prefix::<Space>(end.left);
     if run.is_empty() {
         return Ok(Stop {
             left: end.left,

@@ -13,9 +13,8 @@ use crate::byte_sets::{SPACE, set_if};
 use crate::item::{ItemPlace, item};
 use crate::param::params;
 use crate::place::{BarePlace, Halt, ParamPlace, Stop};
-use crate::runs::{short_run, strip};
 use sf_value::Dialect;
-use sf_value::classes::Space;
+use sf_value::classes::{Space, short_prefix, strip_byte};
 
 /// A place in an Inner List.
 #[derive(Clone, Copy)]
@@ -99,8 +98,8 @@ fn items<'a, M: Builder<'a>>(
 {
     let mut rest = text;
     loop {
-        let (_, at) = short_run::<Space>(rest);
-        if let Some(after) = strip(at, b')') {
+        let (_, at) = short_prefix::<Space>(rest);
+        if let Some(after) = strip_byte(at, b')') {
             return Ok(after);
         }
         let end = match item(dialect, at, maker) {
@@ -119,10 +118,10 @@ fn items<'a, M: Builder<'a>>(
             }
             Err(Halt::Fault(fault)) => return Err(Halt::Fault(fault)),
         };
-        if let Some(after) = strip(end.left, b')') {
+        if let Some(after) = strip_byte(end.left, b')') {
             return Ok(after);
         }
-        let Some(more) = strip(end.left, b' ') else {
+        let Some(more) = strip_byte(end.left, b' ') else {
             return Err(Halt::Refused(Stop {
                 left: end.left,
                 place: InnerPlace::InItem(end.place),

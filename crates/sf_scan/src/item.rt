@@ -9,8 +9,8 @@ use crate::builder::Builder;
 use crate::byte_sets::{SEMICOLON, set_if};
 use crate::param::params;
 use crate::place::{BarePlace, Halt, ParamPlace, Stop};
-use crate::runs::strip;
 use sf_value::Dialect;
+use sf_value::classes::strip_byte;
 
 /// A place in an Item.
 #[derive(Clone, Copy)]
@@ -52,6 +52,7 @@ impl ItemPlace {
 /// let stop = item(Dialect::Rfc9651, b"a;q=1;r, b", &mut q)?; // stop.left is b", b"
 /// q.found() // Some(Leaf::Integer(1))
 /// ```
+#[inline(always)]
 pub fn item<'a, M: Builder<'a>>(
     dialect: Dialect,
     text: &'a [u8],
@@ -73,7 +74,7 @@ pub fn item<'a, M: Builder<'a>>(
     if let Err(fault) = maker.bare_item(leaf) {
         return Err(Halt::Fault(fault));
     }
-    let Some(_) = strip(end.left, b';') else {
+    let Some(_) = strip_byte(end.left, b';') else {
         return Ok(Stop {
             left: end.left,
             place: ItemPlace::InBare(end.place),

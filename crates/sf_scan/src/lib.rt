@@ -32,5 +32,5 @@ mod number;
 pub mod number_place;
 pub mod param;
 pub mod place;
-mod runs;
+pub mod refusal;
 pub mod shown_place;

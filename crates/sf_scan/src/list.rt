@@ -9,9 +9,8 @@ use crate::builder::Builder;
 use crate::byte_sets::{AFTER_MEMBER, OWS, SPACE, set_if};
 use crate::member::{MemberPlace, member};
 use crate::place::{Halt, Stop};
-use crate::runs::{short_run, strip};
 use sf_value::Dialect;
-use sf_value::classes::{Ows, Space};
+use sf_value::classes::{Ows, Space, short_prefix, strip_byte};
 
 /// A place in a List.
 #[derive(Clone, Copy)]
@@ -64,7 +63,7 @@ pub fn list<'a, M: Builder<'a>>(
         (made_each (made_member M.bare M.with M.opened M.closed))
         text.now maker.old maker.new result }
 {
-    let (_, start) = short_run::<Space>(text);
+    let (_, start) = short_prefix::<Space>(text);
     let mut end = match member(dialect, start, maker) {
         Ok(end) => end,
         Err(Halt::Refused(stop)) => {
@@ -82,8 +81,8 @@ pub fn list<'a, M: Builder<'a>>(
         Err(Halt::Fault(fault)) => return Err(Halt::Fault(fault)),
     };
     loop {
-        let (run, at) = short_run::<Ows>(end.left);
-        let Some(more) = strip(at, b',') else {
+        let (run, at) = short_prefix::<Ows>(end.left);
+        let Some(more) = strip_byte(at, b',') else {
             if run.is_empty() {
                 return Ok(Stop {
                     left: end.left,
@@ -95,7 +94,7 @@ pub fn list<'a, M: Builder<'a>>(
                 place: ListPlace::Spaces,
             });
         };
-        let (_, due) = short_run::<Ows>(more);
+        let (_, due) = short_prefix::<Ows>(more);
         end = match member(dialect, due, maker) {
             Ok(end) => end,
             Err(Halt::Refused(stop)) => {

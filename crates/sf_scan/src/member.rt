@@ -8,8 +8,8 @@ use crate::builder::Builder;
 use crate::inner::{InnerPlace, inner_list};
 use crate::item::{ItemPlace, item};
 use crate::place::{BarePlace, Halt, Stop};
-use crate::runs::strip;
 use sf_value::Dialect;
+use sf_value::classes::strip_byte;
 
 /// A place in a member of a List, or in the value of a member of a Dictionary.
 #[derive(Clone, Copy)]
@@ -47,6 +47,7 @@ impl MemberPlace {
 }
 
 /// Gives the maker the Item or Inner List that the text begins with, and returns where it stops.
+#[inline(always)]
 pub fn member<'a, M: Builder<'a>>(
     dialect: Dialect,
     text: &'a [u8],
@@ -56,7 +57,7 @@ pub fn member<'a, M: Builder<'a>>(
         (made_member M.bare M.with M.opened M.closed) text.now maker.old maker.new result }
     ensures kept { Keeps text.now maker.old maker.new result }
 {
-    if let Some(rest) = strip(text, b'(') {
+    if let Some(rest) = strip_byte(text, b'(') {
         return match inner_list(dialect, rest, maker) {
             Ok(stop) => Ok(Stop {
                 left: stop.left,

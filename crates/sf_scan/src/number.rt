@@ -1,5 +1,6 @@
 //! Integers, Decimals and Dates (RFC 9651 sections 4.2.4 and 4.2.9).
-ghost use Rattle.std.specs.Prelude.{◌≡◌, ◌-◌, ◌<◌, ◌≤◌, ◌^◌, MatchOption};
+ghost use Rattle.std.specs.Prelude.{◌≡◌, ◌-◌, ◌<◌, ◌≤◌, ◌^◌, true, false, MatchOption};
+ghost use Rattle.sf_value.specs.Ascii.{digit_zero};
 ghost use Rattle.sf_value.specs.declared.dialect.Dialect.{Dialect as Which};
 ghost use Rattle.sf_value.specs.Grammar.Classes.{is_digit};
 ghost use Rattle.sf_value.specs.Grammar.Numbers.{signed};
@@ -7,12 +8,12 @@ ghost use Rattle.sf_scan.specs.NumberPlaces.{is_point_after};
 ghost use Rattle.sf_scan.specs.NumberTexts.{NumberAfterSign, NumberAfterPoint, DateAfterAt};
 ghost use Rattle.sf_scan.specs.NumberTexts.{DateAfterSign, BeginsDigit, TakesDigits, PastPoint};
 ghost use Rattle.sf_scan.specs.Scans.{ScansLeaf};
-ghost use Rattle.sf_scan.specs.Stops.{Lacks};
+ghost use Rattle.sf_value.specs.Runs.{Lacks};
 
 use crate::leaf::Leaf;
 use crate::number_place::NumberPlace;
 use crate::place::{BarePlace, Stop};
-use crate::runs::{split, strip};
+use sf_value::classes::{split, strip_byte};
 
 /// Digits that a text begins with.
 #[derive(Clone, Copy)]
@@ -26,6 +27,7 @@ struct Digits<'a> {
 }
 
 /// An Integer or a Decimal, after its sign.
+#[inline(always)]
 pub fn number(
     negative: bool,
     text: &[u8],
@@ -47,6 +49,7 @@ pub fn number(
 }
 
 /// A Decimal after its point; `whole` is the number before it.
+#[inline(always)]
 fn fraction(
     negative: bool,
     whole: u64,
@@ -68,6 +71,7 @@ fn fraction(
 }
 
 /// How many thousandths one unit of the last digit is, with this many digits behind the point.
+#[inline(always)]
 fn scale(count: u8) -> u64
     requires { count ≤ 3 }
     ensures { result ≡ 10 ^ (3 - count) }
@@ -81,10 +85,11 @@ fn scale(count: u8) -> u64
 }
 
 /// A Date, after its `@`.
+#[inline(never)]
 pub fn date(text: &[u8]) -> Result<(Leaf<'_>, Stop<'_, BarePlace>), Stop<'_, BarePlace>>
     ensures { (d : Which) → ScansLeaf d DateAfterAt text.now result }
 {
-    if let Some(rest) = strip(text, b'-') {
+    if let Some(rest) = strip_byte(text, b'-') {
         return date_digits(true, rest);
     }
     if let Some(_) = first_digit(text) {
@@ -115,26 +120,43 @@ fn date_digits(
 }
 
 /// The digits that the text begins with, at most this many.
-fn leading_digits(text: &[u8], most: u8) -> Digits<'_>
+#[inline(always)]
+fn leading_digits(text: &[u8], most: usize) -> Digits<'_>
     // The number that so few digits write fits.
     requires { most ≤ 15 }
     ensures { TakesDigits most text.now result }
 {
     let mut count = 0;
     let mut value = 0;
-    let mut left = text;
-    while count < most {
-        let Some((digit, more)) = first_digit(left) else {
+    while count < most && count < text.len() {
+        let Some(digit) = digit_of(text[count]) else {
             break;
         };
         value = 10 * value + digit;
         count += 1;
-        left = more;
     }
-    Digits { count, value, left }
+    let (_, left) = text.split_at(count);
+    Digits {
+        count: count as u8,
+        value,
+        left,
+    }
+}
+
+/// The value of a digit.
+#[inline(always)]
+fn digit_of(byte: u8) -> Option<u64>
+    ensures { MatchOption result (is_digit byte ≡ false)
+        (λ value. (is_digit byte ≡ true) × (value ≡ byte - digit_zero)) }
+{
+    if byte.is_ascii_digit() {
+        return Some(u64::from(byte - b'0'));
+    }
+    None
 }
 
 /// The value of the digit that the text begins with, and the rest.
+#[inline(always)]
 fn first_digit(text: &[u8]) -> Option<(u64, &[u8])>
     ensures { MatchOption result (Lacks is_digit text.now)
         (λ r. BeginsDigit text.now r.0 r.1.now) }
@@ -146,6 +168,7 @@ fn first_digit(text: &[u8]) -> Option<(u64, &[u8])>
 }
 
 /// The rest after the point, if one comes next and may come after this many digits.
+#[inline(always)]
 fn after_point(count: u8, text: &[u8]) -> Option<&[u8]>
     ensures { MatchOption result (Lacks (is_point_after count) text.now)
         (λ rest. PastPoint count text.now rest.now) }
@@ -153,10 +176,11 @@ fn after_point(count: u8, text: &[u8]) -> Option<&[u8]>
     if count == 0 || count > 12 {
         return None;
     }
-    strip(text, b'.')
+    strip_byte(text, b'.')
 }
 
 /// The number with its sign.
+#[inline(always)]
 fn with_sign(negative: bool, value: u64) -> i64
     requires { value < 10 ^ 15 }
     ensures { result ≡ signed negative value }

@@ -4,14 +4,13 @@ ghost use Rattle.sf_value.specs.Grammar.Classes.{is_in_key, is_key_start};
 ghost use Rattle.sf_value.specs.Grammar.Tokens.{IsKey};
 ghost use Rattle.sf_scan.specs.Parameters.{ScansParam};
 ghost use Rattle.sf_scan.specs.Makers.{ScansParams};
-ghost use Rattle.sf_scan.specs.Stops.{Lacks};
+ghost use Rattle.sf_value.specs.Runs.{Lacks};
 
 use crate::bare::bare;
 use crate::leaf::Leaf;
 use crate::maker::Maker;
 use crate::place::{Halt, ParamPlace, Stop};
-use crate::runs::{short_run, split, strip};
-use sf_value::classes::{InKey, Space};
+use sf_value::classes::{InKey, Space, short_prefix, split, strip_byte};
 use sf_value::{Dialect, can_start_key};
 
 /// A parameter of a text.
@@ -42,7 +41,7 @@ pub fn params<'a, M: Maker<'a>>(
         left: text,
         place: ParamPlace::Before,
     };
-    while let Some(more) = strip(end.left, b';') {
+    while let Some(more) = strip_byte(end.left, b';') {
         match next_param(dialect, more) {
             Ok((found, stop)) => {
                 if let Err(fault) = maker.parameter(found) {
@@ -57,20 +56,21 @@ pub fn params<'a, M: Maker<'a>>(
 }
 
 /// The parameter that the text begins with, after its semicolon, and where it stops.
+#[inline(always)]
 fn next_param(
     dialect: Dialect,
     text: &[u8],
 ) -> Result<(Param<'_>, Stop<'_, ParamPlace>), Stop<'_, ParamPlace>>
     ensures { ScansParam dialect text.now result }
 {
-    let (_, named) = short_run::<Space>(text);
+    let (_, named) = short_prefix::<Space>(text);
     let Some((key, after)) = find_key(named) else {
         return Err(Stop {
             left: named,
             place: ParamPlace::Semicolon,
         });
     };
-    let Some(value) = strip(after, b'=') else {
+    let Some(value) = strip_byte(after, b'=') else {
         let leaf = Leaf::Boolean(true);
         return Ok((
             Param { key, leaf },
@@ -96,6 +96,7 @@ fn next_param(
 }
 
 /// The longest key that the text begins with, and the rest; `None` if it begins with none.
+#[inline(always)]
 pub fn find_key(text: &[u8]) -> Option<(&[u8], &[u8])>
     ensures { MatchOption result (Lacks is_key_start text.now)
         (λ r. (text.now ≡ r.0.now ++ r.1.now) × IsKey r.0.now × Lacks is_in_key r.1.now) }
@@ -104,7 +105,7 @@ pub fn find_key(text: &[u8]) -> Option<(&[u8], &[u8])>
     if !can_start_key(first) {
         return None;
     }
-    let (run, rest) = short_run::<InKey>(more);
+    let (run, rest) = short_prefix::<InKey>(more);
     let (key, _) = text.split_at(run.len() + 1);
     Some((key, rest))
 }

@@ -68,19 +68,19 @@ fn texts_in_a_dialect(rt: HostRuntime) -> Result<(), Fail> {
 /// Refused for its last byte, at 31.
 const REFUSED: &[u8] = b"a=(1 \"x y\" *t :YQ==:);y=tok, b=#";
 
-/// A failed allocation ends a parse before a bad byte that is after it.
+/// A whole text is refused also if there is no memory, whatever is before the bad byte.
 #[test]
 fn refused_texts(rt: HostRuntime) -> Result<(), Fail> {
     let alloc = rt.alloc();
     let seed = RandomState::new(&rt)?;
-    expect_refusals(&rt, || {
+    expect_no_need(&rt, || {
         seen_syntax(parse_text(alloc, &seed, Kind::Dict, REFUSED), 31, b'#')
     });
     Ok(())
 }
 
 /// Dictionaries that are refused for their last byte, which is at this place, after parts of the
-/// same member, some of which allocate.
+/// same member, for some of which a value would need memory.
 const REFUSED_BEHIND_PARTS: [(&[u8], u64); 3] = [
     (
         b"a=(1 \"longer than 16 bytes\" tok);p=\"longer than 16 bytes\";q=#",
@@ -95,7 +95,7 @@ fn refused_behind_parts(rt: HostRuntime) -> Result<(), Fail> {
     let alloc = rt.alloc();
     let seed = RandomState::new(&rt)?;
     for (text, place) in REFUSED_BEHIND_PARTS {
-        expect_refusals(&rt, || {
+        expect_no_need(&rt, || {
             seen_syntax(parse_text(alloc, &seed, Kind::Dict, text), place, b'#')
         });
     }
@@ -103,7 +103,7 @@ fn refused_behind_parts(rt: HostRuntime) -> Result<(), Fail> {
 }
 
 /// Items that are refused for their last byte, which is at this place, after a parameter and a
-/// space: at the space the parameter is put, which allocates.
+/// space.
 const REFUSED_ITEMS: [(&[u8], u64, u8); 5] = [
     (b"a;x=1 b", 6, b'b'),
     (b"-7; x=12 %", 9, b'%'),
@@ -117,7 +117,7 @@ fn refused_items(rt: HostRuntime) -> Result<(), Fail> {
     let alloc = rt.alloc();
     let seed = RandomState::new(&rt)?;
     for (text, place, byte) in REFUSED_ITEMS {
-        expect_refusals(&rt, || {
+        expect_no_need(&rt, || {
             seen_syntax(parse_text(alloc, &seed, Kind::Item, text), place, byte)
         });
     }
@@ -125,7 +125,7 @@ fn refused_items(rt: HostRuntime) -> Result<(), Fail> {
 }
 
 /// Texts that are refused for this byte at this place, after a key or a bare item of more than 16
-/// bytes, for which alone memory is asked.
+/// bytes, for which alone a value would need memory.
 const REFUSED_BEHIND_LONG: [(Kind, &[u8], u64, u8); 17] = [
     (Kind::Dict, b"a_key_of_more_than_16_bytes=#", 28, b'#'),
     (Kind::Item, b"1;a_key_of_more_than_16_bytes=#", 30, b'#'),
@@ -191,7 +191,7 @@ fn refused_behind_long(rt: HostRuntime) -> Result<(), Fail> {
     let alloc = rt.alloc();
     let seed = RandomState::new(&rt)?;
     for (kind, text, place, byte) in REFUSED_BEHIND_LONG {
-        expect_refusals(&rt, || {
+        expect_no_need(&rt, || {
             seen_syntax(parse_text(alloc, &seed, kind, text), place, byte)
         });
     }
@@ -264,20 +264,20 @@ fn refused_behind_keys(rt: HostRuntime) -> Result<(), Fail> {
     Ok(())
 }
 
-/// So does a text that is read as a whole.
+/// A text that is read as a whole is refused also if there is no memory.
 #[test]
 fn refused_behind_keys_of_a_text(rt: HostRuntime) -> Result<(), Fail> {
     let alloc = rt.alloc();
     let seed = RandomState::new(&rt)?;
     for (kind, text, place) in REFUSED_BEHIND_KEYS {
-        expect_refusals(&rt, || {
+        expect_no_need(&rt, || {
             seen_syntax(parse_text(alloc, &seed, kind, text), place, b'#')
         });
     }
     Ok(())
 }
 
-/// So does one chunk.
+/// One chunk needs memory, as the levels do.
 #[test]
 fn refused_behind_keys_of_a_chunk(rt: HostRuntime) -> Result<(), Fail> {
     let alloc = rt.alloc();

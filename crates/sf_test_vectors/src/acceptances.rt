@@ -1,5 +1,5 @@
 //! Texts that spell a value, with its canonical text.
-use sf_parse::{Parser, parse_text, parse_text_in};
+use sf_parse::{Parser, parse_text, parse_text_in, refuse_text};
 use sf_value::{Dialect, Field, Kind, OutOfMemory, same};
 use sf_write::to_text;
 use std::alloc::Global;
@@ -105,6 +105,7 @@ fn check_row(rt: &impl Abort, alloc: Global, seed: &RandomState, row: Row) -> Re
     let (kind, text, canonical) = row;
     let field = parse_text(alloc, seed, kind, text)?;
     check_value(rt, alloc, field, kind, canonical)?;
+    assert!(rt; refuse_text(Dialect::Rfc9651, kind, text).is_none());
     let again = parse_text(alloc, seed, kind, canonical)?;
     check_value(rt, alloc, again, kind, canonical)?;
     let one = (Dialect::Rfc9651, kind, text);

@@ -13,6 +13,8 @@ mod readers;
 #[cfg(test)]
 mod refusals;
 #[cfg(test)]
+mod scanning;
+#[cfg(test)]
 mod thresholds;
 #[cfg(test)]
 mod whole_members;

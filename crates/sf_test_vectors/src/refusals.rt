@@ -1,6 +1,6 @@
 //! Texts that spell no value, with the exact refusal.
 use crate::acceptances::has_new_types;
-use sf_parse::{Parser, Refusal, parse_text, parse_text_in};
+use sf_parse::{Parser, Refusal, parse_text, parse_text_in, refuse_text};
 use sf_value::{Dialect, Kind};
 use std::alloc::Global;
 use std::hash::RandomState;
@@ -143,7 +143,7 @@ fn refusal_bytewise(
     }
 }
 
-/// The row whole, in every cutting into two chunks and a byte at a time.
+/// The row whole, also without a value, in every cutting into two chunks and a byte at a time.
 fn check_row(
     rt: &impl Abort,
     alloc: Global,
@@ -157,6 +157,10 @@ fn check_row(
     match parse_text_in(alloc, seed, dialect, kind, text) {
         Ok(_) => return Err(Fail::from("accepted")),
         Err(refusal) => check_refusal(rt, dialect, refusal, row)?,
+    }
+    match refuse_text(dialect, kind, text) {
+        Some(refusal) => check_refusal(rt, dialect, refusal, row)?,
+        None => return Err(Fail::from("accepted")),
     }
     for cut in 0..=text.len() {
         let (prefix, suffix) = text.split_at(cut);

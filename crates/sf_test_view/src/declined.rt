@@ -1,4 +1,4 @@
-//! Texts that are malformed after whole members: parsed as a whole, and from the last member on.
+//! Texts that are malformed after whole members.
 use sf_parse::{Refusal, parse_text_in};
 use sf_value::{Dialect, Field, Kind, same};
 use sf_view::parse_declined;

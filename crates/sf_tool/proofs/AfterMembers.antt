@@ -15,7 +15,8 @@ use Rattle.sf_value.specs.Grammar.Fields.{SpellsField, list_of, dict_of, flag}
 use Rattle.sf_value.specs.Grammar.Lines.{join, Viable}
 use Rattle.sf_parse.specs.declared.refusal.Refusal.TheVariants.{Syntax}
 use Rattle.sf_parse.specs.Interchange.{AreInterchangeable, HasMember}
-use Rattle.sf_parse.specs.Parsers.{IsOnly, IsSyntax, Parses}
+use Rattle.sf_parse.specs.Parsers.{IsOnly, Parses}
+use Rattle.sf_value.specs.Grammar.Refusals.{IsSyntax}
 use Rattle.sf_parse.proofs.Interchange.{refusals_move, comma_viable, members_forgotten}
 use Rattle.sf_view.proofs.Members.{only_of}
 use Rattle.sf_tool.specs.Lines.{lines_of}

@@ -13,7 +13,8 @@ use Rattle.sf_parse.specs.declared.refusal.Refusal.TheVariants.{OutOfMemory, Syn
 use Rattle.sf_parse.specs.declared.refusal.Refusal.TheVariants.{ReadFault}
 use Rattle.sf_parse.specs.AllocationFree.{TakesNoMemory}
 use Rattle.sf_parse.specs.AllocationFreeParsers.{NotForMemory}
-use Rattle.sf_parse.specs.Parsers.{IsOnly, IsSyntax}
+use Rattle.sf_parse.specs.Parsers.{IsOnly}
+use Rattle.sf_value.specs.Grammar.Refusals.{IsSyntax}
 use Rattle.sf_write.specs.Writing.{SendsText}
 use Rattle.sf_field.specs.Asking.{Asks, Means}
 use Rattle.sf_field.specs.Lines.{ParsesLines}

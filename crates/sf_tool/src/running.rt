@@ -32,9 +32,8 @@ use crate::request::Request;
 use crate::scanning::{first_stop, join_lines, only_line, parse_from_stop};
 use crate::status::Status;
 use http_header::HeaderName;
-use memchr::memchr;
 use sf_field::{AskFault, Consumer, UseFault, ask_from, parse_from};
-use sf_parse::{Refusal, parse_text_in};
+use sf_parse::Refusal;
 use sf_use::{CacheStatus, Choice, PriorityField, select};
 use sf_value::{Dialect, Field, Kind, Sink, Source, Writing};
 use sf_view::parse_declined;
@@ -127,8 +126,7 @@ fn parse_input(
     parse_from(alloc, seed, dialect, kind, InputLines::new(input))
 }
 
-/// Parses a text that a scan declined; `None` if an allocation failed. A text without a comma has no
-/// member that may be left out.
+/// Parses a text that a scan declined; `None` if an allocation failed.
 fn parse_scanned(
     alloc: Global,
     seed: &RandomState,
@@ -139,11 +137,7 @@ fn parse_scanned(
     ensures parses { IfSome result (λ r. Parses dialect kind text.now r) }
     ensures for_text { IfSome result NotForMemory }
 {
-    let parsed = match memchr(b',', text) {
-        Some(_) => parse_declined(alloc, seed, dialect, kind, text),
-        None => parse_text_in(alloc, seed, dialect, kind, text),
-    };
-    match parsed {
+    match parse_declined(alloc, seed, dialect, kind, text) {
         Err(Refusal::OutOfMemory) => None,
         parsed => Some(parsed),
     }

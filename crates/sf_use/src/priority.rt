@@ -108,8 +108,7 @@ impl Urgency {
 
 impl PriorityField {
     /// Reads the text of a Priority field in one pass, and returns what it sets, as
-    /// [`Priority::from_dict`] does for its Dictionary. Does not allocate. `None` claims nothing:
-    /// the text may spell no Dictionary, or have 4 GiB or more.
+    /// [`Priority::from_dict`] does for its Dictionary. Does not allocate. `None` claims nothing.
     ///
     /// ```
     /// let asked = PriorityField::scan(b"u=5, i")?;

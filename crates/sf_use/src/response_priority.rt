@@ -52,7 +52,7 @@ impl ResponsePriority {
 
     /// Reads the text of the Priority field of a response in one pass, in a dialect, as
     /// [`ResponsePriority::from_dict`] does for its Dictionary. Does not allocate. `None` claims
-    /// nothing: the text may spell no Dictionary, or have 4 GiB or more.
+    /// nothing.
     ///
     /// ```
     /// let response = ResponsePriority::scan_in(Dialect::Rfc8941, b"u=3")?;

@@ -81,7 +81,7 @@ impl Directives {
     /// Reads the text of one targeted field in one pass, and returns its directives, as
     /// [`Policy::from_dict`] does for its Dictionary, or `Some(None)` if the Dictionary is empty,
     /// so that the field is ignored (RFC 9213 section 2.1). Does not allocate. `None` claims
-    /// nothing: the text may spell no Dictionary, or have 4 GiB or more.
+    /// nothing.
     ///
     /// ```
     /// let policy = Directives::scan(b"max-age=60, no-store")??;

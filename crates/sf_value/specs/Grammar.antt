@@ -23,3 +23,4 @@ pub mod Fields
 pub mod Valid
 pub mod Canonical
 pub mod Lines
+pub mod Refusals

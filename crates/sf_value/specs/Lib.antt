@@ -2,6 +2,7 @@
 -- judge; the others say what the calls of this crate do.
 pub mod Ascii
 pub mod Grammar
+pub mod Runs
 pub mod Digits
 pub mod Utf8States
 pub mod Entries

@@ -1,9 +1,10 @@
 //! Classes of bytes (RFC 9651 section 3), and what a text begins with: runs of them, and single
 //! bytes. A class is a type; each is tested here, once, for values, parsers and writers.
-ghost use Rattle.std.specs.Prelude.{◌≡◌, ◌≢◌, ◌≤◌, ◌*◌, ◌++◌, [], ◌∷◌, ℕ, Bool, true, false};
-ghost use Rattle.std.specs.Prelude.{length, take, not, IfSome};
+ghost use Rattle.std.specs.Prelude.{◌≡◌, ◌≢◌, ◌≤◌, ◌<◌, ◌*◌, ◌++◌, [], ◌∷◌, ℕ, Bool, true, false};
+ghost use Rattle.std.specs.Prelude.{length, take, drop, not, MatchOption};
 ghost use Rattle.std.specs.List.{prefix_len};
 ghost use Rattle.sf_value.specs.Grammar.Words.{Every};
+ghost use Rattle.sf_value.specs.Runs.{FirstIs, Lacks};
 ghost use Rattle.sf_value.specs.Grammar.Classes.{is_in_key, is_in_token, is_key_start, is_sp};
 ghost use Rattle.sf_value.specs.Grammar.Classes.{is_ows as is_ows_byte, is_token_start};
 ghost use Rattle.sf_value.specs.Grammar.Classes.{is_visible as is_visible_byte};
@@ -222,6 +223,8 @@ fn first_lanes<C: LaneClass>(text: &[u8]) -> usize
     ensures within { result ≤ LANES }
     // All of these bytes are of the class.
     ensures every { Every C.test (take result text.now) }
+    // If there are fewer than 16, the next byte is not.
+    ensures longest { result < LANES → Lacks C.test (drop result text.now) }
 {
     let Some((lanes, _)) = text.split_first_chunk::<LANES>() else {
         unreachable!()
@@ -256,6 +259,8 @@ fn lanes_run<C: LaneClass>(text: &[u8]) -> usize
     ensures within { result ≤ length text.now }
     // All of these bytes are of the class.
     ensures every { Every C.test (take result text.now) }
+    // The next byte, if there is one, is not.
+    ensures longest { Lacks C.test (drop result text.now) }
 {
     let mut run = 0;
     while text.len() - run >= LANES {
@@ -278,6 +283,8 @@ fn far_run<C: LaneClass>(text: &[u8]) -> usize
     ensures within { result ≤ length text.now }
     // All of these bytes are of the class.
     ensures every { Every C.test (take result text.now) }
+    // The next byte, if there is one, is not.
+    ensures longest { Lacks C.test (drop result text.now) }
 {
     let mut run = 0;
     while text.len() - run >= 2 * LANES && are_pair::<C>(&text[run..]) {
@@ -294,6 +301,8 @@ pub fn long_run<C: LaneClass>(text: &[u8]) -> usize
     ensures within { result ≤ length text.now }
     // All of these bytes are of the class.
     ensures every { Every C.test (take result text.now) }
+    // The next byte, if there is one, is not.
+    ensures longest { Lacks C.test (drop result text.now) }
 {
     if text.len() <= NEAR {
         return lanes_run::<C>(text);
@@ -313,6 +322,8 @@ pub fn long_prefix<C: LaneClass>(text: &[u8]) -> (&[u8], &[u8])
     ensures whole { text.now ≡ result.0.now ++ result.1.now }
     // All bytes of the first are of the class.
     ensures every { Every C.test result.0.now }
+    // The first byte of the second, if there is one, is not.
+    ensures longest { Lacks C.test result.1.now }
 {
     if text.len() < LANES {
         return short_prefix::<C>(text);
@@ -331,6 +342,8 @@ pub fn short_prefix<C: ByteClass>(text: &[u8]) -> (&[u8], &[u8])
     ensures whole { text.now ≡ result.0.now ++ result.1.now }
     // All bytes of the first are of the class.
     ensures every { Every C.test result.0.now }
+    // The first byte of the second, if there is one, is not.
+    ensures longest { Lacks C.test result.1.now }
 {
     let mut run = 0;
     while run < text.len() && C::has(text[run]) {
@@ -342,7 +355,7 @@ pub fn short_prefix<C: ByteClass>(text: &[u8]) -> (&[u8], &[u8])
 /// The first byte, and the rest; `None` if there is none. It does not allocate.
 #[inline(always)]
 pub fn split(text: &[u8]) -> Option<(u8, &[u8])>
-    ensures { IfSome result (λ r. text.now ≡ r.0 ∷ r.1.now) }
+    ensures { MatchOption result (text.now ≡ []) (λ r. text.now ≡ r.0 ∷ r.1.now) }
 {
     match text {
         [first, rest @ ..] => Some((*first, rest)),
@@ -353,7 +366,8 @@ pub fn split(text: &[u8]) -> Option<(u8, &[u8])>
 /// The rest after this byte; `None` if the text does not begin with it. It does not allocate.
 #[inline(always)]
 pub fn strip_byte(text: &[u8], byte: u8) -> Option<&[u8]>
-    ensures { IfSome result (λ rest. text.now ≡ byte ∷ rest.now) }
+    ensures { MatchOption result (FirstIs (λ b. b ≢ byte) text.now)
+        (λ rest. text.now ≡ byte ∷ rest.now) }
 {
     match split(text) {
         Some((first, rest)) if first == byte => Some(rest),

@@ -1,30 +1,17 @@
 -- Marks of keys.
-use Rattle.std.proofs.Common.{◌≡◌, ◌≢◌, ℕ, ◌+◌, ◌-◌, ◌*◌, ◌/◌, ◌%◌, ◌^◌, ◌<◌, ◌⊎◌, Bool, true, false}
-use Rattle.std.proofs.Common.{List, [], ◌∷◌, ◌++◌, length, get_or, bit_and, bit_or, refl, sym, ap, ap₂}
+use Rattle.std.proofs.Common.{◌≡◌, ◌≢◌, ℕ, ◌+◌, ◌*◌, ◌/◌, ◌%◌, ◌^◌, ◌<◌, ◌⊎◌, Bool, true, false}
+use Rattle.std.proofs.Common.{List, [], ◌∷◌, ◌++◌, bit_and, bit_or, refl, sym, ap}
 use Rattle.std.proofs.Common.{◌∙◌, subst, arith, ⊎_elim, inl, inr}
 use Rattle.std.specs.Int.{bit_at, w64}
 use Rattle.std.specs.List.{IsDistinct, AllByRecursion}
 use Rattle.std.specs.Map.{keys_of}
 use Rattle.std.specs.Str.{bytes_eq}
 use Rattle.std.proofs.lemmas.Bool.{cases_lt}
-use Rattle.std.proofs.lemmas.List.{get_or_append_left}
 use Rattle.std.proofs.lemmas.Nat.{and_mask, mod_below}
 use Rattle.std.proofs.lemmas.Nat.Bits.{bit_at_set_same, bit_at_set_other, bit_at_ones}
 use Rattle.sf_value.specs.Grammar.Pairs.{Pairs}
 use Rattle.sf_value.proofs.Settling.{key_is}
 use Rattle.sf_view.specs.Marks.{mark_of, MarksEach}
-
--- the mark of a key at the start of a text
-pub mark_is : (text run rest : List ℕ) (first : ℕ) → text ≡ (first ∷ run) ++ rest
-    → 9 * (first + (length run + 1) % 64) + get_or text (length run) 0 ≡ mark_of (first ∷ run)
-mark_is text run rest first e =
-    let k : length run + 1 ≡ length (first ∷ run) = omega arith in
-    let i : length run ≡ length (first ∷ run) - 1 = omega arith in
-    let w : length run < length (first ∷ run) = omega arith in
-    ap₂ (λ a b. 9 * (first + a % 64) + b) k
-    (ap (λ t. get_or t (length run) 0) e
-    ∙ get_or_append_left (first ∷ run) rest 0 (length run) w
-    ∙ ap (λ j. get_or (first ∷ run) j 0) i)
 
 -- one more key whose mark is new
 apart_by_mark : (bits : ℕ) (ks : List (List ℕ)) (k : List ℕ) → IsDistinct bytes_eq ks

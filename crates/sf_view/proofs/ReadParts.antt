@@ -1,37 +1,38 @@
 -- Parts that are read without nodes.
 use Rattle.std.proofs.Common.{◌≡◌, ℕ, true, List, [], ◌∷◌, ◌++◌, Option, Some, None}
-use Rattle.std.proofs.Common.{length, refl, sym, ap, ◌∙◌, arith, append_assoc}
+use Rattle.std.proofs.Common.{refl, sym, ap, ◌∙◌, arith, append_assoc}
 use Rattle.std.proofs.Common.{append-nil, inl, inr}
 use Rattle.sf_value.specs.declared.dialect.Dialect.{Dialect}
-use Rattle.sf_value.specs.declared.value.Bare.{Bare}
 use Rattle.sf_value.specs.declared.value.Bare.TheVariants.{Boolean}
 use Rattle.sf_value.specs.declared.value.Member.TheVariants as member
 use Rattle.sf_value.specs.Grammar.Classes.{is_sp}
 use Rattle.sf_value.specs.Grammar.Pairs.{settle}
 use Rattle.sf_value.specs.Grammar.Tokens.{IsKey}
+use Rattle.sf_value.specs.Grammar.BareItems.{SpellsBare}
 use Rattle.sf_value.specs.Grammar.Parameters.{SpellsRaw}
 use Rattle.sf_value.specs.Grammar.Items.{SpellsItem, item}
 use Rattle.sf_value.specs.Grammar.InnerLists.{SpellsInner, inner}
 use Rattle.sf_value.specs.Grammar.Fields.{flag}
-use Rattle.sf_view.specs.declared.bare_part.Part.{Part}
+use Rattle.sf_scan.specs.declared.leaf.Leaf.{Leaf}
+use Rattle.sf_scan.specs.Leaves.{leaf_bare}
 use Rattle.sf_view.specs.declared.view.BareView.{BareView}
 use Rattle.sf_view.specs.declared.view.BareView.TheVariants as view_is
-use Rattle.sf_view.specs.Scans.{Behind, ScansBare, PartDescribes}
+use Rattle.sf_view.specs.Scans.{Behind}
 use Rattle.sf_view.specs.Views.{IsBorrowed}
-use Rattle.sf_view.specs.Reads.{Reads, ReadsBare, ReadsParam, ReadsItems, ReadsMember, ReadsEntry}
+use Rattle.sf_view.specs.Reads.{Reads, TakesLeaf, ReadsBare, ReadsParam, ReadsItems, ReadsMember, ReadsEntry}
 use Rattle.sf_view.proofs.Inners.{spaces_before, item_before}
 
--- a bare item that a scanner read
-pub bare_reads : (d : Dialect) (text rest : List ℕ) (p : Part) (b : BareView)
-    → ScansBare d (length text) text p rest
-    → ((e : Dialect) (x : Bare) → PartDescribes e text p x → IsBorrowed e b x)
+-- a bare item that was read
+pub bare_reads : (d : Dialect) (text spelled rest : List ℕ) (leaf : Leaf) (b : BareView)
+    → TakesLeaf d text leaf spelled rest
+    → ((e : Dialect) → SpellsBare e spelled (leaf_bare leaf) → IsBorrowed e b (leaf_bare leaf))
     → ReadsBare d text b rest
-bare_reads d text rest p b s h = record {
-  prefix = s.prefix;
-  value = s.value;
-  split = s.split;
-  spelled = s.spelled;
-  borrowed = h d s.value (s.describes text (record { before = []; whole = refl }) refl);
+bare_reads d text spelled rest leaf b t h = record {
+  prefix = spelled;
+  value = leaf_bare leaf;
+  split = t.split;
+  spelled = t.value;
+  borrowed = h d t.value;
 }
 
 -- a parameter

@@ -27,8 +27,8 @@ use Rattle.sf_view.specs.declared.node_types.Role.{Role}
 use Rattle.sf_view.specs.View.{DescribesParams}
 use Rattle.sf_view.specs.Decoding.{TakesByte}
 use Rattle.sf_view.specs.Parts.{SplitsOff}
-use Rattle.sf_view.specs.Scans.{is_unescaped}
-use Rattle.sf_view.proofs.Scanned.{unescaped_same}
+use Rattle.sf_value.specs.Grammar.Strings.{is_unescaped}
+use Rattle.sf_scan.proofs.Escapes.{escaped_run}
 use Rattle.sf_view.specs.declared.view.BareView.{BareView}
 use Rattle.sf_view.specs.declared.view.BareView.TheVariants as view_is
 use Rattle.sf_view.specs.Views.{IsBorrowed}
@@ -267,7 +267,7 @@ pub unescaped_text : (bytes prefix rest t : List ℕ) → bytes ≡ prefix ++ re
     → Every is_unescaped prefix → rest ≡ [] → bytes ≡ t → bytes ≡ escaped t
 unescaped_text bytes prefix rest t e h none same =
     let whole : bytes ≡ prefix = e ∙ ap (λ y. prefix ++ y) none ∙ append-nil prefix in
-    whole ∙ sym (unescaped_same prefix h) ∙ ap escaped (sym whole ∙ same)
+    whole ∙ sym (escaped_run prefix h) ∙ ap escaped (sym whole ∙ same)
 
 -- the first byte of a text
 pub no_first : (text rest : List ℕ) (b : ℕ) → text ≡ [] → text ≡ b ∷ rest → ⊥

@@ -1,17 +1,11 @@
 -- What scanning the start of a text returns.
-pub use Rattle.sf_value.specs.Grammar.Strings.{is_unescaped}
-pub use Rattle.sf_value.specs.Grammar.ByteSequences.{is_base64}
-use Rattle.std.specs.Prelude.{◌≡◌, ℕ, ℤ, pos, ◌+◌, ◌≤◌, Bool, List, [], ◌∷◌, ◌++◌, length, take}
+use Rattle.std.specs.Prelude.{◌≡◌, ℕ, pos, ◌+◌, ◌-◌, ◌≤◌, Bool, false, List, [], ◌∷◌, ◌++◌}
+use Rattle.std.specs.Prelude.{length, take}
 use Rattle.sf_value.specs.declared.dialect.Dialect.{Dialect}
 use Rattle.sf_value.specs.declared.value.Bare.{Bare}
-use Rattle.sf_value.specs.declared.value.Bare.TheVariants.{Date}
 use Rattle.sf_value.specs.declared.value.Item.{Item}
 use Rattle.sf_value.specs.Grammar.Words.{Every}
-use Rattle.std.specs.Prelude.{if◌then◌else◌, ◌==◌, ◌≢◌, replicate, ◌*◌, ◌-◌, ◌^◌, false}
-use Rattle.sf_value.specs.Grammar.Strings.{escaped}
-use Rattle.sf_value.specs.Ascii.{quote, equals, colon, close_bracket}
-use Rattle.sf_value.specs.Grammar.Classes.{is_digit, is_visible}
-use Rattle.sf_value.specs.Grammar.Numbers.{value_from, SpellsDate}
+use Rattle.sf_value.specs.Ascii.{close_bracket}
 use Rattle.sf_value.specs.Grammar.Pairs.{Pairs}
 use Rattle.sf_value.specs.Grammar.Tokens.{IsKey}
 use Rattle.sf_value.specs.Grammar.BareItems.{SpellsBare}
@@ -56,23 +50,6 @@ pub record ScansKey (whole : ℕ) (text : List ℕ) (place : KeyPlace) (rest : L
   pub size : place.length ≡ length prefix
   pub mark : place.mark ≡ mark_of prefix
 
--- digits at the start of the text, with their value and number
-pub record ScansDigits (text : List ℕ) (v n : ℕ) (rest : List ℕ) : Type 0 where
-  pub prefix : List ℕ
-  pub split : text ≡ prefix ++ rest
-  pub each : Every is_digit prefix
-  pub value : v ≡ value_from 0 prefix
-  pub count : n ≡ length prefix
-
--- one to three digits at the start of the text, and the thousandths that they make
-pub record ScansFraction (text : List ℕ) (v : ℕ) (rest : List ℕ) : Type 0 where
-  pub prefix : List ℕ
-  pub split : text ≡ prefix ++ rest
-  pub each : Every is_digit prefix
-  pub some : 1 ≤ length prefix
-  pub few : length prefix ≤ 3
-  pub value : v ≡ value_from 0 prefix * 10 ^ (3 - length prefix)
-
 -- what was read of a bare item without bytes describes this one
 pub record NumberDescribes (p : Part) (x : Bare) : Type 0 where
   pub node_type : p.node_type ≡ type_of x
@@ -82,45 +59,20 @@ pub record NumberDescribes (p : Part) (x : Bare) : Type 0 where
   pub coded : p.coded ≡ false
   pub none : text_of x ≡ []
 
--- the start of the text spells a number, which the part describes
-pub record ScansNumber (text : List ℕ) (p : Part) (rest : List ℕ) : Type 0 where
-  pub prefix : List ℕ
-  pub value : Bare
-  pub split : text ≡ prefix ++ rest
-  pub spelled : (d : Dialect) → SpellsBare d prefix value
-  pub describes : NumberDescribes p value
-
--- the start of the text spells a Date, which the part describes
-pub record ScansDate (text : List ℕ) (p : Part) (rest : List ℕ) : Type 0 where
-  pub prefix : List ℕ
-  pub value : ℤ
-  pub split : text ≡ prefix ++ rest
-  pub spelled : SpellsDate prefix value
-  pub describes : NumberDescribes p (Date value)
-
--- the most = signs that may follow a last group of this many characters, where 0 is a whole group
-abbrev pub pads_at : ℕ → ℕ
-pads_at over = if over == 2 then 2 else (if over == 3 then 1 else 0)
-
--- after a last group of this many characters, = signs and a colon are before the rest
-pub record Closes (over : ℕ) (text rest : List ℕ) : Type 0 where
-  pub count : ℕ
-  pub split : text ≡ replicate count equals ++ colon ∷ rest
-  pub few : count ≤ pads_at over
-  pub whole : over ≢ 1
-
--- the text is a quote, and the escaped bytes of a String, up to the rest
-pub record InsideString (text rest : List ℕ) : Type 0 where
-  pub bytes : List ℕ
-  pub split : text ≡ quote ∷ (escaped bytes ++ rest)
-  pub each : Every is_visible bytes
-
 -- what was read of a bare item describes this one
 pub record PartDescribes (d : Dialect) (source : List ℕ) (p : Part) (x : Bare) : Type 0 where
   pub node_type : p.node_type ≡ type_of x
   pub number : p.number ≡ number_of x
   pub within : p.at + p.length ≤ length source
   pub text : DescribesText d p.coded (slice_at p.at p.length source) x
+
+-- if these bytes spell the bare item, the part describes it in any source of this many bytes whose
+-- last ones, so many, begin with them
+abbrev pub PartShows : Bare → List ℕ → ℕ → ℕ → Part → Type 0
+PartShows x spelled whole left p =
+    (d : Dialect) (rest source : List ℕ) → SpellsBare d spelled x
+    → IsEnd source (spelled ++ rest) → length (spelled ++ rest) ≡ left → length source ≡ whole
+    → PartDescribes d source p x
 
 -- the start of the text spells a bare item, which the part describes in any source that ends with
 -- the text

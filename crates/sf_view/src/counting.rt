@@ -12,8 +12,9 @@ ghost use Rattle.sf_view.specs.Views.{IsBorrowed};
 use crate::classes::{after_spaces, ends, strip_byte};
 use crate::cursor::{first_start, next_start};
 use crate::keys::{Marks, PROBES, enter, tag};
-use crate::text_parts::{read_bare, read_key, read_param};
+use crate::text_parts::{read_bare, read_param};
 use crate::view::BareView;
+use sf_scan::param::find_key;
 use sf_value::{Dialect, Entries, Kind};
 use std::alloc::Global;
 use std::hash::RandomState;
@@ -31,7 +32,7 @@ pub struct Counts {
 /// Why a text is not counted.
 #[derive(Clone, Copy, Debug, PartialEq, Eq)]
 pub enum Uncounted {
-    /// It is malformed, or has 4 GiB or more.
+    /// It is malformed.
     Declined,
     /// A key is repeated or, rarely, there are many keys: to count them takes memory.
     Repeated,
@@ -426,7 +427,7 @@ fn count_entry<'a>(
     ensures { IfOk result
         (λ r. CountsEntry dialect text.now r.0.now r.2.now r.1.nodes r.1.bytes) }
 {
-    let Some((key, after)) = read_key(text) else {
+    let Some((key, after)) = find_key(text) else {
         return Err(Uncounted::Declined);
     };
     if let Some(value) = strip_byte(after, b'=') {

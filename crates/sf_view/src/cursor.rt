@@ -60,8 +60,8 @@ impl<'a> DictCursor<'a> {
     }
 
     /// Reads the next member: `Some(None)` after the last one, and `None` if the cursor declines
-    /// the text, of which nothing is then known. It declines a text that spells no Dictionary, and
-    /// a bare item if 4 GiB or more of the text are left there.
+    /// the text, of which nothing is then known. It declines a text that spells no Dictionary. A
+    /// text of any length is read.
     #[inline(always)]
     pub fn next(&mut self) -> Option<Option<EntryView<'a>>>
         ensures dialect { self.new.dialect ≡ self.old.dialect }
@@ -110,8 +110,7 @@ impl EntryView<'_> {
 }
 
 /// Returns whether the text spells a field of the kind (RFC 9651 section 4.2). `false` proves
-/// nothing: a text of 4 GiB or more may still spell one. It does not allocate, and repeated keys
-/// are accepted.
+/// nothing. It does not allocate, repeated keys are accepted, and a text of any length is read.
 ///
 /// ```
 /// accepts(Dialect::Rfc9651, Kind::Dict, b"u=1, i") // true

@@ -13,7 +13,6 @@ mod copies;
 mod counting;
 mod cursor;
 mod declined;
-mod display_string;
 mod growing;
 mod item;
 mod item_cursor;

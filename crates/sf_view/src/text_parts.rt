@@ -1,83 +1,58 @@
 //! Parts of a text, read without nodes.
-ghost use Rattle.std.specs.Prelude.{◌≡◌, ◌++◌, ◌∷◌, IfSome};
+ghost use Rattle.std.specs.Prelude.{◌∷◌, IfSome};
 ghost use Rattle.sf_value.specs.Ascii.{semicolon};
-ghost use Rattle.sf_value.specs.Grammar.Tokens.{IsKey};
 ghost use Rattle.sf_value.specs.Grammar.Parameters.{SpellsRaw};
 ghost use Rattle.sf_value.specs.Grammar.Items.{SpellsItem};
 ghost use Rattle.sf_value.specs.Grammar.InnerLists.{SpellsInner};
 ghost use Rattle.sf_value.specs.declared.dialect.Dialect.{Dialect as Which};
-ghost use Rattle.sf_value.specs.declared.value.Bare.{Bare};
-ghost use Rattle.sf_view.specs.Scans.{PartDescribes};
-ghost use Rattle.sf_view.specs.View.{slice_at};
+ghost use Rattle.sf_value.specs.Grammar.BareItems.{SpellsBare};
+ghost use Rattle.sf_scan.specs.Leaves.{leaf_bare};
 ghost use Rattle.sf_view.specs.Views.{IsBorrowed};
 ghost use Rattle.sf_view.specs.Reads.{Reads, ReadsBare, ReadsParam, ReadsItems, ReadsMember, ReadsEntry};
 
-use crate::bare::scan_value;
-use crate::bare_part::Part;
-use crate::classes::{InKey, after_spaces, is_key_start, short_prefix, split, strip_byte};
-use crate::keys::bytes_at;
-use crate::node_types::NodeType;
+use crate::bare::read_leaf;
+use crate::classes::{after_spaces, strip_byte};
 use crate::view::{BareView, Slice};
+use sf_scan::leaf::Leaf;
+use sf_scan::param::find_key;
 use sf_value::Dialect;
 
 /// The bare item of a key without a value.
 const TRUE: BareView = BareView::Boolean(true);
 
-/// A bare item, and the rest; `None` also if the text has 4 GiB or more.
+/// A bare item, and the rest.
 #[inline(always)]
 pub(crate) fn read_bare(dialect: Dialect, text: &[u8]) -> Option<(BareView, &[u8])>
     ensures { IfSome result (λ r. ReadsBare dialect text.now r.0 r.1.now) }
 {
-    if text.len() > 0xffff_ffff {
-        return None;
-    }
-    let (part, rest) = scan_value(dialect, text.len(), text)?;
-    Some((borrowed(text, part)?, rest))
+    let (leaf, spelled, rest) = read_leaf(dialect, text)?;
+    Some((borrowed(leaf, spelled), rest))
 }
 
-/// The bare item of a part of the text; `None` for an Inner List.
+/// The bare item of a leaf, given the bytes that spell it.
 #[inline(always)]
-fn borrowed(text: &[u8], part: Part) -> Option<BareView>
-    ensures { IfSome result (λ b. (d : Which) (x : Bare) → PartDescribes d text.now part x
-        → IsBorrowed d b x) }
+fn borrowed<'a>(leaf: Leaf<'a>, spelled: &'a [u8]) -> BareView<'a>
+    ensures { (d : Which) → SpellsBare d spelled.now (leaf_bare leaf.entry)
+        → IsBorrowed d result (leaf_bare leaf.entry) }
 {
-    match part.node_type {
-        NodeType::Integer => return Some(BareView::Integer(part.number)),
-        NodeType::Decimal => return Some(BareView::Decimal(part.number)),
-        NodeType::Text => return Some(BareView::Text(slice_of(text, part)?)),
-        NodeType::Token => return Some(BareView::Token(slice_of(text, part)?.bytes)),
-        NodeType::Blob => return Some(BareView::Blob(slice_of(text, part)?)),
-        NodeType::Boolean => return Some(BareView::Boolean(part.number != 0)),
-        NodeType::Date => return Some(BareView::Date(part.number)),
-        NodeType::Shown => return Some(BareView::Shown(slice_of(text, part)?)),
-        NodeType::InnerList => return None,
+    let coded = Slice {
+        bytes: spelled,
+        coded: true,
+    };
+    match leaf {
+        Leaf::Integer(number) => BareView::Integer(number),
+        Leaf::Decimal(number) => BareView::Decimal(number),
+        Leaf::Date(number) => BareView::Date(number),
+        Leaf::Boolean(value) => BareView::Boolean(value),
+        Leaf::Token(bytes) => BareView::Token(bytes),
+        Leaf::Text(bytes) => BareView::Text(Slice {
+            bytes,
+            coded: false,
+        }),
+        Leaf::Escaped(_) => BareView::Text(coded),
+        Leaf::Blob(_) => BareView::Blob(coded),
+        Leaf::Display(_) => BareView::Shown(coded),
     }
-}
-
-/// The bytes of a part of the text.
-#[inline(always)]
-fn slice_of(text: &[u8], part: Part) -> Option<Slice>
-    ensures coded { IfSome result (λ s. s.coded ≡ part.coded) }
-    ensures bytes { IfSome result (λ s. s.bytes.now ≡ slice_at part.at part.length text.now) }
-{
-    let bytes = bytes_at(text, part.at as usize, part.length as usize)?;
-    Some(Slice {
-        bytes,
-        coded: part.coded,
-    })
-}
-
-/// A key, and the rest.
-#[inline(always)]
-pub(crate) fn read_key(text: &[u8]) -> Option<(&[u8], &[u8])>
-    ensures { IfSome result (λ r. (text.now ≡ r.0.now ++ r.1.now) × IsKey r.0.now) }
-{
-    let (first, more) = split(text)?;
-    if !is_key_start(first) {
-        return None;
-    }
-    let (prefix, _) = short_prefix::<InKey>(more);
-    Some(text.split_at(prefix.len() + 1))
 }
 
 /// One parameter, after its semicolon: its key, its value, and the rest.
@@ -88,7 +63,7 @@ pub(crate) fn read_param<'a>(
 ) -> Option<(&'a [u8], BareView<'a>, &'a [u8])>
     ensures { IfSome result (λ r. ReadsParam dialect (semicolon ∷ text.now) r.0.now r.1 r.2.now) }
 {
-    let (key, after) = read_key(after_spaces(text))?;
+    let (key, after) = find_key(after_spaces(text))?;
     let Some(value) = strip_byte(after, b'=') else {
         return Some((key, TRUE, after));
     };
@@ -179,7 +154,7 @@ pub(crate) fn read_entry<'a>(
 ) -> Option<(&'a [u8], Option<BareView<'a>>, &'a [u8])>
     ensures { IfSome result (λ r. ReadsEntry dialect text.now r.0.now r.1 r.2.now) }
 {
-    let (key, after) = read_key(text)?;
+    let (key, after) = find_key(text)?;
     if let Some(value) = strip_byte(after, b'=') {
         let (bare, rest) = read_member(dialect, value)?;
         return Some((key, bare, rest));

@@ -16,13 +16,6 @@ pub data SeriesState (S V : Type 0) : Type 0 where
   -- after a comma
   Comma : (given : V) → SeriesState S V
 
--- the value of the complete members
-abbrev pub given_of : {S V : Type 0} → V → SeriesState S V → V
-given_of none Begin = none
-given_of none (InMember given s) = given
-given_of none (Gap given) = given
-given_of none (Comma given) = given
-
 -- What differs between a List and a Dictionary: the members, and how a member is added to the
 -- value.
 pub record Series (S X V : Type 0) : Type 1 where

@@ -107,9 +107,8 @@ impl<'a> HopCursor<'a> {
     }
 
     /// Reads the next hop: `Some(None)` after the last one, and `None` if the cursor declines the
-    /// text, of which nothing is then claimed. It declines a text that spells no List, a List with
-    /// a member that names no cache, and a bare item with 4 GiB or more of text from it on. It is
-    /// inlined, so that a hop is not copied.
+    /// text, of which nothing is then claimed. It declines a text that spells no List, and a
+    /// List with a member that names no cache. It is inlined, so that a hop is not copied.
     #[inline(always)]
     pub fn next(&mut self) -> Option<Option<HopView<'a>>>
         // A member with this hop comes before those that remain; after the last one, none remain.

@@ -5,14 +5,12 @@ use Rattle.sf_parse.specs.StaysFree.{series_keeps}
 use Rattle.sf_parse.proofs.Prefixes.{never, goes_more, free_goes}
 use Rattle.sf_parse.proofs.WholeMembers.{member_taken, taken_more, taken_so_far, kept_so_far}
 use Rattle.sf_parse.proofs.WholeMembers.{comma_goes, comma_may_begin, after_open, not_free}
-use Rattle.sf_parse.proofs.BegunParts.{begun_left, begun_none}
 use Rattle.sf_parse.proofs.WholeParts.{params_none}
 use Rattle.sf_parse.proofs.series.add_each_member.Goals as goal
 
 pub loop-found-init : goal.loop-found-init
 loop-found-init g c = record {
   may_begin = c.requires.may_begin;
-  none_begun = c.requires.none_begun;
   goes = λ s. record { taken = []; split = refl; leads = refl };
 }
 
@@ -160,7 +158,6 @@ loop-found-preserved-in_default g c =
     let comma = c.goes_on.ensures.comma c.if-not-goes_on.false in
     record {
       may_begin = comma_may_begin first next added none with _ _ comma;
-      none_begun = begun_none d _ _ _ c.in_ok-left.ensures.begun (c.goes_on.ensures.less c.if-not-goes_on.false);
       goes = λ s. goes_more (series_next first next added none) _ _ _ _ _ _ (so_far.goes s)
           (comma_goes first next added none with _ _ _ s _ _ _ comma (c.in_ok-left.ensures.goes s));
     }
@@ -177,8 +174,6 @@ loop-found-preserved-in_default-after_member g c =
     let comma = c.goes_on-in_default-after_member.ensures.comma c.if-not-goes_on-2.false in
     record {
       may_begin = comma_may_begin first next added none with _ _ comma;
-      none_begun = begun_none d _ _ _ c.in_ok-left-2.ensures.begun
-          (c.goes_on-in_default-after_member.ensures.less c.if-not-goes_on-2.false);
       goes = λ s. goes_more (series_next first next added none) _ _ _ _ _ _ (so_far.goes s)
           (comma_goes first next added none with _ _ _ s _ _ _ comma (c.in_ok-left-2.ensures.goes s));
     }
@@ -195,17 +190,8 @@ loop-found-preserved g c =
     let comma = c.goes_on-in-loop-found.ensures.comma c.if-not-goes_on-3.false in
     record {
       may_begin = comma_may_begin first next added none with _ _ comma;
-      none_begun = so_far.none_begun;
       goes = λ s. goes_more (series_next first next added none) _ _ _ _ _ _ (so_far.goes s)
           (comma_goes first next added none with _ _ _ s _ _ _ comma (member_taken first next added none with _ _ _ _ s _ _ _ _ _ so_far.may_begin
           (c.in-Some.ensures.whole d _ _ (params_none d _ _ c.new-params.ensures))
           (c.in_ok-add_found.ensures.added c.if-not-branch.false) c.in-Some-after_member.ensures));
     }
-
-pub returns-then-not-goes_on-clause-begun : goal.returns-then-not-goes_on-clause-begun
-returns-then-not-goes_on-clause-begun g c =
-    begun_left c.args.context.now.dialect _ _ _ c.in_ok-left.ensures.begun
-
-pub returns-then-not-goes_on-2-clause-begun : goal.returns-then-not-goes_on-2-clause-begun
-returns-then-not-goes_on-2-clause-begun g c =
-    begun_left c.args.context.now.dialect _ _ _ c.in_ok-left-2.ensures.begun

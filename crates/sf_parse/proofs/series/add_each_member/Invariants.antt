@@ -1,4 +1,4 @@
-use Rattle.std.proofs.Common.{◌≡◌, length, None}
+use Rattle.std.proofs.Common.{length}
 use Rattle.sf_parse.specs.Prefixes.{Goes}
 use Rattle.sf_parse.specs.SeriesView.{series_next, series_of}
 use Rattle.sf_parse.specs.WholeMembers.{MayBegin}
@@ -8,7 +8,6 @@ abbrev pub invariant-loop-found : goal.invariant-loop-found
 invariant-loop-found g l =
     let d = l.context.dialect in record {
       may_begin : MayBegin g.P.SeriesMember.none l.phase l.given;
-      none_begun : l.begun ≡ None;
       goes : (s : g.row.P.Denot) → Goes
           (series_next (g.P.SeriesMember.first d) (g.P.Level.next d) g.P.SeriesMember.added
           g.P.SeriesMember.none)

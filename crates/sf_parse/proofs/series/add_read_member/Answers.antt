@@ -1,6 +1,5 @@
 use Rattle.std.proofs.Common.{refl, []}
 use Rattle.sf_parse.proofs.WholeMembers.{member_taken, taken_so_far}
-use Rattle.sf_parse.proofs.BegunParts.{begun_here}
 use Rattle.sf_parse.proofs.series.add_read_member.Goals as goal
 
 pub returns-in_default-clause-goes : goal.returns-in_default-clause-goes
@@ -34,16 +33,5 @@ returns-clause-goes g c =
     let added = g.P.SeriesMember.added in
     let none = g.P.SeriesMember.none in
     let with = g.P.SeriesMember.with in
-    λ s. member_taken first next added none with _ _ _ _ s _ _ _ _ _ c.requires.may_begin c.in-Some.ensures.whole
+    λ s. member_taken first next added none with _ _ _ _ s _ _ _ _ _ c.requires.may_begin c.in-Some.ensures
     c.in_ok-add.ensures c.in-Some-after_member.ensures
-
-pub returns-in_default-clause-begun : goal.returns-in_default-clause-begun
-returns-in_default-clause-begun g c =
-    begun_here c.args.context.now.dialect _ _ c.in_default.ensures.begun
-
-pub returns-in_default-after_member-clause-begun :
-    goal.returns-in_default-after_member-clause-begun
-returns-in_default-after_member-clause-begun g c = rw c.in-Some.ensures.none tt
-
-pub returns-clause-begun : goal.returns-clause-begun
-returns-clause-begun g c = rw c.in-Some.ensures.none tt

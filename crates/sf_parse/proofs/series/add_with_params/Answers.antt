@@ -1,9 +1,7 @@
-use Rattle.std.proofs.Common.{refl, [], ◌∷◌}
+use Rattle.std.proofs.Common.{refl, []}
 use Rattle.sf_parse.proofs.WholeMembers.{member_taken, taken_so_far, kept_so_far}
 use Rattle.sf_parse.proofs.WholeMembers.{not_free}
 use Rattle.sf_parse.proofs.Prefixes.{never}
-use Rattle.sf_parse.proofs.BegunParts.{begun_after, begun_here}
-use Rattle.sf_parse.proofs.WholeParts.{params_none}
 use Rattle.sf_parse.proofs.series.add_with_params.Goals as goal
 
 pub returns-in_default-clause-goes : goal.returns-in_default-clause-goes
@@ -40,14 +38,6 @@ returns-clause-goes g c =
     λ s. member_taken first next added none with _ _ _ _ s _ _ _ _ _ c.requires.may_begin
     (c.requires.whole _ _ c.read_params-rest.ensures) (c.in_ok-add_found.ensures.added c.if-not-branch.false)
     c.in-Some.ensures
-
-pub returns-in_default-clause-begun : goal.returns-in_default-clause-begun
-returns-in_default-clause-begun g c =
-    let d = c.args.context.now.dialect in
-    let none = c.requires.whole [] _ (params_none d [] _ refl) in
-    begun_here d _ _
-    (begun_after d _ (none.byte ∷ none.more) _ _ _ none.split _ c.keep_params.ensures
-    c.read_params-rest.ensures)
 
 pub returns-in_err-add_found-clause-allocation_free :
     goal.returns-in_err-add_found-clause-allocation_free

@@ -1,6 +1,6 @@
 use Rattle.sf_value.specs.Grammar.Items.{item}
 use Rattle.sf_parse.specs.Leaves.{leaf_bare}
-use Rattle.sf_parse.proofs.WholeParts.{item_whole, params_none, adds_taken, takes_found}
+use Rattle.sf_parse.proofs.WholeParts.{item_whole, params_none, takes_found}
 use Rattle.sf_parse.proofs.whole_parts.push_item.Goals as goal
 
 pub returns-then-is_some-clause-takes : goal.returns-then-is_some-clause-takes
@@ -10,9 +10,7 @@ returns-then-is_some-clause-takes c =
 
 pub returns-clause-takes : goal.returns-clause-takes
 returns-clause-takes c =
-    let d = c.args.context.now.dialect in
-    adds_taken d _ _ _ _
-    (record {
+    let d = c.args.context.now.dialect in record {
       item = item (leaf_bare c.in-Some.leaf) c.new-params.result;
       rest = c.in-Some.after.now;
       reads =
@@ -20,4 +18,4 @@ returns-clause-takes c =
           (params_none d _ _ c.new-params.ensures);
       added = c.in-Ok-true.ensures.added c.in-Ok-true.field-0-test;
       behind = c.in_ok-end.ensures;
-    })
+    }

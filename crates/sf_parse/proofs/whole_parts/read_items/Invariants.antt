@@ -1,20 +1,13 @@
 use Rattle.std.proofs.Common.{ℕ, List, length}
 use Rattle.sf_value.specs.declared.value.Item.{Item}
-use Rattle.sf_parse.specs.Machine.Inners.{BetweenItems}
-use Rattle.sf_parse.specs.Machine.Members.{InMany, member_step}
-use Rattle.sf_parse.specs.Prefixes.{Goes}
 use Rattle.sf_parse.specs.WholeParts.{ReadsItems}
 use Rattle.sf_parse.proofs.whole_parts.read_items.Given as goal
 
--- whatever Items the rest begins with, the text begins with those added and these; and the machine
--- goes to the rest
+-- whatever Items the rest begins with, the text begins with those added and these
 abbrev pub invariant-loop-left : goal.invariant-loop-left
-invariant-loop-left l = record {
-  reads : (all : List Item) (s : List ℕ) → ReadsItems l.context.dialect 0 l.rest l.items all s
-      → ReadsItems l.context.dialect 0 l.text l.initial.items all s;
-  goes : Goes (member_step l.context.dialect) (InMany (BetweenItems l.initial.items)) l.text l.rest
-      (InMany (BetweenItems l.items));
-}
+invariant-loop-left l = (all : List Item) (s : List ℕ)
+    → ReadsItems l.context.dialect 0 l.rest l.items all s
+    → ReadsItems l.context.dialect 0 l.text l.initial.items all s
 
 abbrev pub decreases-loop-left : goal.decreases-loop-left
 decreases-loop-left l = length l.rest

@@ -1,7 +1,7 @@
 use Rattle.std.proofs.Common.{length}
 use Rattle.sf_value.specs.Grammar.Strings.{is_unescaped}
 use Rattle.sf_scan.specs.Scans.{PastEscaped}
-use Rattle.sf_scan.specs.Stops.{Lacks}
+use Rattle.sf_value.specs.Runs.{Lacks}
 use Rattle.sf_scan.proofs.bare.after_escapes.Given as goal
 
 abbrev pub invariant-loop-escape : goal.invariant-loop-escape

@@ -11,9 +11,9 @@ use Rattle.sf_scan.proofs.bare.string.Goals as goal
 
 pub returns-in-Some : goal.returns-in-Some
 returns-in-Some c = λ d.
-    let r = c.short_run.ensures in
+    let r = c.long_prefix.ensures in
     string_read d _ _ _ _ (visible_run _ r.every)
-    (r.whole ∙ (ap (λ x. c.short_run.result.0.now ++ x) c.in-Some.ensures
+    (r.whole ∙ (ap (λ x. c.long_prefix.result.0.now ++ x) c.in-Some.ensures
     ∙ ap (λ x. x ++ quote ∷ c.in-Some.rest.now) (sym (escaped_run _ r.every)))) refl refl
 
 pub returns-in_err-left : goal.returns-in_err-left
@@ -21,13 +21,13 @@ returns-in_err-left c = λ d. let s = c.in_err-left.ensures in
     let p = err_from_is_err_and c.from_residual.result c.from_residual.ensures.1 in
     rw (p.1, p.2) (string_escape d _ s.past.bytes _ s.past.visible s.past.split s.no_escaped s.place)
 
-pub returns-in_default-strip : goal.returns-in_default-strip
-returns-in_default-strip c = λ d. let s = c.in_ok-left.ensures in
+pub returns-in_default-strip_byte : goal.returns-in_default-strip_byte
+returns-in_default-strip_byte c = λ d. let s = c.in_ok-left.ensures in
     string_open d _ s.past.bytes _ s.past.visible s.past.split s.no_byte
-    c.in_default-strip.ensures (no_escape_left _ s.no_escape) refl
+    c.in_default-strip_byte.ensures (no_escape_left _ s.no_escape) refl
 
 pub returns : goal.returns
 returns c = λ d. let s = c.in_ok-left.ensures in
     string_read d _ s.past.bytes _ _ s.past.visible
-    (s.past.split ∙ ap (λ x. escaped s.past.bytes ++ x) c.in-Some-strip.ensures) refl
+    (s.past.split ∙ ap (λ x. escaped s.past.bytes ++ x) c.in-Some-strip_byte.ensures) refl
     (ap bare.Text (ap unescaped (c.split_at.ensures.front ∙ front_before _ _ _ s.past.split) ∙ unescaped_escaped s.past.bytes))

@@ -6,9 +6,9 @@ use Rattle.sf_scan.proofs.bare.token.Goals as goal
 
 pub returns : goal.returns
 returns c = λ d.
-    let r = c.short_run.ensures in
+    let r = c.long_prefix.ensures in
     let b = c.requires.0 in
-    token_read d b c.short_run.result.0.now _ c.split_at.result.0.now _ _ c.requires.2 r.every
+    token_read d b c.long_prefix.result.0.now _ c.split_at.result.0.now _ _ c.requires.2 r.every
     (c.requires.1 ∙ ap (λ x. b ∷ x) r.whole) r.longest refl
-    (ap bare.Token (c.split_at.ensures.front ∙ front_of _ (b ∷ c.short_run.result.0.now) _ _
+    (ap bare.Token (c.split_at.ensures.front ∙ front_of _ (b ∷ c.long_prefix.result.0.now) _ _
     (c.requires.1 ∙ ap (λ x. b ∷ x) r.whole) (omega arith)))

@@ -4,7 +4,7 @@ use Rattle.sf_scan.proofs.byte_sequence.byte_sequence.Goals as goal
 
 pub loop-more-init : goal.loop-more-init
 loop-more-init c =
-    let r = c.characters.ensures in
+    let r = c.long_prefix.ensures in
     reached_run _ _ _ _ r.whole r.every r.longest c.after_characters-place.ensures
 
 pub loop-more-preserved : goal.loop-more-preserved

@@ -12,18 +12,18 @@ loop-escape-init c = reached_first _ _ c.after_unencoded-left.ensures
 
 pub loop-escape-preserved : goal.loop-escape-preserved
 loop-escape-preserved c =
-    reached_more _ _ _ _ _ _ _ c.loop-escape.invariant c.in-Some-strip.ensures c.in_ok-next.ensures
-    c.after_unencoded-left-in-Some-strip.ensures
+    reached_more _ _ _ _ _ _ _ c.loop-escape.invariant c.in-Some-strip_byte.ensures c.in_ok-next.ensures
+    c.after_unencoded-left-in-Some-strip_byte.ensures
 
 pub returns-in_err-next : goal.returns-in_err-next
 returns-in_err-next c = λ d e.
     let p = err_from_is_err_and c.from_residual.result c.from_residual.ensures.1 in
     rw (p.1, p.2) (refused_escape d e _ _ _ _ _ _ c.in-Some.ensures c.loop-escape.invariant
-    c.in-Some-strip.ensures c.in_err-next.ensures)
+    c.in-Some-strip_byte.ensures c.in_err-next.ensures)
 
 pub returns-in_default-after_quote : goal.returns-in_default-after_quote
 returns-in_default-after_quote c = λ d e.
-    refused_between d e _ _ _ _ c.in-Some.ensures c.loop-escape.invariant c.in_default-strip.ensures
+    refused_between d e _ _ _ _ c.in-Some.ensures c.loop-escape.invariant c.in_default-strip_byte.ensures
     c.in_default-after_quote.ensures refl
 
 pub returns : goal.returns

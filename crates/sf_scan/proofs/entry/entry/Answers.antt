@@ -26,7 +26,7 @@ returns-in-Ok-clause-scans g c =
     record {
       value = (c.in-Some.key.now, m.value);
       reads = (value_lifts d (bare_apart d) (leaf_member_apart d) (leaf_member_some d) _ _
-          _ k.0 k.1 k.2 _ c.in-Some-strip.ensures).reads _ _ _ m.reads;
+          _ k.0 k.1 k.2 _ c.in-Some-strip_byte.ensures).reads _ _ _ m.reads;
       made = m.made
           ∙ ap (λ z. made_member g.M.Builder.bare g.M.Maker.with g.M.Builder.opened
           g.M.Builder.closed z m.value) c.in_default-key.ensures;
@@ -40,18 +40,18 @@ returns-in-Err-Refused-clause-scans g c =
     let m = rw c.in-Err-Refused.field-0-is at c.in-Err-Refused.ensures.scans in
     record {
       refuses = (value_lifts d (bare_apart d) (leaf_member_apart d) (leaf_member_some d)
-          _ _ _ k.0 k.1 k.2 _ c.in-Some-strip.ensures).refuses _ _ m.refuses;
+          _ _ _ k.0 k.1 k.2 _ c.in-Some-strip_byte.ensures).refuses _ _ m.refuses;
       open_still = m.open_still;
     }
 
-pub returns-in_default-strip-2-clause-scans : goal.returns-in_default-strip-2-clause-scans
-returns-in_default-strip-2-clause-scans g c =
+pub returns-in_default-strip_byte-2-clause-scans : goal.returns-in_default-strip_byte-2-clause-scans
+returns-in_default-strip_byte-2-clause-scans g c =
     let d = c.args.dialect in
     let k = c.in-Some.ensures in
     record {
       value = (c.in-Some.key.now, raw_flag []);
       reads = key_alone d (bare_apart d) (leaf_member_apart d) (leaf_member_some d) _ _ _
-          k.0 k.1 k.2 c.in_default-strip.ensures c.in_default-strip-2.ensures;
+          k.0 k.1 k.2 c.in_default-strip_byte.ensures c.in_default-strip_byte-2.ensures;
       made = c.in_default-bare_item.ensures
           ∙ ap (λ z. g.M.Builder.bare z (Boolean true)) c.in_default-key.ensures;
       ended = refl;
@@ -65,7 +65,7 @@ returns-in-Ok-params-clause-scans g c =
     record {
       value = (c.in-Some.key.now, raw_flag m.raw);
       reads = (params_lifts d (bare_apart d) (leaf_member_apart d) (leaf_member_some d) _
-          _ _ k.0 k.1 k.2 _ c.in-Some-strip-2.ensures).reads _ _ _ m.reads;
+          _ _ k.0 k.1 k.2 _ c.in-Some-strip_byte-2.ensures).reads _ _ _ m.reads;
       made = m.made
           ∙ ap (λ z. made_of g.M.Maker.with z m.raw)
           (c.in_default-bare_item.ensures ∙ ap (λ z. g.M.Builder.bare z (Boolean true)) c.in_default-key.ensures);
@@ -79,6 +79,6 @@ returns-in-Err-Refused-params-clause-scans g c =
     let m = rw c.in-Err-Refused-params.field-0-is at c.in-Err-Refused-params.ensures in
     record {
       refuses = (params_lifts d (bare_apart d) (leaf_member_apart d) (leaf_member_some d)
-          _ _ _ k.0 k.1 k.2 _ c.in-Some-strip-2.ensures).refuses _ _ m.refuses;
+          _ _ _ k.0 k.1 k.2 _ c.in-Some-strip_byte-2.ensures).refuses _ _ m.refuses;
       open_still = m.open_still;
     }

@@ -13,12 +13,12 @@ returns-in-Err-clause-scans g c =
     item_refused d (bare_apart d) g.M.Builder.bare g.M.Maker.with _ c.args.maker.now
     c.in-Err.stop.place _ _ r.refuses r.open_still refl refl
 
-pub returns-in_default-strip-clause-scans : goal.returns-in_default-strip-clause-scans
-returns-in_default-strip-clause-scans g c =
+pub returns-in_default-strip_byte-clause-scans : goal.returns-in_default-strip_byte-clause-scans
+returns-in_default-strip_byte-clause-scans g c =
     let d = c.args.dialect in
     let r = c.in-Ok.ensures in
     item_alone d (bare_apart d) g.M.Builder.bare g.M.Maker.with _ _
-    c.in-Ok.found.1.place _ _ _ _ r.reads r.ends c.in_default-strip.ensures refl refl c.in_default.ensures
+    c.in-Ok.found.1.place _ _ _ _ r.reads r.ends c.in_default-strip_byte.ensures refl refl c.in_default.ensures
 
 pub returns-in-Ok-params-clause-scans : goal.returns-in-Ok-params-clause-scans
 returns-in-Ok-params-clause-scans g c =

@@ -5,41 +5,41 @@ use Rattle.sf_scan.proofs.param.next_param.Goals as goal
 
 pub returns-in_default : goal.returns-in_default
 returns-in_default c =
-    let r = c.short_run.ensures in
+    let r = c.short_prefix.ensures in
     record {
       refuses = unnamed c.args.dialect _ _ _ r.whole r.every r.longest c.in_default.ensures;
       open_still = refl;
     }
 
-pub returns-in_default-strip : goal.returns-in_default-strip
-returns-in_default-strip c =
-    let r = c.short_run.ensures in
+pub returns-in_default-strip_byte : goal.returns-in_default-strip_byte
+returns-in_default-strip_byte c =
+    let r = c.short_prefix.ensures in
     let k = c.in-Some.ensures in
     let d = c.args.dialect in
     record {
       reads = reads_key d (some_bare d) _ _ _ _ _ r.whole r.every k.0 k.1 k.2
-          c.in_default-strip.ensures;
+          c.in_default-strip_byte.ensures;
       ends = refl;
     }
 
 pub returns-in-Ok : goal.returns-in-Ok
 returns-in-Ok c =
-    let r = c.short_run.ensures in
+    let r = c.short_prefix.ensures in
     let k = c.in-Some.ensures in
     let b = c.in-Ok.ensures in
     record {
       reads = reads_value c.args.dialect _ _ _ _ _ _ _ _ _ r.whole r.every k.0 k.1
-          c.in-Some-strip.ensures b.reads;
+          c.in-Some-strip_byte.ensures b.reads;
       ends = b.ends;
     }
 
 pub returns-in-Err : goal.returns-in-Err
 returns-in-Err c =
-    let r = c.short_run.ensures in
+    let r = c.short_prefix.ensures in
     let k = c.in-Some.ensures in
     let b = c.in-Err.ensures in
     record {
       refuses = refuses_value c.args.dialect _ _ _ _ _ _ _ _ r.whole r.every k.0 k.1
-          c.in-Some-strip.ensures b.refuses;
+          c.in-Some-strip_byte.ensures b.refuses;
       open_still = b.open_still;
     }

@@ -3,7 +3,7 @@ use Rattle.sf_value.specs.declared.value.Bare.{Bare}
 use Rattle.sf_value.specs.Grammar.Pairs.{Pairs}
 use Rattle.sf_scan.specs.Makers.{made_of}
 use Rattle.sf_scan.specs.Places.{in_param, ends_params}
-use Rattle.sf_scan.specs.Stops.{Lacks}
+use Rattle.sf_value.specs.Runs.{Lacks}
 use Rattle.sf_scan.proofs.Raws.{Whole}
 use Rattle.sf_scan.proofs.param.params.Given as goal
 

@@ -1,7 +1,7 @@
 use Rattle.std.proofs.Common.{◌≡◌, take, length, sym, subst, arith}
 use Rattle.std.proofs.lemmas.List.{length-take-le, take-take}
 use Rattle.sf_value.specs.Grammar.Words.{Every}
-use Rattle.sf_value.proofs.Runs.{every_block}
+use Rattle.sf_value.proofs.Runs.{every_block, lacks_within, lacks_after}
 use Rattle.sf_value.proofs.classes.long_run.Goals as goal
 
 pub slice_bounds-lanes_run-end : goal.slice_bounds-lanes_run-end
@@ -30,3 +30,12 @@ returns-clause-every g c =
     every_block g.C.ByteClass.test c.args.text.now 48 _
     (subst (λ n. Every g.C.ByteClass.test (take n c.args.text.now)) all near)
     c.far_run.ensures.every
+
+pub returns-then-run-lt-NEAR-clause-longest : goal.returns-then-run-lt-NEAR-clause-longest
+returns-then-run-lt-NEAR-clause-longest g c =
+    lacks_within g.C.ByteClass.test c.lanes_run-run.result 48 c.args.text.now
+    (let h = c.if-run-lt-NEAR.true in omega arith) c.lanes_run-run.ensures.longest
+
+pub returns-clause-longest : goal.returns-clause-longest
+returns-clause-longest g c =
+    lacks_after g.C.ByteClass.test c.far_run.result 48 c.args.text.now c.far_run.ensures.longest

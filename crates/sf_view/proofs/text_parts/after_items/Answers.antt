@@ -1,4 +1,4 @@
-use Rattle.sf_view.proofs.Scanned.{each_some}
+use Rattle.sf_view.proofs.Scanned.{each_match}
 use Rattle.sf_view.proofs.ReadParts.{items_after, items_apart, items_end, items_then}
 use Rattle.sf_view.proofs.text_parts.after_items.Goals as goal
 
@@ -10,7 +10,7 @@ returns-in-Some c = c.loop-left.invariant _ (items_end _ 0 _ _ c.in-Some.ensures
 
 pub returns-in_default-strip_byte : goal.returns-in_default-strip_byte
 returns-in_default-strip_byte c =
-    each_some
+    each_match _
     (λ rest e.
     c.loop-left.invariant _
     (items_then _ _ _ _ c.in_ok-after.ensures (items_end _ 1 _ _ e)))

@@ -1,9 +1,7 @@
 use Rattle.std.proofs.Common.{◌≡◌, refl, false}
 use Rattle.sf_parse.specs.Machine.Series.{InMember}
 use Rattle.sf_parse.specs.SeriesView.{series_next, series_of}
-use Rattle.sf_parse.specs.AllocationFree.{SeriesFree}
-use Rattle.sf_parse.specs.StaysFree.{series_keeps}
-use Rattle.sf_parse.proofs.Prefixes.{part_above, each_ok, goes_more, free_goes}
+use Rattle.sf_parse.proofs.Prefixes.{part_above, each_ok}
 use Rattle.sf_parse.proofs.SeriesSteps.{member_goes_on}
 use Rattle.sf_parse.proofs.WholeMembers.{none_taken}
 use Rattle.sf_parse.proofs.series.SeriesReader.take_members.Goals.{in-Begin, in-Comma}
@@ -19,10 +17,10 @@ returns-in-InMember-clause-goes g c =
     let given = c.self.inside.given in
     rw (← c.self.view_is, c.in-InMember.is)
     (part_above next (series_next first next added none) (InMember given)
-    (member_goes_on first next added none given) _ _ _ _ _ _ refl c.take_by_bytes.ensures.prefix)
+    (member_goes_on first next added none given) _ _ _ _ _ _ refl c.take.ensures.prefix)
 
-pub returns-in-None-clause-goes : goal.returns-in-None-clause-goes
-returns-in-None-clause-goes g c =
+pub returns-clause-goes : goal.returns-clause-goes
+returns-clause-goes g c =
     let d = c.args.context.now.dialect in
     let first = g.P.SeriesMember.first d in
     let next = g.P.Level.next d in
@@ -35,47 +33,7 @@ returns-in-None-clause-goes g c =
       | in-Begin w ↦ rw (w.self-inside-is, w.in-Begin.is) (rw w.in-Begin.is at c.self.view_is)
       | in-Comma w ↦ rw w.self-inside-is c.self.view_is
     ] in
-    let goes = none_taken first next added none with false _ _ before.member _ _ refl
-    (series_of before.phase before.given before.member) (c.in_ok-left.ensures.goes before.member) in
-    rw (← view) goes
-
-pub returns-in-Some-clause-goes : goal.returns-in-Some-clause-goes
-returns-in-Some-clause-goes g c =
-    let d = c.args.context.now.dialect in
-    let first = g.P.SeriesMember.first d in
-    let next = g.P.Level.next d in
-    let added = g.P.SeriesMember.added in
-    let none = g.P.SeriesMember.none in
-    let with = g.P.SeriesMember.with in
-    let before = c.match-self.self-inside in
-    let view : series_of before.phase before.given before.member ≡ c.args.self.now =
-    elim c.match-self.branch [
-      | in-Begin w ↦ rw (w.self-inside-is, w.in-Begin.is) (rw w.in-Begin.is at c.self.view_is)
-      | in-Comma w ↦ rw w.self-inside-is c.self.view_is
-    ] in
-    let goes = none_taken first next added none with false _ _ before.member _ _ refl
-    (series_of before.phase before.given before.member) (c.in_ok-left.ensures.goes before.member) in
     rw (← view)
-    (each_ok (λ rest a. goes_more (series_next first next added none) _ _ _ _ _ _ goes a)
-    c.take_begun_member.result c.take_begun_member.ensures.goes)
-
-pub returns-in-Some-clause-allocation_free : goal.returns-in-Some-clause-allocation_free
-returns-in-Some-clause-allocation_free g c = λ h.
-    let d = c.args.context.now.dialect in
-    let first = g.P.SeriesMember.first d in
-    let next = g.P.Level.next d in
-    let added = g.P.SeriesMember.added in
-    let none = g.P.SeriesMember.none in
-    let with = g.P.SeriesMember.with in
-    let before = c.match-self.self-inside in
-    let view : series_of before.phase before.given before.member ≡ c.args.self.now =
-    elim c.match-self.branch [
-      | in-Begin w ↦ rw (w.self-inside-is, w.in-Begin.is) (rw w.in-Begin.is at c.self.view_is)
-      | in-Comma w ↦ rw w.self-inside-is c.self.view_is
-    ] in
-    let goes = none_taken first next added none with false _ _ before.member _ _ refl
-    (series_of before.phase before.given before.member) (c.in_ok-left.ensures.goes before.member) in
-    let free = rw (← view) at h in
-    c.take_begun_member.ensures.allocation_free
-    (free_goes (series_next first next added none) SeriesFree (series_keeps first next added none)
-    (series_of before.phase before.given before.member) _ _ _ free goes)
+    (each_ok (λ rest t. none_taken first next added none with false _ _ before.member _ _ refl
+    (series_of before.phase before.given before.member) (t before.member))
+    c.add_each_member.result c.add_each_member.ensures.goes)

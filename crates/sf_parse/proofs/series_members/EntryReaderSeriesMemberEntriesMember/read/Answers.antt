@@ -6,8 +6,8 @@ use Rattle.sf_parse.proofs.Machine.Fields.{dict_laws}
 use Rattle.sf_parse.proofs.WholeMembers.{whole_member}
 use Rattle.sf_parse.proofs.series_members.EntryReaderSeriesMemberEntriesMember.read.Goals as goal
 
-pub returns-clause-whole : goal.returns-clause-whole
-returns-clause-whole c =
+pub returns : goal.returns
+returns c =
     let d = c.args.context.now.dialect in
     whole_member (dict_series d) (dict_laws d) with_entry (λ given e. put given e.key e.member) _ _
-    _ _ (λ s given. refl) (λ given. refl) c.in_ok-key.ensures.reads
+    _ _ (λ s given. refl) (λ given. refl) c.in_ok-key.ensures

@@ -6,10 +6,10 @@ use Rattle.sf_parse.proofs.WholeParts.{each_some}
 use Rattle.sf_parse.proofs.WholeMembers.{whole_member}
 use Rattle.sf_parse.proofs.series_members.MemberReaderSeriesMemberSequenceMember.read.Goals as goal
 
-pub returns-clause-whole : goal.returns-clause-whole
-returns-clause-whole c =
+pub returns : goal.returns
+returns c =
     let d = c.args.context.now.dialect in
     each_some
     (λ r h. whole_member (list_series d) (list_laws d) with_member (λ ms m. ms ++ m ∷ []) _ _ _ _
     (λ s given. refl) (λ given. refl) h)
-    c.read_member.result c.read_member.ensures.reads
+    c.read_member.result c.read_member.ensures
