@@ -44,7 +44,7 @@ begun_stops L M into next b text left rest s h e = record {
 
 -- what is read of one is read of the other
 pub begun_scans : (d : Dialect) (L M : List ℕ → Bare → Type 0) (b : ℕ) (more text : List ℕ)
-    (r : Result (Leaf × Stop BarePlace) (Stop BarePlace)) → text ≡ b ∷ more → Continues L (b ∷ [])
+    (r : Result (Stop BarePlace × Leaf) (Stop BarePlace)) → text ≡ b ∷ more → Continues L (b ∷ [])
     → SameTexts (Past (b ∷ []) L) (Past (b ∷ []) M) (λ x. x) → ScansLeaf d L text r
     → ScansLeaf d M text r
 begun_scans d L M b more text (Ok r) e c s h =
@@ -71,7 +71,7 @@ begun_scans d L M b more text (Err stop) e c s h =
 
 -- two languages with the same texts
 pub same_scans : (d : Dialect) (L M : List ℕ → Bare → Type 0) (text : List ℕ)
-    (r : Result (Leaf × Stop BarePlace) (Stop BarePlace)) → SameTexts L M (λ x. x) → ScansLeaf d L text r
+    (r : Result (Stop BarePlace × Leaf) (Stop BarePlace)) → SameTexts L M (λ x. x) → ScansLeaf d L text r
     → ScansLeaf d M text r
 same_scans d L M text (Ok r) s h =
     record { reads = same_reads L M (λ x. x) s _ text _ _ h.reads; ends = h.ends }

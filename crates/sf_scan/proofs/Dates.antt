@@ -133,14 +133,14 @@ at_texts d e = record {
     up t (bare.Date n) h = (e, (t, refl, h))
     up t x h = absurd h
 
-pub date_minus_scans : (d : Dialect) (text more : List ℕ) (r : Result (Leaf × Stop BarePlace) (Stop BarePlace))
+pub date_minus_scans : (d : Dialect) (text more : List ℕ) (r : Result (Stop BarePlace × Leaf) (Stop BarePlace))
     → text ≡ minus ∷ more → ScansLeaf d (DateAfterSign true) more r → ScansLeaf d DateAfterAt text r
 date_minus_scans d text more r e h =
     past_scans d DateAfterAt (minus ∷ []) more text r e
     (same_scans d (DateAfterSign true) _ more r date_minus_texts h)
 
 pub date_digit_scans : (d : Dialect) (text more : List ℕ) (value : ℕ)
-    (r : Result (Leaf × Stop BarePlace) (Stop BarePlace)) → BeginsDigit text value more
+    (r : Result (Stop BarePlace × Leaf) (Stop BarePlace)) → BeginsDigit text value more
     → ScansLeaf d (DateAfterSign false) text r → ScansLeaf d DateAfterAt text r
 date_digit_scans d text more value r g h =
     begun_scans d (DateAfterSign false) DateAfterAt g.0 more text r g.1
@@ -148,7 +148,7 @@ date_digit_scans d text more value r g h =
     (omega arith) (omega arith))
     (date_digit_texts g.0 g.2) h
 
-pub date_scans : (d : Dialect) (text more : List ℕ) (b : ℕ) (r : Result (Leaf × Stop BarePlace) (Stop BarePlace))
+pub date_scans : (d : Dialect) (text more : List ℕ) (b : ℕ) (r : Result (Stop BarePlace × Leaf) (Stop BarePlace))
     → text ≡ b ∷ more → (b == at_sign && is_rfc9651 d) ≡ true → ScansLeaf d DateAfterAt more r
     → ScansLeaf d (SpellsBare d) text r
 date_scans d text more b r e k h =

@@ -249,7 +249,7 @@ point_texts neg w d = record { up = up; down = λ t x h. (x, after_point_of neg 
     up t x h = absurd h
 
 pub point_scans : (d : Dialect) (neg : Bool) (text rest : List ℕ) (run : Digits)
-    (r : Result (Leaf × Stop BarePlace) (Stop BarePlace)) → TakesDigits 15 text run
+    (r : Result (Stop BarePlace × Leaf) (Stop BarePlace)) → TakesDigits 15 text run
     → PastPoint run.count run.left.now rest
     → ScansLeaf d (NumberAfterPoint neg run.value) rest r → ScansLeaf d (NumberAfterSign neg) text r
 point_scans d neg text rest run r t q h =
@@ -336,14 +336,14 @@ digit_texts d b i = record {
   down = λ t x h. (x, number_at_digit d b t x i h (first_byte d b t x h));
 }
 
-pub minus_scans : (d : Dialect) (text more : List ℕ) (r : Result (Leaf × Stop BarePlace) (Stop BarePlace))
+pub minus_scans : (d : Dialect) (text more : List ℕ) (r : Result (Stop BarePlace × Leaf) (Stop BarePlace))
     → text ≡ minus ∷ more → ScansLeaf d (NumberAfterSign true) more r
     → ScansLeaf d (SpellsBare d) text r
 minus_scans d text more r e h =
     past_scans d (SpellsBare d) (minus ∷ []) more text r e
     (same_scans d (NumberAfterSign true) _ more r (minus_texts d) h)
 
-pub digit_scans : (d : Dialect) (text more : List ℕ) (b : ℕ) (r : Result (Leaf × Stop BarePlace) (Stop BarePlace))
+pub digit_scans : (d : Dialect) (text more : List ℕ) (b : ℕ) (r : Result (Stop BarePlace × Leaf) (Stop BarePlace))
     → text ≡ b ∷ more → is_digit b ≡ true → ScansLeaf d (NumberAfterSign false) text r
     → ScansLeaf d (SpellsBare d) text r
 digit_scans d text more b r e i h =

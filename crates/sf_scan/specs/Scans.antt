@@ -3,6 +3,7 @@ use Rattle.std.specs.Prelude.{◌≡◌, ◌==◌, ℕ, true, false, List, ◌�
 use Rattle.sf_value.specs.Ascii.{backslash}
 use Rattle.sf_value.specs.declared.dialect.Dialect.{Dialect}
 use Rattle.sf_value.specs.declared.value.Bare.{Bare}
+use Rattle.sf_value.specs.Grammar.BareItems.{SpellsBare}
 use Rattle.sf_value.specs.Grammar.Classes.{is_visible, is_token_start}
 use Rattle.sf_value.specs.Grammar.Strings.{is_unescaped, is_escaped, escaped}
 use Rattle.sf_value.specs.Grammar.Words.{Every}
@@ -28,9 +29,22 @@ pub record RefusesLeaf (d : Dialect) (L : List ℕ → Bare → Type 0) (text : 
   pub refuses : Refuses L (in_bare d stop.place) text stop.left.now
   pub open_still : ends_bare stop.place ≡ false
 
-abbrev pub ScansLeaf : Dialect → (List ℕ → Bare → Type 0) → List ℕ → Result (Leaf × Stop BarePlace) (Stop BarePlace) → Type 0
-ScansLeaf d L text (Ok r) = ReadsLeaf d L text r.0 r.1
+abbrev pub ScansLeaf : Dialect → (List ℕ → Bare → Type 0) → List ℕ → Result (Stop BarePlace × Leaf) (Stop BarePlace) → Type 0
+ScansLeaf d L text (Ok r) = ReadsLeaf d L text r.1 r.0
 ScansLeaf d L text (Err stop) = RefusesLeaf d L text stop
+
+-- the leaf is the bare item up to the stop, and this was made of it and of the bytes that spell it
+pub record MakesLeaf {M : Type 0} (makes : List ℕ → Leaf → M → Type 0) (d : Dialect)
+    (text : List ℕ) (stop : Stop BarePlace) (made : M)
+    : Type 0 where
+  pub leaf : Leaf
+  pub read : ReadsLeaf d (SpellsBare d) text leaf stop
+  pub made_of : makes (read.reads.stops.prefix) leaf made
+
+abbrev pub ScansBare : {M : Type 0} → (List ℕ → Leaf → M → Type 0) → Dialect → List ℕ
+    → Result (Stop BarePlace × M) (Stop BarePlace) → Type 0
+ScansBare makes d text (Ok r) = MakesLeaf makes d text r.0 r.1
+ScansBare makes d text (Err stop) = RefusesLeaf d (SpellsBare d) text stop
 
 -- the text begins with the bytes of a String, escaped, and the rest
 pub record PastEscaped (text rest : List ℕ) : Type 0 where

@@ -1,10 +1,15 @@
 //! Bare items (RFC 9651 section 4.2.3.1).
-ghost use Rattle.std.specs.Prelude.{◌≡◌, [], ◌∷◌, Ok, MatchResult, MatchOption};
-ghost use Rattle.sf_value.specs.Ascii.{quote, question_mark, colon, percent as percent_sign};
+ghost use Rattle.std.specs.Prelude.{◌≡◌, ◌≢◌, [], ◌∷◌, ◌++◌, ℕ, List, Ok, false, ⊤, MatchResult};
+ghost use Rattle.std.specs.Prelude.{MatchOption};
+ghost use Rattle.sf_value.specs.Ascii.{quote, question_mark, minus, percent as percent_sign};
 ghost use Rattle.sf_value.specs.declared.dialect.Dialect.{Dialect as Which};
-ghost use Rattle.sf_value.specs.Grammar.Strings.{is_escaped};
+ghost use Rattle.sf_value.specs.Grammar.Classes.{is_digit, is_token_start};
+ghost use Rattle.sf_value.specs.Grammar.Strings.{is_escaped, is_unescaped};
 ghost use Rattle.sf_value.specs.Grammar.BareItems.{SpellsBare};
-ghost use Rattle.sf_scan.specs.Scans.{ScansLeaf, Escapes, StopsEscaped, BeginsToken, BeginsEscaped};
+ghost use Rattle.sf_value.specs.Grammar.Words.{Every};
+ghost use Rattle.sf_scan.specs.Scans.{ScansLeaf, ScansBare, Escapes, StopsEscaped, BeginsToken};
+ghost use Rattle.sf_scan.specs.Scans.{BeginsEscaped};
+ghost use Rattle.sf_scan.specs.declared.leaf.Leaf.{Leaf as AnyLeaf};
 ghost use Rattle.sf_scan.specs.Stops.{Past};
 ghost use Rattle.sf_value.specs.Runs.{Lacks};
 
@@ -17,19 +22,55 @@ use crate::place::{BarePlace, Stop};
 use sf_value::classes::{InToken, Unescaped, long_prefix, split, strip_byte};
 use sf_value::{Dialect, can_start_token};
 
-/// The bare item that the text begins with, and where it stops: the longest one that is there. If
-/// there is none, where the text can't go on.
+/// What is made of a bare item where it is found, so that nobody has to tell its type again.
+pub trait Take<'a>: Copy {
+    /// What is made.
+    type Made;
+
+    // Whether it takes the bare item at the start of this text.
+    ghost fits: { Self → List ℕ → Type 0 };
+
+    // Whether this may be made of the leaf, which these bytes spell.
+    ghost makes: { Self → List ℕ → AnyLeaf → Self.Made → Type 0 };
+
+    /// Makes it of a leaf, which these bytes spell.
+    fn take(self, spelled: &'a [u8], leaf: Leaf<'a>) -> Self::Made
+        requires { (rest : List ℕ) × fits self (spelled.now ++ rest) }
+        ensures { makes self spelled.entry.now leaf.entry result };
+}
+
+/// Makes nothing but the leaf.
+#[derive(Clone, Copy)]
+pub struct AsLeaf;
+
+impl<'a> Take<'a> for AsLeaf {
+    type Made = Leaf<'a>;
+
+    ghost fits = { λ t text. ⊤ };
+
+    ghost makes = { λ t spelled leaf made. made ≡ leaf };
+
+    #[inline(always)]
+    fn take(self, _spelled: &'a [u8], leaf: Leaf<'a>) -> Leaf<'a> {
+        leaf
+    }
+}
+
+/// Where the bare item stops that the text begins with, the longest one that is there, and what is
+/// made of it. If there is none, where the text can't go on.
 ///
 /// ```text
-/// bare(Dialect::Rfc9651, b"sugar;q")?; // (Leaf::Token(b"sugar"), stop), stop.left is b";q"
-/// bare(Dialect::Rfc9651, b"1.x"); // Err(stop), stop.left is b"x", and a digit may come there
+/// bare(Dialect::Rfc9651, b"sugar;q", AsLeaf)?; // (stop, Leaf::Token(b"sugar")), stop.left is b";q"
+/// bare(Dialect::Rfc9651, b"1.x", AsLeaf); // Err(stop), stop.left is b"x", where a digit may come
 /// ```
 #[inline(always)]
-pub fn bare(
+pub fn bare<'a, T: Take<'a>>(
     dialect: Dialect,
-    text: &[u8],
-) -> Result<(Leaf<'_>, Stop<'_, BarePlace>), Stop<'_, BarePlace>>
-    ensures { ScansLeaf dialect (SpellsBare dialect) text.now result }
+    text: &'a [u8],
+    take: T,
+) -> Result<(Stop<'a, BarePlace>, T::Made), Stop<'a, BarePlace>>
+    requires { T.fits take text.now }
+    ensures { ScansBare (T.makes take) dialect text.now result }
 {
     let Some((first, more)) = split(text) else {
         return Err(Stop {
@@ -38,10 +79,117 @@ pub fn bare(
         });
     };
     if first == b'"' {
-        return string(more);
+        let (run, left) = long_prefix::<Unescaped>(more);
+        if let Some(rest) = strip_byte(left, b'"') {
+            return made(dialect, text, take, Ok(plain_string(run, rest)));
+        }
+    } else if first.is_ascii_digit() {
+        return made(dialect, text, take, number(false, text));
+    } else if first == b'-' {
+        return made(dialect, text, take, number(true, more));
+    } else if first == b'?' {
+        return made(dialect, text, take, boolean(more));
+    } else if can_start_token(first) {
+        return made(dialect, text, take, Ok(token(text, more)));
     }
-    if first == b'?' {
-        return boolean(more);
+    made(dialect, text, take, other(dialect, text, first, more))
+}
+
+/// What is made of a leaf that was read.
+#[inline(always)]
+fn made<'a, T: Take<'a>>(
+    dialect: Dialect,
+    text: &'a [u8],
+    take: T,
+    outcome: Result<(Stop<'a, BarePlace>, Leaf<'a>), Stop<'a, BarePlace>>,
+) -> Result<(Stop<'a, BarePlace>, T::Made), Stop<'a, BarePlace>>
+    requires fits { T.fits take text.now }
+    requires outcome { ScansLeaf dialect (SpellsBare dialect) text.now outcome }
+    ensures { ScansBare (T.makes take) dialect text.now result }
+{
+    match outcome {
+        Ok((stop, leaf)) => {
+            let (spelled, _) = text.split_at(text.len() - stop.left.len());
+            Ok((stop, take.take(spelled, leaf)))
+        }
+        Err(stop) => Err(stop),
+    }
+}
+
+/// A String without an escape: the bytes between its quotes, and the rest after them.
+#[inline(always)]
+fn plain_string<'a>(run: &'a [u8], rest: &'a [u8]) -> (Stop<'a, BarePlace>, Leaf<'a>)
+    requires { Every is_unescaped run.now }
+    ensures { (d : Which) → ScansLeaf d (SpellsBare d) (quote ∷ run.now ++ quote ∷ rest.now)
+        (Ok result) }
+{
+    let end = Stop {
+        left: rest,
+        place: BarePlace::Complete,
+    };
+    (end, Leaf::Text(run))
+}
+
+/// A Boolean, after its question mark.
+#[inline(always)]
+fn boolean(text: &[u8]) -> Result<(Stop<'_, BarePlace>, Leaf<'_>), Stop<'_, BarePlace>>
+    ensures { (d : Which) → ScansLeaf d (Past (question_mark ∷ []) (SpellsBare d)) text.now result }
+{
+    if let Some(rest) = strip_byte(text, b'0') {
+        let end = Stop {
+            left: rest,
+            place: BarePlace::Complete,
+        };
+        return Ok((end, Leaf::Boolean(false)));
+    }
+    if let Some(rest) = strip_byte(text, b'1') {
+        let end = Stop {
+            left: rest,
+            place: BarePlace::Complete,
+        };
+        return Ok((end, Leaf::Boolean(true)));
+    }
+    Err(Stop {
+        left: text,
+        place: BarePlace::QuestionMark,
+    })
+}
+
+/// The Token that the text begins with; `more` is the text without its first byte.
+#[inline(always)]
+fn token<'a>(text: &'a [u8], more: &'a [u8]) -> (Stop<'a, BarePlace>, Leaf<'a>)
+    requires { BeginsToken text.now more.now }
+    ensures { (d : Which) → ScansLeaf d (SpellsBare d) text.now (Ok result) }
+{
+    let (run, left) = long_prefix::<InToken>(more);
+    let (token, _) = text.split_at(run.len() + 1);
+    let end = Stop {
+        left,
+        place: BarePlace::InToken,
+    };
+    (end, Leaf::Token(token))
+}
+
+/// A bare item that takes a call: a String with an escape, a Byte Sequence, a Display String or a
+/// Date. `first` is the first byte of the text, and `more` are the others. It is not inlined, nor
+/// is what it calls: each call of [`bare`] would pay for clearing their results.
+#[inline(never)]
+fn other<'a>(
+    dialect: Dialect,
+    text: &'a [u8],
+    first: u8,
+    more: &'a [u8],
+) -> Result<(Stop<'a, BarePlace>, Leaf<'a>), Stop<'a, BarePlace>>
+    requires split { text.now ≡ first ∷ more.now }
+    // Neither a number, nor a Boolean, nor a Token begins with this byte.
+    requires digit { is_digit first ≡ false }
+    requires sign { first ≢ minus }
+    requires question { first ≢ question_mark }
+    requires letter { is_token_start first ≡ false }
+    ensures { ScansLeaf dialect (SpellsBare dialect) text.now result }
+{
+    if first == b'"' {
+        return string(more);
     }
     if first == b':' {
         return byte_sequence(more);
@@ -49,17 +197,8 @@ pub fn bare(
     if first == b'%' {
         return percent(dialect, text, more);
     }
-    if first.is_ascii_digit() {
-        return number(false, text);
-    }
-    if first == b'-' {
-        return number(true, more);
-    }
     if can_start_date(dialect, first) {
         return date(more);
-    }
-    if can_start_token(first) {
-        return Ok(token(text, more));
     }
     Err(Stop {
         left: text,
@@ -68,12 +207,12 @@ pub fn bare(
 }
 
 /// What begins with a percent sign; `more` is the text without it.
-#[inline(never)]
+#[inline(always)]
 fn percent<'a>(
     dialect: Dialect,
     text: &'a [u8],
     more: &'a [u8],
-) -> Result<(Leaf<'a>, Stop<'a, BarePlace>), Stop<'a, BarePlace>>
+) -> Result<(Stop<'a, BarePlace>, Leaf<'a>), Stop<'a, BarePlace>>
     requires { text.now ≡ percent_sign ∷ more.now }
     ensures { ScansLeaf dialect (SpellsBare dialect) text.now result }
 {
@@ -86,63 +225,11 @@ fn percent<'a>(
     }
 }
 
-/// A Boolean, after its question mark.
+/// A String that may have escapes, after its opening quote.
 #[inline(always)]
-fn boolean(text: &[u8]) -> Result<(Leaf<'_>, Stop<'_, BarePlace>), Stop<'_, BarePlace>>
-    ensures { (d : Which) → ScansLeaf d (Past (question_mark ∷ []) (SpellsBare d)) text.now result }
-{
-    if let Some(rest) = strip_byte(text, b'0') {
-        let end = Stop {
-            left: rest,
-            place: BarePlace::Complete,
-        };
-        return Ok((Leaf::Boolean(false), end));
-    }
-    if let Some(rest) = strip_byte(text, b'1') {
-        let end = Stop {
-            left: rest,
-            place: BarePlace::Complete,
-        };
-        return Ok((Leaf::Boolean(true), end));
-    }
-    Err(Stop {
-        left: text,
-        place: BarePlace::QuestionMark,
-    })
-}
-
-/// The Token that the text begins with; `more` is the text without its first byte.
-#[inline(always)]
-fn token<'a>(text: &'a [u8], more: &'a [u8]) -> (Leaf<'a>, Stop<'a, BarePlace>)
-    requires { BeginsToken text.now more.now }
-    ensures { (d : Which) → ScansLeaf d (SpellsBare d) text.now (Ok result) }
-{
-    let (run, left) = long_prefix::<InToken>(more);
-    let (token, _) = text.split_at(run.len() + 1);
-    (
-        Leaf::Token(token),
-        Stop {
-            left,
-            place: BarePlace::InToken,
-        },
-    )
-}
-
-/// A String, after its opening quote.
-#[inline(always)]
-fn string(text: &[u8]) -> Result<(Leaf<'_>, Stop<'_, BarePlace>), Stop<'_, BarePlace>>
+fn string(text: &[u8]) -> Result<(Stop<'_, BarePlace>, Leaf<'_>), Stop<'_, BarePlace>>
     ensures { (d : Which) → ScansLeaf d (Past (quote ∷ []) (SpellsBare d)) text.now result }
 {
-    let (run, left) = long_prefix::<Unescaped>(text);
-    if let Some(rest) = strip_byte(left, b'"') {
-        return Ok((
-            Leaf::Text(run),
-            Stop {
-                left: rest,
-                place: BarePlace::Complete,
-            },
-        ));
-    }
     let left = after_escapes(text)?;
     let Some(rest) = strip_byte(left, b'"') else {
         return Err(Stop {
@@ -151,13 +238,11 @@ fn string(text: &[u8]) -> Result<(Leaf<'_>, Stop<'_, BarePlace>), Stop<'_, BareP
         });
     };
     let (inside, _) = text.split_at(text.len() - left.len());
-    Ok((
-        Leaf::Escaped(inside),
-        Stop {
-            left: rest,
-            place: BarePlace::Complete,
-        },
-    ))
+    let end = Stop {
+        left: rest,
+        place: BarePlace::Complete,
+    };
+    Ok((end, Leaf::Escaped(inside)))
 }
 
 /// The rest after the bytes of a String, some of which may be escaped.

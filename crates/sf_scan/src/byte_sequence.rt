@@ -14,7 +14,7 @@ use sf_value::classes::{Base64, long_prefix, strip_byte};
 
 /// A Byte Sequence, after its opening colon.
 #[inline(never)]
-pub fn byte_sequence(text: &[u8]) -> Result<(Leaf<'_>, Stop<'_, BarePlace>), Stop<'_, BarePlace>>
+pub fn byte_sequence(text: &[u8]) -> Result<(Stop<'_, BarePlace>, Leaf<'_>), Stop<'_, BarePlace>>
     ensures { (d : Which) → ScansLeaf d (Past (colon ∷ []) (SpellsBare d)) text.now result }
 {
     let (run, after_run) = long_prefix::<Base64>(text);
@@ -38,11 +38,11 @@ pub fn byte_sequence(text: &[u8]) -> Result<(Leaf<'_>, Stop<'_, BarePlace>), Sto
     };
     let (inside, _) = text.split_at(text.len() - left.len());
     Ok((
-        Leaf::Blob(inside),
         Stop {
             left: rest,
             place: BarePlace::Complete,
         },
+        Leaf::Blob(inside),
     ))
 }
 

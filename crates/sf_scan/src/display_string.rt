@@ -21,7 +21,7 @@ use sf_value::unhex;
 
 /// A Display String, after its percent sign.
 #[inline(never)]
-pub fn display_string(text: &[u8]) -> Result<(Leaf<'_>, Stop<'_, BarePlace>), Stop<'_, BarePlace>>
+pub fn display_string(text: &[u8]) -> Result<(Stop<'_, BarePlace>, Leaf<'_>), Stop<'_, BarePlace>>
     ensures { (d : Which) → is_rfc9651 d ≡ true
         → ScansLeaf d (Past (percent ∷ []) (SpellsBare d)) text.now result }
 {
@@ -46,11 +46,11 @@ pub fn display_string(text: &[u8]) -> Result<(Leaf<'_>, Stop<'_, BarePlace>), St
     };
     let (bytes, _) = inside.split_at(inside.len() - left.len());
     Ok((
-        Leaf::Display(bytes),
         Stop {
             left: rest,
             place: BarePlace::Complete,
         },
+        Leaf::Display(bytes),
     ))
 }
 

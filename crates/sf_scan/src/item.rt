@@ -4,7 +4,7 @@ ghost use Rattle.sf_scan.specs.Items.{SpellsRawItem, made_item, in_item, ends_it
 ghost use Rattle.sf_scan.specs.Outcomes.{Scans, Keeps};
 ghost use Rattle.sf_scan.specs.Sets.{Marks};
 
-use crate::bare::bare;
+use crate::bare::{AsLeaf, bare};
 use crate::builder::Builder;
 use crate::byte_sets::{SEMICOLON, set_if};
 use crate::param::params;
@@ -62,7 +62,7 @@ pub fn item<'a, M: Builder<'a>>(
         (made_item M.bare M.with) text.now maker.old maker.new result }
     ensures kept { Keeps text.now maker.old maker.new result }
 {
-    let (leaf, end) = match bare(dialect, text) {
+    let (end, leaf) = match bare(dialect, text, AsLeaf) {
         Ok(found) => found,
         Err(stop) => {
             return Err(Halt::Refused(Stop {

@@ -31,7 +31,7 @@ struct Digits<'a> {
 pub fn number(
     negative: bool,
     text: &[u8],
-) -> Result<(Leaf<'_>, Stop<'_, BarePlace>), Stop<'_, BarePlace>>
+) -> Result<(Stop<'_, BarePlace>, Leaf<'_>), Stop<'_, BarePlace>>
     ensures { (d : Which) → ScansLeaf d (NumberAfterSign negative) text.now result }
 {
     let whole = leading_digits(text, 15);
@@ -45,7 +45,7 @@ pub fn number(
     if whole.count == 0 {
         return Err(stop);
     }
-    Ok((Leaf::Integer(with_sign(negative, whole.value)), stop))
+    Ok((stop, Leaf::Integer(with_sign(negative, whole.value))))
 }
 
 /// A Decimal after its point; `whole` is the number before it.
@@ -54,7 +54,7 @@ fn fraction(
     negative: bool,
     whole: u64,
     text: &[u8],
-) -> Result<(Leaf<'_>, Stop<'_, BarePlace>), Stop<'_, BarePlace>>
+) -> Result<(Stop<'_, BarePlace>, Leaf<'_>), Stop<'_, BarePlace>>
     requires { whole < 10 ^ 12 }
     ensures { (d : Which) → ScansLeaf d (NumberAfterPoint negative whole) text.now result }
 {
@@ -67,7 +67,7 @@ fn fraction(
         return Err(stop);
     }
     let thousandths = whole * 1000 + fraction.value * scale(fraction.count);
-    Ok((Leaf::Decimal(with_sign(negative, thousandths)), stop))
+    Ok((stop, Leaf::Decimal(with_sign(negative, thousandths))))
 }
 
 /// How many thousandths one unit of the last digit is, with this many digits behind the point.
@@ -86,7 +86,7 @@ fn scale(count: u8) -> u64
 
 /// A Date, after its `@`.
 #[inline(never)]
-pub fn date(text: &[u8]) -> Result<(Leaf<'_>, Stop<'_, BarePlace>), Stop<'_, BarePlace>>
+pub fn date(text: &[u8]) -> Result<(Stop<'_, BarePlace>, Leaf<'_>), Stop<'_, BarePlace>>
     ensures { (d : Which) → ScansLeaf d DateAfterAt text.now result }
 {
     if let Some(rest) = strip_byte(text, b'-') {
@@ -105,7 +105,7 @@ pub fn date(text: &[u8]) -> Result<(Leaf<'_>, Stop<'_, BarePlace>), Stop<'_, Bar
 fn date_digits(
     negative: bool,
     text: &[u8],
-) -> Result<(Leaf<'_>, Stop<'_, BarePlace>), Stop<'_, BarePlace>>
+) -> Result<(Stop<'_, BarePlace>, Leaf<'_>), Stop<'_, BarePlace>>
     ensures { (d : Which) → ScansLeaf d (DateAfterSign negative) text.now result }
 {
     let seconds = leading_digits(text, 15);
@@ -116,7 +116,7 @@ fn date_digits(
     if seconds.count == 0 {
         return Err(stop);
     }
-    Ok((Leaf::Date(with_sign(negative, seconds.value)), stop))
+    Ok((stop, Leaf::Date(with_sign(negative, seconds.value))))
 }
 
 /// The digits that the text begins with, at most this many.

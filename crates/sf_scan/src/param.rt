@@ -6,11 +6,11 @@ ghost use Rattle.sf_scan.specs.Parameters.{ScansParam};
 ghost use Rattle.sf_scan.specs.Makers.{ScansParams};
 ghost use Rattle.sf_value.specs.Runs.{Lacks};
 
-use crate::bare::bare;
+use crate::bare::{AsLeaf, bare};
 use crate::leaf::Leaf;
 use crate::maker::Maker;
 use crate::place::{Halt, ParamPlace, Stop};
-use sf_value::classes::{InKey, Space, short_prefix, split, strip_byte};
+use sf_value::classes::{InKey, Space, any_prefix, short_prefix, split, strip_byte};
 use sf_value::{Dialect, can_start_key};
 
 /// A parameter of a text.
@@ -80,8 +80,8 @@ fn next_param(
             },
         ));
     };
-    match bare(dialect, value) {
-        Ok((leaf, stop)) => {
+    match bare(dialect, value, AsLeaf) {
+        Ok((stop, leaf)) => {
             let end = Stop {
                 left: stop.left,
                 place: ParamPlace::InValue(stop.place),
@@ -105,7 +105,7 @@ pub fn find_key(text: &[u8]) -> Option<(&[u8], &[u8])>
     if !can_start_key(first) {
         return None;
     }
-    let (run, rest) = short_prefix::<InKey>(more);
+    let (run, rest) = any_prefix::<InKey>(more);
     let (key, _) = text.split_at(run.len() + 1);
     Some((key, rest))
 }

@@ -352,6 +352,28 @@ pub fn short_prefix<C: ByteClass>(text: &[u8]) -> (&[u8], &[u8])
     text.split_at(run)
 }
 
+/// As [`long_prefix`], but the first 16 bytes one by one, for runs that are mostly short and may be
+/// long. It does not allocate.
+#[inline]
+pub fn any_prefix<C: LaneClass>(text: &[u8]) -> (&[u8], &[u8])
+    // Together they are the text.
+    ensures whole { text.now ≡ result.0.now ++ result.1.now }
+    // All bytes of the first are of the class.
+    ensures every { Every C.test result.0.now }
+    // The first byte of the second, if there is one, is not.
+    ensures longest { Lacks C.test result.1.now }
+{
+    let near = text.len().min(LANES);
+    let mut run = 0;
+    while run < near && C::has(text[run]) {
+        run += 1;
+    }
+    if run == LANES {
+        run += long_run::<C>(&text[LANES..]);
+    }
+    text.split_at(run)
+}
+
 /// The first byte, and the rest; `None` if there is none. It does not allocate.
 #[inline(always)]
 pub fn split(text: &[u8]) -> Option<(u8, &[u8])>

@@ -2,18 +2,30 @@
 ghost use Rattle.std.specs.Prelude.{◌≡◌, map, not};
 ghost use Rattle.std.specs.Simd.Lanes.{mask_l};
 
-use crate::classes::{Base64, ByteClass, InToken, NoBackslash, UnencodedByte, Unescaped, Visible};
+use crate::classes::{Base64, ByteClass, InKey, InToken, NoBackslash, UnencodedByte};
+use crate::classes::{Unescaped, Visible};
 use std::simd::prelude::*;
 
 /// The number of bytes that are tested at a time.
 pub(crate) const LANES: usize = 16;
 
-/// A class of bytes whose runs are mostly long.
+/// A class of bytes whose runs may be long.
 pub trait LaneClass: ByteClass {
     /// The bytes that are not of the class, as bits of a number, the first as the lowest. It does
     /// not allocate.
     fn outside(bytes: u8x16) -> u64
         ensures { result ≡ mask_l (map (λ b. not (Self.test b)) bytes) };
+}
+
+impl LaneClass for InKey {
+    #[inline(always)]
+    fn outside(bytes: u8x16) -> u64 {
+        let lower = bytes.simd_ge(u8x16::splat(b'a')) & bytes.simd_le(u8x16::splat(b'z'));
+        let digits = bytes.simd_ge(u8x16::splat(b'0')) & bytes.simd_le(u8x16::splat(b'9'));
+        let marks = bytes.simd_ge(u8x16::splat(b'-')) & bytes.simd_le(u8x16::splat(b'.'));
+        let others = bytes.simd_eq(u8x16::splat(b'_')) | bytes.simd_eq(u8x16::splat(b'*'));
+        (!(lower | digits | marks | others)).to_bitmask()
+    }
 }
 
 impl LaneClass for InToken {

@@ -13,27 +13,31 @@ use Rattle.sf_value.specs.Grammar.Parameters.{SpellsRaw}
 use Rattle.sf_value.specs.Grammar.Items.{SpellsItem, item}
 use Rattle.sf_value.specs.Grammar.InnerLists.{SpellsInner, inner}
 use Rattle.sf_value.specs.Grammar.Fields.{flag}
-use Rattle.sf_scan.specs.declared.leaf.Leaf.{Leaf}
+use Rattle.sf_scan.specs.Scans.{MakesLeaf}
+use Rattle.sf_scan.specs.declared.place.BarePlace.{BarePlace}
+use Rattle.sf_scan.specs.declared.place.Stop.{Stop}
 use Rattle.sf_scan.specs.Leaves.{leaf_bare}
 use Rattle.sf_view.specs.declared.view.BareView.{BareView}
 use Rattle.sf_view.specs.declared.view.BareView.TheVariants as view_is
 use Rattle.sf_view.specs.Scans.{Behind}
 use Rattle.sf_view.specs.Views.{IsBorrowed}
-use Rattle.sf_view.specs.Reads.{Reads, TakesLeaf, ReadsBare, ReadsParam, ReadsItems, ReadsMember, ReadsEntry}
+use Rattle.sf_view.specs.Reads.{Reads, ReadsBare, ReadsParam, ReadsItems, ReadsMember, ReadsEntry}
 use Rattle.sf_view.proofs.Inners.{spaces_before, item_before}
 
 -- a bare item that was read
-pub bare_reads : (d : Dialect) (text spelled rest : List ℕ) (leaf : Leaf) (b : BareView)
-    → TakesLeaf d text leaf spelled rest
-    → ((e : Dialect) → SpellsBare e spelled (leaf_bare leaf) → IsBorrowed e b (leaf_bare leaf))
-    → ReadsBare d text b rest
-bare_reads d text spelled rest leaf b t h = record {
-  prefix = spelled;
-  value = leaf_bare leaf;
-  split = t.split;
-  spelled = t.value;
-  borrowed = h d t.value;
-}
+pub bare_reads : (d : Dialect) (text : List ℕ) (stop : Stop BarePlace) (b : BareView)
+    → MakesLeaf (λ spelled l view. (e : Dialect) → SpellsBare e spelled (leaf_bare l)
+    → IsBorrowed e view (leaf_bare l)) d text stop b
+    → ReadsBare d text b stop.left.now
+bare_reads d text stop b m =
+    let r = m.read.reads in
+    record {
+      prefix = r.stops.prefix;
+      value = leaf_bare m.leaf;
+      split = r.stops.split;
+      spelled = r.spelled;
+      borrowed = m.made_of d r.spelled;
+    }
 
 -- a parameter
 pub flag_reads : (d : Dialect) (text named key after : List ℕ) → Behind is_sp text named

@@ -10,34 +10,14 @@ use Rattle.sf_value.specs.declared.value.Bare.TheVariants.{Text, Token}
 use Rattle.sf_value.specs.Grammar.Strings.{escaped, is_escaped}
 use Rattle.sf_value.specs.Grammar.BareItems.{SpellsBare}
 use Rattle.sf_scan.specs.Leaves.{leaf_bare}
-use Rattle.sf_scan.specs.Scans.{ReadsLeaf}
-use Rattle.sf_scan.specs.declared.leaf.Leaf.{Leaf}
+use Rattle.sf_scan.specs.Scans.{MakesLeaf}
 use Rattle.sf_scan.specs.declared.place.BarePlace.{BarePlace}
 use Rattle.sf_scan.specs.declared.place.Stop.{Stop}
 use Rattle.sf_view.specs.declared.bare_part.Part.{Part}
 use Rattle.sf_view.specs.declared.node_types.NodeType.TheVariants as type_is
 use Rattle.sf_view.specs.View.{slice_at, type_of, number_of, DescribesText}
-use Rattle.sf_view.specs.Reads.{TakesLeaf}
 use Rattle.sf_view.specs.Scans.{IsEnd, NumberDescribes, PartDescribes, PartShows, ScansBare}
 use Rattle.sf_view.proofs.Ends.{end_further, end_slice, end_within}
-
--- the text before the stop of a leaf
-pub leaf_taken : (d : Dialect) (text spelled : List ℕ) (n : ℕ) (leaf : Leaf) (stop : Stop BarePlace)
-    → ReadsLeaf d (SpellsBare d) text leaf stop → n ≡ length text - length stop.left.now
-    → spelled ≡ take n text → TakesLeaf d text leaf spelled stop.left.now
-leaf_taken d text spelled n leaf stop r count e =
-    let s = r.reads.stops in
-    let sizes = ap length s.split ∙ length-append s.prefix stop.left.now in
-    let long : n ≡ length s.prefix = omega arith in
-    let same : spelled ≡ s.prefix =
-    e
-    ∙ ap (λ k. take k text) long
-    ∙ ap (take (length s.prefix)) s.split
-    ∙ take-append_seam s.prefix stop.left.now in
-    record {
-      split = s.split ∙ ap (λ t. t ++ stop.left.now) (sym same);
-      value = subst (λ t. SpellsBare d t (leaf_bare leaf)) (sym same) r.reads.spelled;
-    }
 
 -- a number in any source
 pub number_describes : (d : Dialect) (source : List ℕ) (p : Part) (x : Bare) → NumberDescribes p x
@@ -136,17 +116,19 @@ text_shows bytes spelled whole left p node_type number at size all coded = λ d 
     }
 
 -- a leaf that was read
-pub leaf_scans : (d : Dialect) (whole : ℕ) (text spelled rest : List ℕ) (leaf : Leaf) (p : Part)
-    → TakesLeaf d text leaf spelled rest → PartShows (leaf_bare leaf) spelled whole (length text) p
-    → ScansBare d whole text p rest
-leaf_scans d whole text spelled rest leaf p t s = record {
-  prefix = spelled;
-  value = leaf_bare leaf;
-  split = t.split;
-  spelled = t.value;
-  describes = λ source i w.
-      s d rest source t.value (subst (IsEnd source) t.split i) (ap length (sym t.split)) w;
-}
+pub leaf_scans : (d : Dialect) (whole : ℕ) (text : List ℕ) (stop : Stop BarePlace) (p : Part)
+    → MakesLeaf (λ spelled l part. PartShows (leaf_bare l) spelled whole (length text) part) d text stop p
+    → ScansBare d whole text p stop.left.now
+leaf_scans d whole text stop p m =
+    let r = m.read.reads in
+    record {
+      prefix = r.stops.prefix;
+      value = leaf_bare m.leaf;
+      split = r.stops.split;
+      spelled = r.spelled;
+      describes = λ source i w. m.made_of d stop.left.now source r.spelled
+          (subst (IsEnd source) r.stops.split i) (ap length (sym r.stops.split)) w;
+    }
 
 -- what follows from an answer follows from each
 pub each_some : {A : Type 0} {P Q : A → Type 0} → ((a : A) → P a → Q a) → (o : Option A)

@@ -11,8 +11,6 @@ use Rattle.sf_value.specs.Grammar.BareItems.{SpellsBare}
 use Rattle.sf_value.specs.Grammar.Parameters.{SpellsParam}
 use Rattle.sf_value.specs.Grammar.InnerLists.{SpellsItems, SpellsMember}
 use Rattle.sf_value.specs.Grammar.Fields.{SpellsEntry}
-use Rattle.sf_scan.specs.declared.leaf.Leaf.{Leaf}
-use Rattle.sf_scan.specs.Leaves.{leaf_bare}
 use Rattle.sf_view.specs.declared.view.BareView.{BareView}
 use Rattle.sf_view.specs.declared.view.Slice.{Slice}
 use Rattle.sf_view.specs.View.{DescribesText}
@@ -24,12 +22,6 @@ pub record Reads {X : Type 0} (P : List ℕ → X → Type 0) (text rest : List 
   pub value : X
   pub split : text ≡ prefix ++ rest
   pub spelled : P prefix value
-
--- the start of the text spells the bare item of the leaf
-pub record TakesLeaf (d : Dialect) (text : List ℕ) (leaf : Leaf) (spelled rest : List ℕ)
-    : Type 0 where
-  pub split : text ≡ spelled ++ rest
-  pub value : SpellsBare d spelled (leaf_bare leaf)
 
 -- the start of the text spells a bare item, which is borrowed
 pub record ReadsBare (d : Dialect) (text : List ℕ) (b : BareView) (rest : List ℕ) : Type 0 where

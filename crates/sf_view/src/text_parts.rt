@@ -1,5 +1,5 @@
 //! Parts of a text, read without nodes.
-ghost use Rattle.std.specs.Prelude.{◌∷◌, IfSome};
+ghost use Rattle.std.specs.Prelude.{◌∷◌, ⊤, IfSome};
 ghost use Rattle.sf_value.specs.Ascii.{semicolon};
 ghost use Rattle.sf_value.specs.Grammar.Parameters.{SpellsRaw};
 ghost use Rattle.sf_value.specs.Grammar.Items.{SpellsItem};
@@ -10,9 +10,9 @@ ghost use Rattle.sf_scan.specs.Leaves.{leaf_bare};
 ghost use Rattle.sf_view.specs.Views.{IsBorrowed};
 ghost use Rattle.sf_view.specs.Reads.{Reads, ReadsBare, ReadsParam, ReadsItems, ReadsMember, ReadsEntry};
 
-use crate::bare::read_leaf;
 use crate::classes::{after_spaces, strip_byte};
 use crate::view::{BareView, Slice};
+use sf_scan::bare::{Take, bare};
 use sf_scan::leaf::Leaf;
 use sf_scan::param::find_key;
 use sf_value::Dialect;
@@ -20,13 +20,33 @@ use sf_value::Dialect;
 /// The bare item of a key without a value.
 const TRUE: BareView = BareView::Boolean(true);
 
+/// Makes views of bare items.
+#[derive(Clone, Copy)]
+struct ToView;
+
+impl<'a> Take<'a> for ToView {
+    type Made = BareView<'a>;
+
+    ghost fits = { λ t text. ⊤ };
+
+    ghost makes = { λ t spelled leaf view. (d : Which) → SpellsBare d spelled (leaf_bare leaf)
+        → IsBorrowed d view (leaf_bare leaf) };
+
+    #[inline(always)]
+    fn take(self, spelled: &'a [u8], leaf: Leaf<'a>) -> BareView<'a> {
+        borrowed(leaf, spelled)
+    }
+}
+
 /// A bare item, and the rest.
 #[inline(always)]
 pub(crate) fn read_bare(dialect: Dialect, text: &[u8]) -> Option<(BareView, &[u8])>
     ensures { IfSome result (λ r. ReadsBare dialect text.now r.0 r.1.now) }
 {
-    let (leaf, spelled, rest) = read_leaf(dialect, text)?;
-    Some((borrowed(leaf, spelled), rest))
+    match bare(dialect, text, ToView) {
+        Ok((stop, view)) => Some((view, stop.left)),
+        Err(_) => None,
+    }
 }
 
 /// The bare item of a leaf, given the bytes that spell it.

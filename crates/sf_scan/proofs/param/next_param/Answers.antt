@@ -1,5 +1,5 @@
 use Rattle.std.proofs.Common.{refl}
-use Rattle.sf_scan.proofs.Bares.{some_bare}
+use Rattle.sf_scan.proofs.Bares.{leaf_read, some_bare}
 use Rattle.sf_scan.proofs.Pairs.{unnamed, reads_key, reads_value, refuses_value}
 use Rattle.sf_scan.proofs.param.next_param.Goals as goal
 
@@ -26,7 +26,7 @@ pub returns-in-Ok : goal.returns-in-Ok
 returns-in-Ok c =
     let r = c.short_prefix.ensures in
     let k = c.in-Some.ensures in
-    let b = c.in-Ok.ensures in
+    let b = leaf_read c.args.dialect _ _ c.in-Ok.ensures in
     record {
       reads = reads_value c.args.dialect _ _ _ _ _ _ _ _ _ r.whole r.every k.0 k.1
           c.in-Some-strip_byte.ensures b.reads;
