@@ -1,7 +1,7 @@
 -- The bare items, each with the places in it.
 use Rattle.std.proofs.Common.{◌≡◌, ◌≢◌, ℕ, Bool, true, false, List, [], ◌∷◌, ◌++◌, refl, sym, ap, ◌∙◌}
 use Rattle.std.proofs.Common.{if◌then◌else◌, Result, Ok, Err, ◌==◌, ◌||◌, ◌&&◌, subst, append_assoc}
-use Rattle.std.proofs.Common.{append-nil, arith, eqb-true, take, length, ◌-◌}
+use Rattle.std.proofs.Common.{append-nil, arith, eqb-true}
 use Rattle.sf_value.specs.Ascii.{quote, backslash, question_mark, colon, percent, digit_zero, digit_one}
 use Rattle.sf_value.specs.Ascii.{at_sign}
 use Rattle.sf_value.specs.declared.dialect.Dialect.{Dialect}
@@ -22,7 +22,7 @@ use Rattle.sf_scan.specs.Leaves.{leaf_bare}
 use Rattle.sf_scan.specs.Places.{in_bare, ends_bare, is_bare_start, is_coded_start}
 use Rattle.sf_scan.specs.Stops.{Past, IsFollowed}
 use Rattle.sf_value.specs.Runs.{Lacks, FirstIs}
-use Rattle.sf_scan.specs.Scans.{ReadsLeaf, RefusesLeaf, ScansLeaf, MakesLeaf}
+use Rattle.sf_scan.specs.Scans.{ReadsLeaf, RefusesLeaf, ScansLeaf}
 use Rattle.sf_scan.specs.declared.leaf.Leaf.{Leaf}
 use Rattle.sf_scan.specs.declared.leaf.Leaf.TheVariants as leaf
 use Rattle.sf_scan.specs.declared.place.Stop.{Stop}
@@ -33,7 +33,7 @@ use Rattle.sf_scan.proofs.Escapes.{backslash_first}
 use Rattle.sf_scan.proofs.CodedStarts.{coded_started}
 use Rattle.sf_scan.proofs.Languages.{SameTexts, same_followed, past_followed, past_reads}
 use Rattle.sf_scan.proofs.Languages.{past_refuses}
-use Rattle.sf_scan.proofs.Lists.{heads, tails, cons_nil, every_at, front_before}
+use Rattle.sf_scan.proofs.Lists.{heads, tails, cons_nil, every_at}
 use Rattle.sf_scan.specs.NumberPlaces.{is_signed_start, is_number_start}
 use Rattle.sf_scan.proofs.NumberStarts.{integer_first, decimal_first, integer_some, decimal_some}
 use Rattle.sf_scan.proofs.NumberStarts.{signed_started, date_started}
@@ -446,33 +446,7 @@ pub past_leaf : (d : Dialect) (L : List ℕ → Bare → Type 0) (p text whole :
     → ReadsLeaf d L whole l stop
 past_leaf d L p text whole l stop e h = past_scans d L p text whole (Ok (stop, l)) e h
 
--- a leaf that was kept
-pub leaf_read : (d : Dialect) (text : List ℕ) (r : Stop BarePlace × Leaf)
-    → MakesLeaf (λ spelled leaf made. made ≡ leaf) d text r.0 r.1
-    → ReadsLeaf d (SpellsBare d) text r.1 r.0
-leaf_read d text r h = subst (λ l. ReadsLeaf d (SpellsBare d) text l r.0) (sym h.made_of) h.read
-
--- the bytes before the stop are those that spell the leaf
-pub front_spells : (d : Dialect) (text front : List ℕ) (l : Leaf) (stop : Stop BarePlace)
-    (r : ReadsLeaf d (SpellsBare d) text l stop)
-    → front ≡ take (length text - length stop.left.now) text → front ≡ r.reads.stops.prefix
-front_spells d text front l stop r e = e ∙ front_before _ _ _ r.reads.stops.split
-
-pub leaf_taken : {M : Type 0} (makes : List ℕ → Leaf → M → Type 0) (d : Dialect)
-    (text front : List ℕ) (l : Leaf) (stop : Stop BarePlace) (m : M)
-    → ReadsLeaf d (SpellsBare d) text l stop
-    → front ≡ take (length text - length stop.left.now) text → makes front l m
-    → MakesLeaf makes d text stop m
-leaf_taken makes d text front l stop m r e k = record {
-  leaf = l;
-  read = r;
-  made_of = subst (λ s. makes s l m) (front_spells d text front l stop r e) k;
-}
-
-pub front_fits : (d : Dialect) (fits : List ℕ → Type 0) (text front : List ℕ) (l : Leaf)
-    (stop : Stop BarePlace) → ReadsLeaf d (SpellsBare d) text l stop
-    → front ≡ take (length text - length stop.left.now) text → fits text
-    → fits (front ++ stop.left.now)
-front_fits d fits text front l stop r e k =
-    subst (λ s. fits (s ++ stop.left.now)) (sym (front_spells d text front l stop r e))
-    (subst fits r.reads.stops.split k)
+pub past_refused : (d : Dialect) (L : List ℕ → Bare → Type 0) (p text whole : List ℕ)
+    (stop : Stop BarePlace) → whole ≡ p ++ text → RefusesLeaf d (Past p L) text stop
+    → RefusesLeaf d L whole stop
+past_refused d L p text whole stop e h = past_scans d L p text whole (Err stop) e h

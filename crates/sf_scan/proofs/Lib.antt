@@ -17,6 +17,7 @@ pub mod Beginnings
 pub mod NumberStarts
 pub mod CodedStarts
 pub mod Bares
+pub mod Taken
 pub mod Digits
 pub mod Numbers
 pub mod Dates

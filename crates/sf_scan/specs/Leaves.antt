@@ -5,6 +5,7 @@ use Rattle.sf_value.specs.declared.value.Bare.{Bare}
 use Rattle.sf_value.specs.declared.value.Bare.TheVariants as bare
 use Rattle.sf_scan.specs.Blobs.{blob_bytes}
 use Rattle.sf_scan.specs.DisplayStrings.{shown_bytes}
+use Rattle.sf_scan.specs.declared.number.NumberLeaf.{NumberLeaf}
 use Rattle.sf_scan.specs.declared.leaf.Leaf.{Leaf}
 use Rattle.sf_scan.specs.declared.leaf.Leaf.TheVariants as leaf
 
@@ -25,3 +26,7 @@ leaf_bare (leaf.Escaped t) = bare.Text (unescaped t.now)
 leaf_bare (leaf.Blob t) = bare.Blob (blob_bytes t.now)
 leaf_bare (leaf.Display t) = bare.Shown (shown_bytes t.now)
 leaf_bare (leaf.Boolean b) = bare.Boolean b
+
+-- the leaf of an Integer or a Decimal
+abbrev pub number_leaf : NumberLeaf → Leaf
+number_leaf n = if n.is_decimal then leaf.Decimal n.value else leaf.Integer n.value

@@ -33,6 +33,12 @@ abbrev pub ScansLeaf : Dialect → (List ℕ → Bare → Type 0) → List ℕ �
 ScansLeaf d L text (Ok r) = ReadsLeaf d L text r.1 r.0
 ScansLeaf d L text (Err stop) = RefusesLeaf d L text stop
 
+-- the outcome with the leaf that f gives for what was found
+abbrev pub leaf_outcome : {A : Type 0} → (A → Leaf) → Result (Stop BarePlace × A) (Stop BarePlace)
+    → Result (Stop BarePlace × Leaf) (Stop BarePlace)
+leaf_outcome f (Ok r) = Ok (r.0, f r.1)
+leaf_outcome f (Err stop) = Err stop
+
 -- the leaf is the bare item up to the stop, and this was made of it and of the bytes that spell it
 pub record MakesLeaf {M : Type 0} (makes : List ℕ → Leaf → M → Type 0) (d : Dialect)
     (text : List ℕ) (stop : Stop BarePlace) (made : M)

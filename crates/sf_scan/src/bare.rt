@@ -1,22 +1,23 @@
 //! Bare items (RFC 9651 section 4.2.3.1).
-ghost use Rattle.std.specs.Prelude.{◌≡◌, ◌≢◌, [], ◌∷◌, ◌++◌, ℕ, List, Ok, false, ⊤, MatchResult};
+ghost use Rattle.std.specs.Prelude.{◌≡◌, ◌≢◌, [], ◌∷◌, ◌++◌, ℕ, List, false, ⊤, MatchResult};
 ghost use Rattle.std.specs.Prelude.{MatchOption};
 ghost use Rattle.sf_value.specs.Ascii.{quote, question_mark, minus, percent as percent_sign};
 ghost use Rattle.sf_value.specs.declared.dialect.Dialect.{Dialect as Which};
 ghost use Rattle.sf_value.specs.Grammar.Classes.{is_digit, is_token_start};
-ghost use Rattle.sf_value.specs.Grammar.Strings.{is_escaped, is_unescaped};
+ghost use Rattle.sf_value.specs.Grammar.Strings.{is_escaped};
 ghost use Rattle.sf_value.specs.Grammar.BareItems.{SpellsBare};
-ghost use Rattle.sf_value.specs.Grammar.Words.{Every};
-ghost use Rattle.sf_scan.specs.Scans.{ScansLeaf, ScansBare, Escapes, StopsEscaped, BeginsToken};
-ghost use Rattle.sf_scan.specs.Scans.{BeginsEscaped};
+ghost use Rattle.sf_scan.specs.Leaves.{number_leaf};
+ghost use Rattle.sf_scan.specs.Scans.{ReadsLeaf, ScansLeaf, ScansBare, leaf_outcome};
+ghost use Rattle.sf_scan.specs.Scans.{Escapes, StopsEscaped, BeginsToken, BeginsEscaped};
 ghost use Rattle.sf_scan.specs.declared.leaf.Leaf.{Leaf as AnyLeaf};
+ghost use Rattle.sf_scan.specs.declared.leaf.Leaf.TheVariants as leaf_is;
 ghost use Rattle.sf_scan.specs.Stops.{Past};
 ghost use Rattle.sf_value.specs.Runs.{Lacks};
 
 use crate::byte_sequence::byte_sequence;
 use crate::display_string::display_string;
 use crate::leaf::Leaf;
-use crate::number::{date, number};
+use crate::number::{NumberLeaf, date, number};
 use crate::number_place::can_start_date;
 use crate::place::{BarePlace, Stop};
 use sf_value::classes::{InToken, Unescaped, long_prefix, split, strip_byte};
@@ -33,8 +34,31 @@ pub trait Take<'a>: Copy {
     // Whether this may be made of the leaf, which these bytes spell.
     ghost makes: { Self → List ℕ → AnyLeaf → Self.Made → Type 0 };
 
-    /// Makes it of a leaf, which these bytes spell.
-    fn take(self, spelled: &'a [u8], leaf: Leaf<'a>) -> Self::Made
+    /// Makes it of an Integer.
+    fn integer(self, number: i64) -> Self::Made
+        ensures { (spelled : List ℕ) → makes self spelled (leaf_is.Integer number) result };
+
+    /// Makes it of a Decimal, in thousandths.
+    fn decimal(self, number: i64) -> Self::Made
+        ensures { (spelled : List ℕ) → makes self spelled (leaf_is.Decimal number) result };
+
+    /// Makes it of a Boolean.
+    fn boolean(self, value: bool) -> Self::Made
+        ensures { (spelled : List ℕ) → makes self spelled (leaf_is.Boolean value) result };
+
+    /// Makes it of a Token.
+    fn token(self, bytes: &'a [u8]) -> Self::Made
+        requires { (rest : List ℕ) × fits self (bytes.now ++ rest) }
+        ensures { makes self bytes.entry.now (leaf_is.Token bytes.entry) result };
+
+    /// Makes it of a String without an escape, whose bytes are these.
+    fn text(self, bytes: &'a [u8]) -> Self::Made
+        requires { (rest : List ℕ) × fits self (quote ∷ bytes.now ++ quote ∷ rest) }
+        ensures { makes self (quote ∷ bytes.entry.now ++ quote ∷ []) (leaf_is.Text bytes.entry)
+            result };
+
+    /// Makes it of any leaf, which these bytes spell.
+    fn leaf(self, spelled: &'a [u8], leaf: Leaf<'a>) -> Self::Made
         requires { (rest : List ℕ) × fits self (spelled.now ++ rest) }
         ensures { makes self spelled.entry.now leaf.entry result };
 }
@@ -51,7 +75,32 @@ impl<'a> Take<'a> for AsLeaf {
     ghost makes = { λ t spelled leaf made. made ≡ leaf };
 
     #[inline(always)]
-    fn take(self, _spelled: &'a [u8], leaf: Leaf<'a>) -> Leaf<'a> {
+    fn integer(self, number: i64) -> Leaf<'a> {
+        Leaf::Integer(number)
+    }
+
+    #[inline(always)]
+    fn decimal(self, number: i64) -> Leaf<'a> {
+        Leaf::Decimal(number)
+    }
+
+    #[inline(always)]
+    fn boolean(self, value: bool) -> Leaf<'a> {
+        Leaf::Boolean(value)
+    }
+
+    #[inline(always)]
+    fn token(self, bytes: &'a [u8]) -> Leaf<'a> {
+        Leaf::Token(bytes)
+    }
+
+    #[inline(always)]
+    fn text(self, bytes: &'a [u8]) -> Leaf<'a> {
+        Leaf::Text(bytes)
+    }
+
+    #[inline(always)]
+    fn leaf(self, _spelled: &'a [u8], leaf: Leaf<'a>) -> Leaf<'a> {
         leaf
     }
 }
@@ -81,73 +130,74 @@ pub fn bare<'a, T: Take<'a>>(
     if first == b'"' {
         let (run, left) = long_prefix::<Unescaped>(more);
         if let Some(rest) = strip_byte(left, b'"') {
-            return made(dialect, text, take, Ok(plain_string(run, rest)));
+            let end = Stop {
+                left: rest,
+                place: BarePlace::Complete,
+            };
+            return Ok((end, take.text(run)));
         }
     } else if first.is_ascii_digit() {
-        return made(dialect, text, take, number(false, text));
+        return numbered(take, number(false, text));
     } else if first == b'-' {
-        return made(dialect, text, take, number(true, more));
+        return numbered(take, number(true, more));
     } else if first == b'?' {
-        return made(dialect, text, take, boolean(more));
+        return match boolean(more) {
+            Ok((stop, value)) => Ok((stop, take.boolean(value))),
+            Err(stop) => Err(stop),
+        };
     } else if can_start_token(first) {
-        return made(dialect, text, take, Ok(token(text, more)));
+        let (stop, bytes) = token(text, more);
+        return Ok((stop, take.token(bytes)));
     }
-    made(dialect, text, take, other(dialect, text, first, more))
-}
-
-/// What is made of a leaf that was read.
-#[inline(always)]
-fn made<'a, T: Take<'a>>(
-    dialect: Dialect,
-    text: &'a [u8],
-    take: T,
-    outcome: Result<(Stop<'a, BarePlace>, Leaf<'a>), Stop<'a, BarePlace>>,
-) -> Result<(Stop<'a, BarePlace>, T::Made), Stop<'a, BarePlace>>
-    requires fits { T.fits take text.now }
-    requires outcome { ScansLeaf dialect (SpellsBare dialect) text.now outcome }
-    ensures { ScansBare (T.makes take) dialect text.now result }
-{
-    match outcome {
+    match other(dialect, text, first, more) {
         Ok((stop, leaf)) => {
             let (spelled, _) = text.split_at(text.len() - stop.left.len());
-            Ok((stop, take.take(spelled, leaf)))
+            Ok((stop, take.leaf(spelled, leaf)))
         }
         Err(stop) => Err(stop),
     }
 }
 
-/// A String without an escape: the bytes between its quotes, and the rest after them.
+/// What is made of an Integer or a Decimal.
 #[inline(always)]
-fn plain_string<'a>(run: &'a [u8], rest: &'a [u8]) -> (Stop<'a, BarePlace>, Leaf<'a>)
-    requires { Every is_unescaped run.now }
-    ensures { (d : Which) → ScansLeaf d (SpellsBare d) (quote ∷ run.now ++ quote ∷ rest.now)
-        (Ok result) }
+fn numbered<'a, T: Take<'a>>(
+    take: T,
+    outcome: Result<(Stop<'a, BarePlace>, NumberLeaf), Stop<'a, BarePlace>>,
+) -> Result<(Stop<'a, BarePlace>, T::Made), Stop<'a, BarePlace>>
+    ensures { (d : Which) (text : List ℕ)
+        → ScansLeaf d (SpellsBare d) text (leaf_outcome number_leaf outcome.entry)
+        → ScansBare (T.makes take) d text result }
 {
-    let end = Stop {
-        left: rest,
-        place: BarePlace::Complete,
-    };
-    (end, Leaf::Text(run))
+    match outcome {
+        Ok((stop, number)) => {
+            if number.is_decimal {
+                return Ok((stop, take.decimal(number.value)));
+            }
+            Ok((stop, take.integer(number.value)))
+        }
+        Err(stop) => Err(stop),
+    }
 }
 
 /// A Boolean, after its question mark.
 #[inline(always)]
-fn boolean(text: &[u8]) -> Result<(Stop<'_, BarePlace>, Leaf<'_>), Stop<'_, BarePlace>>
-    ensures { (d : Which) → ScansLeaf d (Past (question_mark ∷ []) (SpellsBare d)) text.now result }
+fn boolean(text: &[u8]) -> Result<(Stop<'_, BarePlace>, bool), Stop<'_, BarePlace>>
+    ensures { (d : Which) → ScansLeaf d (Past (question_mark ∷ []) (SpellsBare d)) text.now
+        (leaf_outcome leaf_is.Boolean result) }
 {
     if let Some(rest) = strip_byte(text, b'0') {
         let end = Stop {
             left: rest,
             place: BarePlace::Complete,
         };
-        return Ok((end, Leaf::Boolean(false)));
+        return Ok((end, false));
     }
     if let Some(rest) = strip_byte(text, b'1') {
         let end = Stop {
             left: rest,
             place: BarePlace::Complete,
         };
-        return Ok((end, Leaf::Boolean(true)));
+        return Ok((end, true));
     }
     Err(Stop {
         left: text,
@@ -157,9 +207,9 @@ fn boolean(text: &[u8]) -> Result<(Stop<'_, BarePlace>, Leaf<'_>), Stop<'_, Bare
 
 /// The Token that the text begins with; `more` is the text without its first byte.
 #[inline(always)]
-fn token<'a>(text: &'a [u8], more: &'a [u8]) -> (Stop<'a, BarePlace>, Leaf<'a>)
+fn token<'a>(text: &'a [u8], more: &'a [u8]) -> (Stop<'a, BarePlace>, &'a [u8])
     requires { BeginsToken text.now more.now }
-    ensures { (d : Which) → ScansLeaf d (SpellsBare d) text.now (Ok result) }
+    ensures { (d : Which) → ReadsLeaf d (SpellsBare d) text.now (leaf_is.Token result.1) result.0 }
 {
     let (run, left) = long_prefix::<InToken>(more);
     let (token, _) = text.split_at(run.len() + 1);
@@ -167,7 +217,7 @@ fn token<'a>(text: &'a [u8], more: &'a [u8]) -> (Stop<'a, BarePlace>, Leaf<'a>)
         left,
         place: BarePlace::InToken,
     };
-    (end, Leaf::Token(token))
+    (end, token)
 }
 
 /// A bare item that takes a call: a String with an escape, a Byte Sequence, a Display String or a

@@ -10,7 +10,7 @@ use crate::byte_sets::{AFTER_MEMBER, OWS, SPACE, set_if};
 use crate::member::{MemberPlace, member};
 use crate::place::{Halt, Stop};
 use sf_value::Dialect;
-use sf_value::classes::{Ows, Space, short_prefix, strip_byte};
+use sf_value::classes::{Ows, short_prefix, spaces, strip_byte};
 
 /// A place in a List.
 #[derive(Clone, Copy)]
@@ -63,7 +63,7 @@ pub fn list<'a, M: Builder<'a>>(
         (made_each (made_member M.bare M.with M.opened M.closed))
         text.now maker.old maker.new result }
 {
-    let (_, start) = short_prefix::<Space>(text);
+    let (_, start) = spaces(text);
     let mut end = match member(dialect, start, maker) {
         Ok(end) => end,
         Err(Halt::Refused(stop)) => {

@@ -7,13 +7,23 @@ ghost use Rattle.sf_value.specs.Grammar.Numbers.{signed};
 ghost use Rattle.sf_scan.specs.NumberPlaces.{is_point_after};
 ghost use Rattle.sf_scan.specs.NumberTexts.{NumberAfterSign, NumberAfterPoint, DateAfterAt};
 ghost use Rattle.sf_scan.specs.NumberTexts.{DateAfterSign, BeginsDigit, TakesDigits, PastPoint};
-ghost use Rattle.sf_scan.specs.Scans.{ScansLeaf};
+ghost use Rattle.sf_scan.specs.Leaves.{number_leaf};
+ghost use Rattle.sf_scan.specs.Scans.{ScansLeaf, leaf_outcome};
 ghost use Rattle.sf_value.specs.Runs.{Lacks};
 
 use crate::leaf::Leaf;
 use crate::number_place::NumberPlace;
 use crate::place::{BarePlace, Stop};
 use sf_value::classes::{split, strip_byte};
+
+/// An Integer or a Decimal.
+#[derive(Clone, Copy)]
+pub struct NumberLeaf {
+    /// The Integer, or the Decimal in thousandths.
+    pub value: i64,
+    /// Whether it is a Decimal.
+    pub is_decimal: bool,
+}
 
 /// Digits that a text begins with.
 #[derive(Clone, Copy)]
@@ -31,8 +41,9 @@ struct Digits<'a> {
 pub fn number(
     negative: bool,
     text: &[u8],
-) -> Result<(Stop<'_, BarePlace>, Leaf<'_>), Stop<'_, BarePlace>>
-    ensures { (d : Which) → ScansLeaf d (NumberAfterSign negative) text.now result }
+) -> Result<(Stop<'_, BarePlace>, NumberLeaf), Stop<'_, BarePlace>>
+    ensures { (d : Which) → ScansLeaf d (NumberAfterSign negative) text.now
+        (leaf_outcome number_leaf result) }
 {
     let whole = leading_digits(text, 15);
     if let Some(rest) = after_point(whole.count, whole.left) {
@@ -45,7 +56,11 @@ pub fn number(
     if whole.count == 0 {
         return Err(stop);
     }
-    Ok((stop, Leaf::Integer(with_sign(negative, whole.value))))
+    let integer = NumberLeaf {
+        value: with_sign(negative, whole.value),
+        is_decimal: false,
+    };
+    Ok((stop, integer))
 }
 
 /// A Decimal after its point; `whole` is the number before it.
@@ -54,9 +69,10 @@ fn fraction(
     negative: bool,
     whole: u64,
     text: &[u8],
-) -> Result<(Stop<'_, BarePlace>, Leaf<'_>), Stop<'_, BarePlace>>
+) -> Result<(Stop<'_, BarePlace>, NumberLeaf), Stop<'_, BarePlace>>
     requires { whole < 10 ^ 12 }
-    ensures { (d : Which) → ScansLeaf d (NumberAfterPoint negative whole) text.now result }
+    ensures { (d : Which) → ScansLeaf d (NumberAfterPoint negative whole) text.now
+        (leaf_outcome number_leaf result) }
 {
     let fraction = leading_digits(text, 3);
     let stop = Stop {
@@ -67,7 +83,11 @@ fn fraction(
         return Err(stop);
     }
     let thousandths = whole * 1000 + fraction.value * scale(fraction.count);
-    Ok((stop, Leaf::Decimal(with_sign(negative, thousandths))))
+    let decimal = NumberLeaf {
+        value: with_sign(negative, thousandths),
+        is_decimal: true,
+    };
+    Ok((stop, decimal))
 }
 
 /// How many thousandths one unit of the last digit is, with this many digits behind the point.

@@ -374,6 +374,38 @@ pub fn any_prefix<C: LaneClass>(text: &[u8]) -> (&[u8], &[u8])
     text.split_at(run)
 }
 
+/// The spaces that the text begins with, and the rest. It does not allocate.
+#[inline(always)]
+pub fn spaces(text: &[u8]) -> (&[u8], &[u8])
+    // Together they are the text.
+    ensures whole { text.now ≡ result.0.now ++ result.1.now }
+    // All bytes of the first are spaces.
+    ensures every { Every is_sp result.0.now }
+    // The first byte of the second, if there is one, is not.
+    ensures longest { Lacks is_sp result.1.now }
+{
+    let run = match text {
+        [b' ', b' ', ..] => many_spaces(text),
+        [b' ', ..] => 1,
+        _ => 0,
+    };
+    text.split_at(run)
+}
+
+/// The number of spaces that the text begins with. It is not inlined: mostly there is one or none,
+/// and the compiler makes the code after a loop dearer.
+#[inline(never)]
+fn many_spaces(text: &[u8]) -> usize
+    ensures within { result ≤ length text.now }
+    // All of these bytes are spaces.
+    ensures every { Every is_sp (take result text.now) }
+    // The next byte, if there is one, is not.
+    ensures longest { Lacks is_sp (drop result text.now) }
+{
+    let (run, _) = short_prefix::<Space>(text);
+    run.len()
+}
+
 /// The first byte, and the rest; `None` if there is none. It does not allocate.
 #[inline(always)]
 pub fn split(text: &[u8]) -> Option<(u8, &[u8])>

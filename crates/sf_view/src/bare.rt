@@ -3,7 +3,8 @@ ghost use Rattle.std.specs.Prelude.{◌≡◌, ◌≤◌, ◌<◌, ◌^◌, leng
 ghost use Rattle.sf_scan.specs.Leaves.{leaf_bare};
 ghost use Rattle.sf_view.specs.Scans.{PartShows, ScansBare};
 
-use crate::bare_part::{Part, part_of};
+use crate::bare_part::{FALSE, Part, TRUE, bytes_of, number_of, part_of};
+use crate::node_types::NodeType;
 use sf_scan::bare::{Take, bare};
 use sf_scan::leaf::Leaf;
 use sf_value::Dialect;
@@ -24,7 +25,33 @@ impl<'a> Take<'a> for ToPart {
         PartShows (leaf_bare leaf) spelled t.whole t.left part };
 
     #[inline(always)]
-    fn take(self, spelled: &'a [u8], leaf: Leaf<'a>) -> Part {
+    fn integer(self, number: i64) -> Part {
+        number_of(NodeType::Integer, number)
+    }
+
+    #[inline(always)]
+    fn decimal(self, number: i64) -> Part {
+        number_of(NodeType::Decimal, number)
+    }
+
+    #[inline(always)]
+    fn boolean(self, value: bool) -> Part {
+        if value { TRUE } else { FALSE }
+    }
+
+    #[inline(always)]
+    fn token(self, bytes: &'a [u8]) -> Part {
+        bytes_of(self.whole, self.left, bytes.len(), NodeType::Token, false)
+    }
+
+    #[inline(always)]
+    fn text(self, bytes: &'a [u8]) -> Part {
+        let after_quote = self.left - 1;
+        bytes_of(self.whole, after_quote, bytes.len(), NodeType::Text, false)
+    }
+
+    #[inline]
+    fn leaf(self, spelled: &'a [u8], leaf: Leaf<'a>) -> Part {
         part_of(leaf, spelled, self.whole, self.left)
     }
 }

@@ -16,9 +16,27 @@ pub(crate) struct Part {
     pub coded: bool,
 }
 
+/// Boolean true.
+pub(crate) const TRUE: Part = Part {
+    number: 1,
+    at: 0,
+    length: 0,
+    node_type: NodeType::Boolean,
+    coded: false,
+};
+
+/// Boolean false.
+pub(crate) const FALSE: Part = Part {
+    number: 0,
+    at: 0,
+    length: 0,
+    node_type: NodeType::Boolean,
+    coded: false,
+};
+
 /// A bare item that is a number.
 #[inline(always)]
-fn number_of(node_type: NodeType, number: i64) -> Part
+pub(crate) fn number_of(node_type: NodeType, number: i64) -> Part
     ensures node_type { result.node_type ≡ node_type }
     ensures number { result.number ≡ number }
     ensures at { result.at ≡ 0 }
@@ -36,7 +54,13 @@ fn number_of(node_type: NodeType, number: i64) -> Part
 
 /// A bare item of the first `size` bytes of the last `left` bytes of a source of `whole` bytes.
 #[inline(always)]
-fn bytes_of(whole: usize, left: usize, size: usize, node_type: NodeType, coded: bool) -> Part
+pub(crate) fn bytes_of(
+    whole: usize,
+    left: usize,
+    size: usize,
+    node_type: NodeType,
+    coded: bool,
+) -> Part
     requires small { whole < 2 ^ 32 }
     requires within { left ≤ whole }
     requires prefix { size ≤ left }
@@ -57,7 +81,7 @@ fn bytes_of(whole: usize, left: usize, size: usize, node_type: NodeType, coded: 
 
 /// The part of a leaf, given the bytes that spell it, which are the first of the last `left` bytes
 /// of a source of `whole` bytes.
-#[inline(always)]
+#[inline]
 pub(crate) fn part_of(leaf: Leaf, spelled: &[u8], whole: usize, left: usize) -> Part
     requires small { whole < 2 ^ 32 }
     requires within { left ≤ whole }
@@ -69,13 +93,9 @@ pub(crate) fn part_of(leaf: Leaf, spelled: &[u8], whole: usize, left: usize) -> 
         Leaf::Integer(number) => number_of(NodeType::Integer, number),
         Leaf::Decimal(number) => number_of(NodeType::Decimal, number),
         Leaf::Date(number) => number_of(NodeType::Date, number),
-        Leaf::Boolean(false) => number_of(NodeType::Boolean, 0),
-        Leaf::Boolean(true) => number_of(NodeType::Boolean, 1),
+        Leaf::Boolean(false) => FALSE,
+        Leaf::Boolean(true) => TRUE,
         Leaf::Token(_) => bytes_of(whole, left, size, NodeType::Token, false),
-        // The value and two quotes are all that was read, so no byte is escaped.
-        Leaf::Text(bytes) if bytes.len() + 2 == size => {
-            bytes_of(whole, left - 1, size - 2, NodeType::Text, false)
-        }
         Leaf::Text(_) | Leaf::Escaped(_) => bytes_of(whole, left, size, NodeType::Text, true),
         Leaf::Blob(_) => bytes_of(whole, left, size, NodeType::Blob, true),
         Leaf::Display(_) => bytes_of(whole, left, size, NodeType::Shown, true),

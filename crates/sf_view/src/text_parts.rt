@@ -33,7 +33,35 @@ impl<'a> Take<'a> for ToView {
         → IsBorrowed d view (leaf_bare leaf) };
 
     #[inline(always)]
-    fn take(self, spelled: &'a [u8], leaf: Leaf<'a>) -> BareView<'a> {
+    fn integer(self, number: i64) -> BareView<'a> {
+        BareView::Integer(number)
+    }
+
+    #[inline(always)]
+    fn decimal(self, number: i64) -> BareView<'a> {
+        BareView::Decimal(number)
+    }
+
+    #[inline(always)]
+    fn boolean(self, value: bool) -> BareView<'a> {
+        BareView::Boolean(value)
+    }
+
+    #[inline(always)]
+    fn token(self, bytes: &'a [u8]) -> BareView<'a> {
+        BareView::Token(bytes)
+    }
+
+    #[inline(always)]
+    fn text(self, bytes: &'a [u8]) -> BareView<'a> {
+        BareView::Text(Slice {
+            bytes,
+            coded: false,
+        })
+    }
+
+    #[inline]
+    fn leaf(self, spelled: &'a [u8], leaf: Leaf<'a>) -> BareView<'a> {
         borrowed(leaf, spelled)
     }
 }
@@ -50,7 +78,7 @@ pub(crate) fn read_bare(dialect: Dialect, text: &[u8]) -> Option<(BareView, &[u8
 }
 
 /// The bare item of a leaf, given the bytes that spell it.
-#[inline(always)]
+#[inline]
 fn borrowed<'a>(leaf: Leaf<'a>, spelled: &'a [u8]) -> BareView<'a>
     ensures { (d : Which) → SpellsBare d spelled.now (leaf_bare leaf.entry)
         → IsBorrowed d result (leaf_bare leaf.entry) }

@@ -1,41 +1,67 @@
-use Rattle.std.proofs.Common.{refl, ap, sym, subst, ◌∙◌, ◌∷◌, ◌++◌, []}
+use Rattle.std.proofs.Common.{refl, ap, sym, ◌∙◌, ◌∷◌, ◌++◌, []}
 use Rattle.sf_value.specs.Ascii.{quote, question_mark}
 use Rattle.sf_value.specs.Grammar.BareItems.{SpellsBare}
-use Rattle.sf_scan.specs.Scans.{ReadsLeaf}
-use Rattle.sf_scan.proofs.Bares.{bare_refused, past_scans, no_byte}
+use Rattle.sf_scan.specs.declared.leaf.Leaf.TheVariants as leaf
+use Rattle.sf_scan.proofs.Bares.{bare_refused, past_refused, past_leaf, no_byte}
 use Rattle.sf_scan.proofs.Numbers.{minus_scans, digit_scans}
+use Rattle.sf_scan.proofs.Taken.{text_taken, token_taken, token_fits, leaf_taken}
 use Rattle.sf_scan.proofs.bare.bare.Goals as goal
 
 pub returns-in_default : goal.returns-in_default
 returns-in_default g c =
     let d = c.args.dialect in bare_refused d _ (no_byte d _ c.in_default.ensures) refl
 
-pub made-requires : goal.made-requires
-made-requires g c κs =
-    let d = c.args.dialect in
+pub returns-in-Some-strip_byte : goal.returns-in-Some-strip_byte
+returns-in-Some-strip_byte g c =
     let r = c.long_prefix.ensures in
-    ((refl, tt), (c.requires, subst (λ t. ReadsLeaf d (SpellsBare d) t c.plain_string.result.1 c.plain_string.result.0)
-    (sym (c.in-Some.ensures ∙ ap (λ x. x ∷ c.in-Some.more.now) c.if-first-eq34.true
-    ∙ ap (λ t. quote ∷ t) (r.whole ∙ ap (λ t. c.long_prefix.result.0.now ++ t) c.in-Some-strip_byte.ensures)))
-    (c.plain_string.ensures d)))
+    text_taken (g.T.Take.makes c.args.take) _ _ _ (leaf.Text c.long_prefix.result.0) _ _ r.every
+    (c.in-Some.ensures ∙ ap (λ x. x ∷ c.in-Some.more.now) c.if-first-eq34.true
+    ∙ ap (λ t. quote ∷ t) (r.whole ∙ ap (λ t. c.long_prefix.result.0.now ++ t) c.in-Some-strip_byte.ensures))
+    refl refl c.text.ensures
 
-pub made-requires-then-is_ascii_digit : goal.made-requires-then-is_ascii_digit
-made-requires-then-is_ascii_digit g c κs =
-    ((refl, tt), (c.requires, digit_scans c.args.dialect _ _ _ _ c.in-Some.ensures (sym c.if-is_ascii_digit.ensures.value)
-    (c.number.ensures c.args.dialect)))
+pub returns-then-is_ascii_digit : goal.returns-then-is_ascii_digit
+returns-then-is_ascii_digit g c =
+    c.numbered.ensures _ _
+    (digit_scans c.args.dialect _ _ _ _ c.in-Some.ensures (sym c.if-is_ascii_digit.ensures.value)
+    (c.number.ensures c.args.dialect))
 
-pub made-requires-then-first-eq45 : goal.made-requires-then-first-eq45
-made-requires-then-first-eq45 g c κs =
-    ((refl, tt), (c.requires, minus_scans c.args.dialect _ _ _
+pub returns-then-first-eq45 : goal.returns-then-first-eq45
+returns-then-first-eq45 g c =
+    c.numbered-then-first-eq45.ensures _ _
+    (minus_scans c.args.dialect _ _ _
     (c.in-Some.ensures ∙ ap (λ x. x ∷ c.in-Some.more.now) c.if-first-eq45.true)
-    (c.number-then-first-eq45.ensures c.args.dialect)))
+    (c.number-then-first-eq45.ensures c.args.dialect))
 
-pub made-requires-then-first-eq63 : goal.made-requires-then-first-eq63
-made-requires-then-first-eq63 g c κs =
+pub returns-in-Ok : goal.returns-in-Ok
+returns-in-Ok g c =
     let d = c.args.dialect in
-    ((refl, tt), (c.requires, past_scans d (SpellsBare d) (question_mark ∷ []) _ _ _
-    (c.in-Some.ensures ∙ ap (λ x. x ∷ c.in-Some.more.now) c.if-first-eq63.true)
-    (c.boolean.ensures d)))
+    record {
+      leaf = leaf.Boolean c.in-Ok.value;
+      read = past_leaf d (SpellsBare d) (question_mark ∷ []) _ _ _ _
+          (c.in-Some.ensures ∙ ap (λ x. x ∷ c.in-Some.more.now) c.if-first-eq63.true)
+          (c.in-Ok.ensures d);
+      made_of = c.boolean-in-Ok.ensures _;
+    }
 
-pub made-requires-then-can_start_token : goal.made-requires-then-can_start_token
-made-requires-then-can_start_token g c κs = ((refl, tt), (c.requires, c.token.ensures c.args.dialect))
+pub returns-in-Err : goal.returns-in-Err
+returns-in-Err g c =
+    let d = c.args.dialect in
+    past_refused d (SpellsBare d) (question_mark ∷ []) _ _ _
+    (c.in-Some.ensures ∙ ap (λ x. x ∷ c.in-Some.more.now) c.if-first-eq63.true) (c.in-Err.ensures d)
+
+pub token-requires-then-can_start_token : goal.token-requires-then-can_start_token
+token-requires-then-can_start_token g c κs =
+    ((refl, tt),
+    (c.token.result.0.left.now,
+    token_fits _ (g.T.Take.fits c.args.take) _ _ _ c.token.result.0
+    (c.token.ensures c.args.dialect) refl c.requires))
+
+pub returns-then-can_start_token : goal.returns-then-can_start_token
+returns-then-can_start_token g c =
+    token_taken (g.T.Take.makes c.args.take) _ _ _ (leaf.Token c.token.result.1) _ _
+    (c.token.ensures c.args.dialect) refl c.token-then-can_start_token.ensures
+
+pub returns-in-Ok-other : goal.returns-in-Ok-other
+returns-in-Ok-other g c =
+    leaf_taken (g.T.Take.makes c.args.take) _ _ _ c.in-Ok-other.leaf _ _ c.in-Ok-other.ensures
+    c.split_at.ensures.front c.leaf.ensures

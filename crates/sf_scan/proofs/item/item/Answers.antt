@@ -1,10 +1,10 @@
 use Rattle.std.proofs.Common.{refl}
 use Rattle.sf_scan.specs.Leaves.{leaf_bare}
-use Rattle.sf_scan.proofs.Bares.{leaf_read}
 use Rattle.sf_scan.proofs.Following.{bare_apart}
 use Rattle.sf_scan.proofs.Items.{item_refused, item_alone, item_with, item_broken}
 use Rattle.sf_scan.proofs.Sequences.{read_some}
 use Rattle.sf_scan.proofs.Starts.{bare_some}
+use Rattle.sf_scan.proofs.Taken.{leaf_read}
 use Rattle.sf_scan.proofs.item.item.Goals as goal
 
 pub returns-in-Err-clause-scans : goal.returns-in-Err-clause-scans

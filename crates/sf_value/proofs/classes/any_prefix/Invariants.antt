@@ -1,4 +1,4 @@
-use Rattle.std.proofs.Common.{length, take, ◌-◌, ◌≤◌}
+use Rattle.std.proofs.Common.{take, ◌-◌, ◌≤◌}
 use Rattle.sf_value.specs.Grammar.Words.{Every}
 use Rattle.sf_value.proofs.classes.any_prefix.Given as goal
 
