@@ -10,7 +10,7 @@ use crate::byte_sets::{SPACE, set_if};
 use crate::item::{ItemPlace, item};
 use crate::place::{BarePlace, Halt, Stop};
 use sf_value::Dialect;
-use sf_value::classes::spaces;
+use sf_value::classes::{Space, few_prefix};
 
 /// A place in a field of one Item.
 #[derive(Clone, Copy)]
@@ -59,7 +59,7 @@ pub fn item_field<'a, M: Builder<'a>>(
     ensures { Scans (SpellsRawField dialect) (in_field dialect) ends_field
         (made_item M.bare M.with) text.now maker.old maker.new result }
 {
-    let (_, start) = spaces(text);
+    let (_, start) = few_prefix::<Space>(text);
     let end = match item(dialect, start, maker) {
         Ok(end) => end,
         Err(Halt::Refused(stop)) => {
@@ -76,7 +76,7 @@ pub fn item_field<'a, M: Builder<'a>>(
         }
         Err(Halt::Fault(fault)) => return Err(Halt::Fault(fault)),
     };
-    let (run, left) = spaces(end.left);
+    let (run, left) = few_prefix::<Space>(end.left);
     if run.is_empty() {
         return Ok(Stop {
             left: end.left,

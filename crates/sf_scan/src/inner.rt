@@ -14,7 +14,7 @@ use crate::item::{ItemPlace, item};
 use crate::param::params;
 use crate::place::{BarePlace, Halt, ParamPlace, Stop};
 use sf_value::Dialect;
-use sf_value::classes::{spaces, strip_byte};
+use sf_value::classes::{Space, few_prefix, strip_byte};
 
 /// A place in an Inner List.
 #[derive(Clone, Copy)]
@@ -98,7 +98,7 @@ fn items<'a, M: Builder<'a>>(
 {
     let mut rest = text;
     loop {
-        let (_, at) = spaces(rest);
+        let (_, at) = few_prefix::<Space>(rest);
         if let Some(after) = strip_byte(at, b')') {
             return Ok(after);
         }

@@ -10,7 +10,7 @@ use crate::byte_sets::{AFTER_MEMBER, OWS, SPACE, set_if};
 use crate::member::{MemberPlace, member};
 use crate::place::{Halt, Stop};
 use sf_value::Dialect;
-use sf_value::classes::{Ows, short_prefix, spaces, strip_byte};
+use sf_value::classes::{Ows, Space, few_prefix, strip_byte};
 
 /// A place in a List.
 #[derive(Clone, Copy)]
@@ -63,7 +63,7 @@ pub fn list<'a, M: Builder<'a>>(
         (made_each (made_member M.bare M.with M.opened M.closed))
         text.now maker.old maker.new result }
 {
-    let (_, start) = spaces(text);
+    let (_, start) = few_prefix::<Space>(text);
     let mut end = match member(dialect, start, maker) {
         Ok(end) => end,
         Err(Halt::Refused(stop)) => {
@@ -81,7 +81,7 @@ pub fn list<'a, M: Builder<'a>>(
         Err(Halt::Fault(fault)) => return Err(Halt::Fault(fault)),
     };
     loop {
-        let (run, at) = short_prefix::<Ows>(end.left);
+        let (run, at) = few_prefix::<Ows>(end.left);
         let Some(more) = strip_byte(at, b',') else {
             if run.is_empty() {
                 return Ok(Stop {
@@ -94,7 +94,7 @@ pub fn list<'a, M: Builder<'a>>(
                 place: ListPlace::Spaces,
             });
         };
-        let (_, due) = short_prefix::<Ows>(more);
+        let (_, due) = few_prefix::<Ows>(more);
         end = match member(dialect, due, maker) {
             Ok(end) => end,
             Err(Halt::Refused(stop)) => {

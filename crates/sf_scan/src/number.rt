@@ -193,10 +193,11 @@ fn after_point(count: u8, text: &[u8]) -> Option<&[u8]>
     ensures { MatchOption result (Lacks (is_point_after count) text.now)
         (λ rest. PastPoint count text.now rest.now) }
 {
+    let rest = strip_byte(text, b'.')?;
     if count == 0 || count > 12 {
         return None;
     }
-    strip_byte(text, b'.')
+    Some(rest)
 }
 
 /// The number with its sign.

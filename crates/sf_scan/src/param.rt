@@ -10,7 +10,7 @@ use crate::bare::{AsLeaf, bare};
 use crate::leaf::Leaf;
 use crate::maker::Maker;
 use crate::place::{Halt, ParamPlace, Stop};
-use sf_value::classes::{InKey, any_prefix, spaces, split, strip_byte};
+use sf_value::classes::{InKey, Space, any_prefix, few_prefix, split, strip_byte};
 use sf_value::{Dialect, can_start_key};
 
 /// A parameter of a text.
@@ -63,7 +63,7 @@ fn next_param(
 ) -> Result<(Param<'_>, Stop<'_, ParamPlace>), Stop<'_, ParamPlace>>
     ensures { ScansParam dialect text.now result }
 {
-    let (_, named) = spaces(text);
+    let (_, named) = few_prefix::<Space>(text);
     let Some((key, after)) = find_key(named) else {
         return Err(Stop {
             left: named,

@@ -374,35 +374,40 @@ pub fn any_prefix<C: LaneClass>(text: &[u8]) -> (&[u8], &[u8])
     text.split_at(run)
 }
 
-/// The spaces that the text begins with, and the rest. It does not allocate.
+/// As [`short_prefix`], for white space, of which there is mostly one byte or none. It does not
+/// allocate.
 #[inline(always)]
-pub fn spaces(text: &[u8]) -> (&[u8], &[u8])
+pub fn few_prefix<C: ByteClass>(text: &[u8]) -> (&[u8], &[u8])
     // Together they are the text.
     ensures whole { text.now ≡ result.0.now ++ result.1.now }
-    // All bytes of the first are spaces.
-    ensures every { Every is_sp result.0.now }
+    // All bytes of the first are of the class.
+    ensures every { Every C.test result.0.now }
     // The first byte of the second, if there is one, is not.
-    ensures longest { Lacks is_sp result.1.now }
+    ensures longest { Lacks C.test result.1.now }
 {
-    let run = match text {
-        [b' ', b' ', ..] => many_spaces(text),
-        [b' ', ..] => 1,
-        _ => 0,
+    let Some((first, more)) = split(text) else {
+        return text.split_at(0);
     };
-    text.split_at(run)
+    if !C::has(first) {
+        return text.split_at(0);
+    }
+    match split(more) {
+        Some((second, _)) if C::has(second) => text.split_at(many::<C>(text)),
+        _ => text.split_at(1),
+    }
 }
 
-/// The number of spaces that the text begins with. It is not inlined: mostly there is one or none,
-/// and the compiler makes the code after a loop dearer.
+/// The number of bytes of the class that the text begins with. It is not inlined: the compiler
+/// makes the code after a loop dearer.
 #[inline(never)]
-fn many_spaces(text: &[u8]) -> usize
+fn many<C: ByteClass>(text: &[u8]) -> usize
     ensures within { result ≤ length text.now }
-    // All of these bytes are spaces.
-    ensures every { Every is_sp (take result text.now) }
+    // All of these bytes are of the class.
+    ensures every { Every C.test (take result text.now) }
     // The next byte, if there is one, is not.
-    ensures longest { Lacks is_sp (drop result text.now) }
+    ensures longest { Lacks C.test (drop result text.now) }
 {
-    let (run, _) = short_prefix::<Space>(text);
+    let (run, _) = short_prefix::<C>(text);
     run.len()
 }
 

@@ -16,7 +16,7 @@ use Rattle.sf_scan.proofs.dict.dict.Goals as goal
 pub loop-more-init : goal.loop-more-init
 loop-more-init g c =
     let d = c.args.dialect in
-    let r = c.spaces.ensures in
+    let r = c.few_prefix.ensures in
     let m = c.in-Ok.ensures.scans in
     record {
       has = first_has (SpellsRawEntry d) (leaf_entry_apart d) (leaf_entry_begun d)
@@ -30,7 +30,7 @@ loop-more-init g c =
 pub returns-then-stop-start : goal.returns-then-stop-start
 returns-then-stop-start g c =
     let d = c.args.dialect in
-    let r = c.spaces.ensures in
+    let r = c.few_prefix.ensures in
     let m = rw c.in-Err-Refused.field-0-is at c.in-Err-Refused.ensures.scans in
     record {
       value = [];
@@ -49,7 +49,7 @@ returns-then-stop-start g c =
 pub returns-in-Err-Refused : goal.returns-in-Err-Refused
 returns-in-Err-Refused g c =
     let d = c.args.dialect in
-    let r = c.spaces.ensures in
+    let r = c.few_prefix.ensures in
     let m = rw c.in-Err-Refused.field-0-is at c.in-Err-Refused.ensures.scans in
     let p = c.in-Err-Refused.stop.place in
     rw c.in-Err-Refused.field-0-is (record {
@@ -68,7 +68,7 @@ pub returns-then-is_empty : goal.returns-then-is_empty
 returns-then-is_empty g c =
     let d = c.args.dialect in
     let i = c.loop-more.invariant in
-    let r = c.short_prefix.ensures in
+    let r = c.few_prefix-in-loop-more.ensures in
     let p = c.loop-more.end.place in
     record {
       value = i.has.into (i.has.member, []);
@@ -90,7 +90,7 @@ pub returns-in_default : goal.returns-in_default
 returns-in_default g c =
     let d = c.args.dialect in
     let i = c.loop-more.invariant in
-    let r = c.short_prefix.ensures in
+    let r = c.few_prefix-in-loop-more.ensures in
     record {
       value = i.has.into (i.has.member, []);
       reads = ends_behind (SpellsRawEntry d) (leaf_entry_apart d) (leaf_entry_begun d)
@@ -107,8 +107,8 @@ pub returns-then-stop-due : goal.returns-then-stop-due
 returns-then-stop-due g c =
     let d = c.args.dialect in
     let i = c.loop-more.invariant in
-    let r = c.short_prefix.ensures in
-    let s = c.short_prefix-in-loop-more.ensures in
+    let r = c.few_prefix-in-loop-more.ensures in
+    let s = c.few_prefix-in-loop-more-2.ensures in
     let m = rw c.in-Err-Refused-entry.field-0-is at c.in-Err-Refused-entry.ensures.scans in
     record {
       refuses = due_refused (SpellsRawEntry d) (leaf_entry_apart d)
@@ -126,8 +126,8 @@ pub returns-in-Err-Refused-entry : goal.returns-in-Err-Refused-entry
 returns-in-Err-Refused-entry g c =
     let d = c.args.dialect in
     let i = c.loop-more.invariant in
-    let r = c.short_prefix.ensures in
-    let s = c.short_prefix-in-loop-more.ensures in
+    let r = c.few_prefix-in-loop-more.ensures in
+    let s = c.few_prefix-in-loop-more-2.ensures in
     let m = rw c.in-Err-Refused-entry.field-0-is at c.in-Err-Refused-entry.ensures.scans in
     let p = c.in-Err-Refused-entry.stop.place in
     rw c.in-Err-Refused-entry.field-0-is (record {
@@ -144,8 +144,8 @@ returns-in-Err-Refused-entry g c =
 
 pub loop-more-smaller : goal.loop-more-smaller
 loop-more-smaller g c =
-    let r = c.short_prefix.ensures in
-    let s = c.short_prefix-in-loop-more.ensures in
+    let r = c.few_prefix-in-loop-more.ensures in
+    let s = c.few_prefix-in-loop-more-2.ensures in
     let m = c.in-Ok-entry.ensures.scans in
     less_after _ _ _ _ _ _ m.reads.stops.prefix _ r.whole c.in-Some.ensures s.whole
     m.reads.stops.split
@@ -154,8 +154,8 @@ pub loop-more-preserved : goal.loop-more-preserved
 loop-more-preserved g c =
     let d = c.args.dialect in
     let i = c.loop-more.invariant in
-    let r = c.short_prefix.ensures in
-    let s = c.short_prefix-in-loop-more.ensures in
+    let r = c.few_prefix-in-loop-more.ensures in
+    let s = c.few_prefix-in-loop-more-2.ensures in
     let m = c.in-Ok-entry.ensures.scans in
     record {
       has = more_has (SpellsRawEntry d) (leaf_entry_apart d) (leaf_entry_begun d)

@@ -16,7 +16,7 @@ use Rattle.sf_scan.proofs.field.item_field.Goals as goal
 pub returns-then-stop-start : goal.returns-then-stop-start
 returns-then-stop-start g c =
     let d = c.args.dialect in
-    let r = c.spaces.ensures in
+    let r = c.few_prefix.ensures in
     let m = rw c.in-Err-Refused.field-0-is at c.in-Err-Refused.ensures.scans in
     let s = item_start d (bare_apart d) (bare_begun d) (in_bare d Start) (bare_start d) in
     record {
@@ -30,7 +30,7 @@ returns-then-stop-start g c =
 pub returns-in-Err-Refused : goal.returns-in-Err-Refused
 returns-in-Err-Refused g c =
     let d = c.args.dialect in
-    let r = c.spaces.ensures in
+    let r = c.few_prefix.ensures in
     let m = rw c.in-Err-Refused.field-0-is at c.in-Err-Refused.ensures.scans in
     let p = c.in-Err-Refused.stop.place in
     record {
@@ -45,8 +45,8 @@ returns-in-Err-Refused g c =
 pub returns-then-is_empty : goal.returns-then-is_empty
 returns-then-is_empty g c =
     let d = c.args.dialect in
-    let r = c.spaces.ensures in
-    let s = c.spaces-2.ensures in
+    let r = c.few_prefix.ensures in
+    let s = c.few_prefix-2.ensures in
     let m = c.in-Ok.ensures.scans in
     let p = c.in-Ok.end.place in
     let z = empty_run _ _ c.is_empty.ensures c.if-is_empty.true in
@@ -56,7 +56,7 @@ returns-then-is_empty g c =
           (λ b. closed_test (in_item d p b) (ends_item p) (is_sp b) m.ended)
           (field_ends (SpellsRawItem d) (item_apart d (bare_apart d))
           (item_begun d (bare_apart d) (bare_begun d)) _ _ _ r.whole r.every _ _ _ m.reads
-          (subst (Lacks is_sp) (sym (s.whole ∙ ap (λ q. q ++ c.spaces-2.result.1.now) z))
+          (subst (Lacks is_sp) (sym (s.whole ∙ ap (λ q. q ++ c.few_prefix-2.result.1.now) z))
           s.longest));
       made = m.made;
       ended = m.ended;
@@ -65,8 +65,8 @@ returns-then-is_empty g c =
 pub returns : goal.returns
 returns g c =
     let d = c.args.dialect in
-    let r = c.spaces.ensures in
-    let s = c.spaces-2.ensures in
+    let r = c.few_prefix.ensures in
+    let s = c.few_prefix-2.ensures in
     let m = c.in-Ok.ensures.scans in
     record {
       value = m.value;

@@ -16,7 +16,7 @@ use Rattle.sf_scan.proofs.list.list.Goals as goal
 pub loop-more-init : goal.loop-more-init
 loop-more-init g c =
     let d = c.args.dialect in
-    let r = c.spaces.ensures in
+    let r = c.few_prefix.ensures in
     let m = c.in-Ok.ensures.scans in
     record {
       has = first_has (SpellsRawMember d) (leaf_member_apart d) (leaf_member_begun d)
@@ -29,7 +29,7 @@ loop-more-init g c =
 pub returns-then-stop-start : goal.returns-then-stop-start
 returns-then-stop-start g c =
     let d = c.args.dialect in
-    let r = c.spaces.ensures in
+    let r = c.few_prefix.ensures in
     let m = rw c.in-Err-Refused.field-0-is at c.in-Err-Refused.ensures.scans in
     record {
       value = [];
@@ -47,7 +47,7 @@ returns-then-stop-start g c =
 pub returns-in-Err-Refused : goal.returns-in-Err-Refused
 returns-in-Err-Refused g c =
     let d = c.args.dialect in
-    let r = c.spaces.ensures in
+    let r = c.few_prefix.ensures in
     let m = rw c.in-Err-Refused.field-0-is at c.in-Err-Refused.ensures.scans in
     let p = c.in-Err-Refused.stop.place in
     rw c.in-Err-Refused.field-0-is (record {
@@ -65,7 +65,7 @@ pub returns-then-is_empty : goal.returns-then-is_empty
 returns-then-is_empty g c =
     let d = c.args.dialect in
     let i = c.loop-more.invariant in
-    let r = c.short_prefix.ensures in
+    let r = c.few_prefix-in-loop-more.ensures in
     let p = c.loop-more.end.place in
     record {
       value = i.has.into (i.has.member, []);
@@ -86,7 +86,7 @@ pub returns-in_default : goal.returns-in_default
 returns-in_default g c =
     let d = c.args.dialect in
     let i = c.loop-more.invariant in
-    let r = c.short_prefix.ensures in
+    let r = c.few_prefix-in-loop-more.ensures in
     record {
       value = i.has.into (i.has.member, []);
       reads = ends_behind (SpellsRawMember d) (leaf_member_apart d) (leaf_member_begun d)
@@ -102,8 +102,8 @@ pub returns-then-stop-due : goal.returns-then-stop-due
 returns-then-stop-due g c =
     let d = c.args.dialect in
     let i = c.loop-more.invariant in
-    let r = c.short_prefix.ensures in
-    let s = c.short_prefix-in-loop-more.ensures in
+    let r = c.few_prefix-in-loop-more.ensures in
+    let s = c.few_prefix-in-loop-more-2.ensures in
     let m = rw c.in-Err-Refused-member.field-0-is at c.in-Err-Refused-member.ensures.scans in
     record {
       refuses = due_refused (SpellsRawMember d) (leaf_member_apart d)
@@ -120,8 +120,8 @@ pub returns-in-Err-Refused-member : goal.returns-in-Err-Refused-member
 returns-in-Err-Refused-member g c =
     let d = c.args.dialect in
     let i = c.loop-more.invariant in
-    let r = c.short_prefix.ensures in
-    let s = c.short_prefix-in-loop-more.ensures in
+    let r = c.few_prefix-in-loop-more.ensures in
+    let s = c.few_prefix-in-loop-more-2.ensures in
     let m = rw c.in-Err-Refused-member.field-0-is at c.in-Err-Refused-member.ensures.scans in
     let p = c.in-Err-Refused-member.stop.place in
     rw c.in-Err-Refused-member.field-0-is (record {
@@ -137,8 +137,8 @@ returns-in-Err-Refused-member g c =
 
 pub loop-more-smaller : goal.loop-more-smaller
 loop-more-smaller g c =
-    let r = c.short_prefix.ensures in
-    let s = c.short_prefix-in-loop-more.ensures in
+    let r = c.few_prefix-in-loop-more.ensures in
+    let s = c.few_prefix-in-loop-more-2.ensures in
     let m = c.in-Ok-member.ensures.scans in
     less_after _ _ _ _ _ _ m.reads.stops.prefix _ r.whole c.in-Some.ensures s.whole
     m.reads.stops.split
@@ -147,8 +147,8 @@ pub loop-more-preserved : goal.loop-more-preserved
 loop-more-preserved g c =
     let d = c.args.dialect in
     let i = c.loop-more.invariant in
-    let r = c.short_prefix.ensures in
-    let s = c.short_prefix-in-loop-more.ensures in
+    let r = c.few_prefix-in-loop-more.ensures in
+    let s = c.few_prefix-in-loop-more-2.ensures in
     let m = c.in-Ok-member.ensures.scans in
     record {
       has = more_has (SpellsRawMember d) (leaf_member_apart d) (leaf_member_begun d)

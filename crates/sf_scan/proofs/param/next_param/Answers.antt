@@ -6,7 +6,7 @@ use Rattle.sf_scan.proofs.param.next_param.Goals as goal
 
 pub returns-in_default : goal.returns-in_default
 returns-in_default c =
-    let r = c.spaces.ensures in
+    let r = c.few_prefix.ensures in
     record {
       refuses = unnamed c.args.dialect _ _ _ r.whole r.every r.longest c.in_default.ensures;
       open_still = refl;
@@ -14,7 +14,7 @@ returns-in_default c =
 
 pub returns-in_default-strip_byte : goal.returns-in_default-strip_byte
 returns-in_default-strip_byte c =
-    let r = c.spaces.ensures in
+    let r = c.few_prefix.ensures in
     let k = c.in-Some.ensures in
     let d = c.args.dialect in
     record {
@@ -25,7 +25,7 @@ returns-in_default-strip_byte c =
 
 pub returns-in-Ok : goal.returns-in-Ok
 returns-in-Ok c =
-    let r = c.spaces.ensures in
+    let r = c.few_prefix.ensures in
     let k = c.in-Some.ensures in
     let b = leaf_read c.args.dialect _ _ c.in-Ok.ensures in
     record {
@@ -36,7 +36,7 @@ returns-in-Ok c =
 
 pub returns-in-Err : goal.returns-in-Err
 returns-in-Err c =
-    let r = c.spaces.ensures in
+    let r = c.few_prefix.ensures in
     let k = c.in-Some.ensures in
     let b = c.in-Err.ensures in
     record {
