@@ -1,6 +1,6 @@
 use Rattle.std.proofs.Common.{refl, []}
 use Rattle.sf_parse.proofs.WholeMembers.{member_taken, taken_so_far}
-use Rattle.sf_parse.proofs.series.add_read_member.Goals as goal
+use Rattle.sf_parse.proofs.series.add_inner.Goals as goal
 
 pub returns-in_default-clause-goes : goal.returns-in_default-clause-goes
 returns-in_default-clause-goes g c =

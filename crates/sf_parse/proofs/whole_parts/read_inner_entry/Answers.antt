@@ -1,5 +1,5 @@
 use Rattle.sf_parse.proofs.WholeParts.{entry_value}
-use Rattle.sf_parse.proofs.whole_parts.read_entry.Goals as goal
+use Rattle.sf_parse.proofs.whole_parts.read_inner_entry.Goals as goal
 
 pub returns : goal.returns
 returns c =

@@ -4,7 +4,7 @@ use Rattle.sf_parse.specs.MemberEnds.{with_entry}
 use Rattle.sf_parse.specs.Machine.Fields.{dict_series}
 use Rattle.sf_parse.proofs.Machine.Fields.{dict_laws}
 use Rattle.sf_parse.proofs.WholeMembers.{whole_member}
-use Rattle.sf_parse.proofs.series_members.EntryReaderSeriesMemberEntriesMember.read.Goals as goal
+use Rattle.sf_parse.proofs.series_members.EntryReaderSeriesMemberEntriesMember.read_inner.Goals as goal
 
 pub returns : goal.returns
 returns c =
