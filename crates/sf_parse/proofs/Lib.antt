@@ -29,8 +29,8 @@ pub mod RunSteps
 pub mod AllocationFreeSteps
 pub mod BlobGroups
 pub mod Blocks
-pub mod FoundBlobs
-pub mod FoundTexts
+pub mod Leaves
+pub mod Decoding
 pub mod Quads
 pub mod HighDigits
 -- Bytes that may follow: masks, tables, runs and their names.

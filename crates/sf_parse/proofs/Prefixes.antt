@@ -2,7 +2,7 @@
 use Rattle.std.specs.Option.{option_map}
 use Rattle.std.proofs.Common.{◌≡◌, ℕ, Bool, true, false, List, [], ◌∷◌, ◌++◌, length}
 use Rattle.std.proofs.Common.{Option, Some, Result, Ok, Err, IfOk, refl, sym, ap, ◌∙◌, subst}
-use Rattle.std.proofs.Common.{arith, append_assoc, append-nil, length-append, ◌≤◌}
+use Rattle.std.proofs.Common.{arith, append_assoc, length-append, ◌≤◌}
 use Rattle.std.specs.Borrow.{Bor}
 use Rattle.sf_value.specs.Grammar.Words.{Every}
 use Rattle.sf_parse.specs.Machine.Language.{run, Steps}

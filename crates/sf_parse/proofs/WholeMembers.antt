@@ -183,14 +183,6 @@ module _ {S X V : Type 0} (first : ℕ → Option S) (next : S → ℕ → Optio
   taken_so_far old chunk rest is_whole p given s a =
       record { state = series_of p given s; goes = a; reached = inl refl }
 
-  pub kept_so_far : (old : SeriesState S V) (chunk rest : List ℕ) (is_whole : Bool)
-      (p : SeriesPhase) (given new : V) (s : S) → new ≡ given
-      → Goes Next old chunk rest (series_of p given s)
-      → TakesMembers Next End is_whole old chunk rest p new s
-  kept_so_far old chunk rest is_whole p given new s e a =
-      taken_so_far old chunk rest is_whole p new s
-      (subst (λ y. Goes Next old chunk rest (series_of p y s)) (sym e) a)
-
   -- a member and what comes after it
   pub member_taken : (p q : SeriesPhase) (given new : V) (s : S) (is_whole : Bool)
       (text after rest : List ℕ) (x : X) → MayBegin none p given → IsWhole text x after

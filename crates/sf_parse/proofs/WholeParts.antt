@@ -1,18 +1,16 @@
 -- Parts that are read whole: their texts by those of their parts.
-use Rattle.std.specs.Option.{option_map}
-use Rattle.std.proofs.Common.{◌≡◌, ℕ, Bool, true, false, List, [], ◌∷◌, ◌++◌, Option, Some, None}
+use Rattle.std.proofs.Common.{◌≡◌, ℕ, true, List, [], ◌∷◌, ◌++◌, Option, Some, None}
 use Rattle.std.proofs.Common.{refl, sym, ap, ◌∙◌, subst, append_assoc, append-nil, inl, inr, arith}
-use Rattle.std.proofs.Common.{◌≤◌, ◌<◌, ◌+◌, length, length-append, IfSome, if◌then◌else◌}
+use Rattle.std.proofs.Common.{◌≤◌, ◌<◌, ◌+◌, length, length-append, IfSome}
 use Rattle.sf_value.specs.declared.dialect.Dialect.{Dialect}
 use Rattle.sf_value.specs.declared.value.Bare.{Bare}
-use Rattle.sf_value.specs.declared.value.Bare.TheVariants.{Boolean, Text}
+use Rattle.sf_value.specs.declared.value.Bare.TheVariants.{Boolean}
 use Rattle.sf_value.specs.declared.value.Item.{Item}
 use Rattle.sf_value.specs.declared.value.Inner.{Inner}
 use Rattle.sf_value.specs.declared.value.Member.{Member}
 use Rattle.sf_value.specs.declared.value.Member.TheVariants as member
 use Rattle.sf_value.specs.Grammar.Words.{Every}
 use Rattle.sf_value.specs.Grammar.Classes.{is_sp}
-use Rattle.sf_value.specs.Grammar.Strings.{is_unescaped}
 use Rattle.sf_value.specs.Grammar.Pairs.{Pairs, settle}
 use Rattle.sf_value.specs.Grammar.Tokens.{IsKey}
 use Rattle.sf_value.specs.Grammar.BareItems.{SpellsBare}
@@ -23,21 +21,14 @@ use Rattle.sf_value.specs.Grammar.Fields.{SpellsEntry, flag}
 use Rattle.sf_value.proofs.Settling.{put_more}
 use Rattle.sf_value.proofs.Runs.{every_append}
 use Rattle.sf_parse.specs.Machine.Language.{Reads, Machine, run}
-use Rattle.sf_parse.specs.Machine.Numbers.{NumberState, number_start, number_step, number_finish}
-use Rattle.sf_parse.specs.Machine.Texts.{Inside, Closed, text_step}
-use Rattle.sf_parse.specs.Machine.Bares.{BareState, InNumber, InText, GoodBare, ResidualBare}
-use Rattle.sf_parse.specs.Machine.Bares.{bare_start, bare_step, bare_finish}
+use Rattle.sf_parse.specs.Machine.Bares.{BareState, GoodBare, ResidualBare}
+use Rattle.sf_parse.specs.Machine.Bares.{bare_step, bare_finish}
 use Rattle.sf_parse.specs.Machine.Params.{MoreParams}
-use Rattle.sf_parse.specs.Leaves.{number_bare}
 use Rattle.sf_parse.specs.declared.whole_parts.BehindItem.{BehindItem}
-use Rattle.sf_parse.specs.Prefixes.{Goes, LongestPrefix, Starts}
-use Rattle.sf_parse.specs.declared.number.Number.{Number}
 use Rattle.sf_parse.specs.WholeParts.{ReadsAs, ReadsParam, ReadsItems, AddsItem, Behind}
 use Rattle.sf_parse.proofs.Machine.Language.{and_then_cases}
-use Rattle.sf_parse.proofs.Machine.Bares.{bare_reads, bare_starts, bare_lives}
+use Rattle.sf_parse.proofs.Machine.Bares.{bare_reads, bare_lives}
 use Rattle.sf_parse.proofs.Machines.{may_end, accepted}
-use Rattle.sf_parse.proofs.Prefixes.{goes_above, goes_byte}
-use Rattle.sf_parse.proofs.ByteRuns.{text_goes}
 
 -- A text of L is what a machine takes from the start to an end.
 pub record IsRun {S V : Type 0} (start : ℕ → Option S) (step : S → ℕ → Option S)
@@ -81,84 +72,7 @@ module _ {S V : Type 0} {Good : S → Type 0} {Residual : S → List ℕ → V �
 pub bare_machine : Machine BareState Bare GoodBare ResidualBare bare_step bare_finish
 bare_machine = record { reads = bare_reads; lives = bare_lives }
 
-pub bare_whole : (d : Dialect) (b : ℕ) (more rest : List ℕ) (s t : BareState) (x : Bare)
-    → bare_start d b ≡ Some s → Goes bare_step s more rest t → bare_finish t ≡ Some x
-    → ReadsAs (SpellsBare d) (b ∷ more) x rest
-bare_whole d b more rest s t x e a f = record {
-  prefix = b ∷ a.taken;
-  split = ap (λ y. b ∷ y) a.split;
-  spelled = run_spells bare_machine (SpellsBare d) (bare_start d) (bare_starts d) b s t a.taken x
-      e a.leads f;
-}
-
-pub other_whole : (d : Dialect) (b : ℕ) (more rest : List ℕ) (took : Bool) (s t : BareState)
-    (o : Option Bare) (x : Bare) → took ≡ true → Starts took (bare_start d b) s
-    → LongestPrefix bare_step s more rest t → o ≡ bare_finish t → o ≡ Some x
-    → ReadsAs (SpellsBare d) (b ∷ more) x rest
-other_whole d b more rest true s t o x k e a f g =
-    bare_whole d b more rest s t x e a.goes (sym f ∙ g)
-other_whole d b more rest false s t o x k e a f g = absurd cc
-
-pub number_whole : (d : Dialect) (text : List ℕ) (b : ℕ) (more rest : List ℕ) (took : Bool)
-    (s t : NumberState) (o : Option Number) (n : Number) → text ≡ b ∷ more → took ≡ true
-    → Starts took (number_start b) s → Goes number_step s more rest t
-    → option_map number_bare o ≡ number_finish t → o ≡ Some n
-    → ReadsAs (SpellsBare d) text (number_bare n) rest
-number_whole d text b more rest true s t o n w k e a f g =
-    subst (λ y. ReadsAs (SpellsBare d) y (number_bare n) rest) (sym w)
-    (bare_whole d b more rest (InNumber s) (InNumber t) (number_bare n) (rw e refl)
-    (goes_above number_step bare_step InNumber (λ s t b e. ap (option_map InNumber) e) s t more
-    rest a)
-    (sym f ∙ ap (option_map number_bare) g))
-number_whole d text b more rest false s t o n w k e a f g = absurd cc
-
-pub text_whole : (d : Dialect) (text : List ℕ) (b : ℕ) (more run stop rest bytes : List ℕ)
-    → text ≡ b ∷ more → b ≡ 34 → more ≡ run ++ stop → Every is_unescaped run
-    → stop ≡ 34 ∷ rest → bytes ≡ run → ReadsAs (SpellsBare d) text (Text bytes) rest
-text_whole d text b more run stop rest bytes w q e k f g =
-    subst (λ y. ReadsAs (SpellsBare d) y (Text bytes) rest) (sym (w ∙ ap (λ y. y ∷ more) q))
-    (bare_whole d 34 more rest (InText (Inside [])) (InText (Closed bytes)) (Text bytes) refl
-    (goes_above text_step bare_step InText (λ s t b e. ap (option_map InText) e) (Inside [])
-    (Closed bytes) more rest
-    (goes_byte text_step (Inside []) (Inside bytes) (Closed bytes) more 34 rest
-    (text_goes [] run (34 ∷ rest) more bytes (e ∙ ap (λ y. run ++ y) f) k g) refl)) refl)
-
-pub boolean_whole : (d : Dialect) (text : List ℕ) (b : ℕ) (more rest : List ℕ) (x : Bool)
-    → text ≡ b ∷ more → b ≡ 63 → more ≡ (if x then 49 else 48) ∷ rest
-    → ReadsAs (SpellsBare d) text (Boolean x) rest
-boolean_whole d text b more rest x e f g = record {
-  prefix = 63 ∷ (if x then 49 else 48) ∷ [];
-  split = e ∙ ap (λ y. y ∷ more) f ∙ ap (λ y. 63 ∷ y) g;
-  spelled = refl;
-}
-
 -- a parameter
-pub flag_param : (d : Dialect) (text named key after : List ℕ) → Behind is_sp text named
-    → named ≡ key ++ after → IsKey key → ReadsParam d text key (Boolean true) after
-flag_param d text named key after b e k = record {
-  prefix = b.prefix ++ (key ++ []);
-  split =
-      b.split
-      ∙ ap (λ y. b.prefix ++ y) (e ∙ ap (λ y. y ++ after) (sym (append-nil key)))
-      ∙ sym (append_assoc b.prefix (key ++ []) after);
-  spelled = (b.prefix, [], refl, b.each, k, inl (refl, refl));
-}
-
-pub value_param : (d : Dialect) (text named key after inside rest : List ℕ) (x : Bare)
-    → Behind is_sp text named → named ≡ key ++ after → IsKey key → after ≡ 61 ∷ inside
-    → ReadsAs (SpellsBare d) inside x rest → ReadsParam d text key x rest
-value_param d text named key after inside rest x b e k f r = record {
-  prefix = b.prefix ++ (key ++ 61 ∷ r.prefix);
-  split =
-      b.split
-      ∙ ap (λ y. b.prefix ++ y)
-      (e
-      ∙ ap (λ y. key ++ y) (f ∙ ap (λ y. 61 ∷ y) r.split)
-      ∙ sym (append_assoc key (61 ∷ r.prefix) rest))
-      ∙ sym (append_assoc b.prefix (key ++ 61 ∷ r.prefix) rest);
-  spelled = (b.prefix, 61 ∷ r.prefix, refl, b.each, k, inr (r.prefix, refl, r.spelled));
-}
-
 pub param_after : (d : Dialect) (text inside key rest : List ℕ) (x : Bare) → Behind is_sp text inside
     → ReadsParam d inside key x rest → ReadsParam d text key x rest
 param_after d text inside key rest x b p = by p.spelled
@@ -181,19 +95,26 @@ param_after d text inside key rest x b p = by p.spelled
           );
         }
 
-none_before : (text : List ℕ) → Behind is_sp text text
-none_before text = record { prefix = []; split = refl; each = tt }
-
 -- a key alone, or with a bare item
 pub key_param : (d : Dialect) (text key after : List ℕ) → text ≡ key ++ after → IsKey key
     → ReadsParam d text key (Boolean true) after
-key_param d text key after = flag_param d text text key after (none_before text)
+key_param d text key after e k = record {
+  prefix = key ++ [];
+  split = e ∙ ap (λ y. y ++ after) (sym (append-nil key));
+  spelled = ([], [], refl, tt, k, inl (refl, refl));
+}
 
 pub named_param : (d : Dialect) (text key after inside rest : List ℕ) (x : Bare)
     → text ≡ key ++ after → IsKey key → after ≡ 61 ∷ inside
     → ReadsAs (SpellsBare d) inside x rest → ReadsParam d text key x rest
-named_param d text key after inside rest x =
-    value_param d text text key after inside rest x (none_before text)
+named_param d text key after inside rest x e k f r = record {
+  prefix = key ++ 61 ∷ r.prefix;
+  split =
+      e
+      ∙ ap (λ y. key ++ y) (f ∙ ap (λ y. 61 ∷ y) r.split)
+      ∙ sym (append_assoc key (61 ∷ r.prefix) rest);
+  spelled = ([], 61 ∷ r.prefix, refl, tt, k, inr (r.prefix, refl, r.spelled));
+}
 
 -- parameters: none, or one before others
 pub params_end : (d : Dialect) (ps : Pairs Bare) (rest : List ℕ) → settle ps ≡ ps

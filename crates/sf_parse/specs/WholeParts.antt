@@ -12,7 +12,7 @@ use Rattle.sf_value.specs.Grammar.Items.{SpellsItem, item}
 use Rattle.sf_value.specs.Grammar.Pairs.{Pairs, put}
 use Rattle.sf_value.specs.Grammar.Parameters.{SpellsParam}
 use Rattle.sf_value.specs.Grammar.InnerLists.{SpellsItems}
-use Rattle.sf_parse.specs.Leaves.{leaf_bare}
+use Rattle.sf_scan.specs.Leaves.{leaf_bare}
 use Rattle.sf_parse.specs.declared.whole_parts.BehindItem.{BehindItem}
 use Rattle.sf_parse.specs.declared.whole_parts.BehindItem.TheVariants as behind
 use Rattle.sf_parse.specs.declared.whole_parts.Found.{Found}

@@ -18,27 +18,6 @@ fn head(text: &[u8]) -> &[u8]
     first
 }
 
-/// Whether this byte is near the beginning of a text.
-#[inline]
-fn has(text: &[u8], byte: u8) -> bool {
-    memchr(byte, head(text)).is_some()
-}
-
-/// Whether a text may have this byte: it has it near its beginning, or is too long to be searched
-/// to its end.
-#[inline]
-pub fn may_have(text: &[u8], byte: u8) -> bool {
-    text.len() > NEAR || has(text, byte)
-}
-
-/// The text from the first such byte on, if that is near the beginning.
-#[inline]
-pub fn from_near(text: &[u8], byte: u8) -> Option<&[u8]> {
-    let place = memchr(byte, head(text))?;
-    let (_, from) = text.split_at(place);
-    Some(from)
-}
-
 /// How many commas, or spaces and brackets, are looked at. If all of these are within Strings, the
 /// search gives up: a text that is refused early may have many more.
 const STRINGS: usize = 4;

@@ -1,16 +1,18 @@
 //! A Byte Sequence that is being read (RFC 9651 section 4.2.7).
 ghost use Rattle.std.specs.Prelude.{◌≡◌, is_some, ℕ, ◌<◌, ◌≤◌, List, [], ◌∷◌, ◌++◌, Some, IfOk};
-ghost use Rattle.std.specs.Prelude.{IfSome, take};
+ghost use Rattle.std.specs.Prelude.{IfSome, MatchOption, take};
+ghost use Rattle.sf_scan.specs.Blobs.{blob_bytes, values};
 ghost use Rattle.sf_parse.specs.Expected.{MarksStep};
-ghost use Rattle.sf_parse.specs.Leaves.{EndsBlob, blob_bytes};
+ghost use Rattle.sf_parse.specs.Leaves.{BeginsCharacter};
 ghost use Rattle.sf_parse.specs.Prefixes.{Goes};
 ghost use Rattle.sf_parse.specs.Views.{held_of, blob_of, FitsHeld, FitsBlob};
 ghost use Rattle.sf_parse.specs.Machine.Language.{Steps, run};
-ghost use Rattle.sf_parse.specs.Machine.Blobs.{H0, Group, Padded, grown};
+ghost use Rattle.sf_parse.specs.Machine.Blobs.{H0, Group, Padded, grown, last_bytes};
 ghost use Rattle.sf_parse.specs.Machine.Blobs.{pad_step, end_step, blob_step, blob_finish};
 
 use crate::context::Context;
 use crate::sets::{BASE64, COLON, EQUALS, set_if};
+use sf_value::classes::split;
 use sf_value::{OutOfMemory, ShortBytes, sextet};
 
 /// The values of the characters of an open group of base64.
@@ -178,25 +180,44 @@ impl BlobPhase {
     }
 }
 
-/// Decodes a whole Byte Sequence, given as its text after the opening colon, with the closing one;
-/// None if an allocation fails. It is not inlined: each caller would clear the stack that it needs.
+/// The bytes of a Byte Sequence whose characters between the colons are these. It is not inlined:
+/// each caller would clear the stack that it needs.
 #[inline(never)]
-pub fn decode(context: &Context, text: &[u8]) -> Option<ShortBytes>
-    requires { EndsBlob text.now }
-    ensures { IfSome result (λ bytes. bytes ≡ blob_bytes text.now) }
+pub fn decode(context: &Context, text: &[u8]) -> Result<ShortBytes, OutOfMemory>
+    ensures { IfOk result (λ bytes. bytes ≡ blob_bytes text.now) }
 {
     let mut bytes = ShortBytes::new(context.alloc);
-    let mut phase = BlobPhase::Group(Held::H0);
-    let Ok(mut rest) = phase.take_run(&mut bytes, text) else {
-        return None;
-    };
-    while let Some((byte, more)) = rest.split_first() {
-        let Ok(true) = phase.step(&mut bytes, *byte) else {
-            return None;
-        };
+    let mut held = Held::H0;
+    let mut rest = take_groups(&mut bytes, text)?;
+    while let Some((value, more)) = character(rest) {
+        held = grow(held, &mut bytes, value)?;
         rest = more;
     }
-    Some(bytes)
+    end(held, &mut bytes)?;
+    Ok(bytes)
+}
+
+/// The value of the character that the text begins with, and the rest.
+#[inline(always)]
+fn character(text: &[u8]) -> Option<(u8, &[u8])>
+    ensures value { MatchOption result (values text.now ≡ []) (λ r. BeginsCharacter text.now r.0
+        r.1.now) }
+    ensures small { IfSome result (λ r. r.0 < 64) }
+{
+    let (first, rest) = split(text)?;
+    Some((sextet(first)?, rest))
+}
+
+/// Adds the bytes of the last group.
+fn end(held: Held, bytes: &mut ShortBytes) -> Result<(), OutOfMemory>
+    requires { FitsHeld held }
+    ensures { IfOk result (λ _. bytes.new ≡ bytes.old ++ last_bytes (held_of held)) }
+{
+    match held {
+        Held::H0 | Held::H1(_) => Ok(()),
+        Held::H2(x, y) => bytes.extend(&[x * 4 + y / 16]),
+        Held::H3(x, y, z) => bytes.extend(&[x * 4 + y / 16, y % 16 * 16 + z / 4]),
+    }
 }
 
 /// The number of bytes that are decoded at a time: those of 32 groups.

@@ -1,6 +1,8 @@
 //! A Display String that is being read (RFC 9651 section 4.2.10).
 ghost use Rattle.std.specs.Prelude.{◌≡◌, ℕ, ◌<◌, ◌≤◌, List, [], ◌∷◌, ◌++◌, Some, IfOk, IfSome};
-ghost use Rattle.std.specs.Prelude.{is_some, take};
+ghost use Rattle.std.specs.Prelude.{is_some, take, length, MatchOption};
+ghost use Rattle.sf_scan.specs.DisplayStrings.{shown_bytes, digit_or_zero};
+ghost use Rattle.sf_value.specs.Digits.{unhex as unhex_of};
 ghost use Rattle.sf_value.specs.Ascii.{percent as percent_sign};
 ghost use Rattle.sf_value.specs.Grammar.Utf8.{Utf8, utf8_step};
 ghost use Rattle.sf_parse.specs.Prefixes.{Goes};
@@ -12,8 +14,9 @@ ghost use Rattle.sf_parse.specs.Machine.Showns.{can_begin as can_begin_at, shown
 ghost use Rattle.sf_parse.specs.Machine.Showns.{GoodUtf8, shown_finish};
 ghost use Rattle.sf_parse.specs.Expected.{MarksStep, digit_step};
 
+use crate::context::Context;
 use crate::sets::{FIRST_DIGITS, PERCENT, QUOTE, VISIBLE};
-use sf_value::classes::{UnencodedByte, long_prefix};
+use sf_value::classes::{UnencodedByte, long_prefix, split};
 use sf_value::{OutOfMemory, ShortBytes, Utf8State, is_visible, unhex};
 
 /// The part of a Display String that is being read.
@@ -362,4 +365,79 @@ fn take_chars<'a>(
         }
     }
     Ok(rest)
+}
+
+/// The bytes of a Display String whose text between the quotes is this. It is not inlined: each
+/// caller would clear the stack that it needs.
+#[inline(never)]
+pub fn decode_escapes(context: &Context, text: &[u8]) -> Result<ShortBytes, OutOfMemory>
+    ensures { IfOk result (λ bytes. bytes ≡ shown_bytes text.now) }
+{
+    let mut bytes = ShortBytes::new(context.alloc);
+    let mut rest = text;
+    loop {
+        let (run, left) = long_prefix::<UnencodedByte>(rest);
+        bytes.extend(run)?;
+        let Some((first, more)) = decode_byte(left) else {
+            return Ok(bytes);
+        };
+        let mut block = [0; BLOCK];
+        let (count, after) = decode_run(first, more, &mut block);
+        bytes.extend(&block[..count])?;
+        rest = after;
+    }
+}
+
+/// Decodes the escapes after a byte, and puts it and them into the block until it is full. Returns
+/// the number of bytes, and the rest.
+fn decode_run<'a>(first: u8, text: &'a [u8], block: &mut [u8; BLOCK]) -> (usize, &'a [u8])
+    ensures within { result.0 ≤ 64 }
+    ensures bytes { first ∷ shown_bytes text.now ≡ take result.0 block.new ++ shown_bytes
+        result.1.now }
+    ensures shorter { length result.1.now ≤ length text.now }
+{
+    block[0] = first;
+    let mut count = 1;
+    let mut rest = text;
+    while count < BLOCK && rest.first().copied() == Some(b'%') {
+        let Some((byte, more)) = decode_byte(rest) else {
+            return (count, rest);
+        };
+        block[count] = byte;
+        count += 1;
+        rest = more;
+    }
+    (count, rest)
+}
+
+/// The byte that the text begins with, or that of the escape that it begins with, and the rest.
+#[inline(always)]
+fn decode_byte(text: &[u8]) -> Option<(u8, &[u8])>
+    ensures bytes { MatchOption result (text.now ≡ [])
+        (λ r. shown_bytes text.now ≡ r.0 ∷ shown_bytes r.1.now) }
+    ensures less { IfSome result (λ r. length r.1.now < length text.now) }
+{
+    let (first, more) = split(text)?;
+    if first != b'%' {
+        return Some((first, more));
+    }
+    let Some((high, after)) = split(more) else {
+        return Some((first, more));
+    };
+    let Some((low, rest)) = split(after) else {
+        return Some((first, more));
+    };
+    Some((digit(high) * 16 + digit(low), rest))
+}
+
+/// The value of a digit of an escape; 0 for another byte.
+#[inline(always)]
+fn digit(byte: u8) -> u8
+    ensures value { result ≡ digit_or_zero (unhex_of byte) }
+    ensures small { result < 16 }
+{
+    match unhex(byte) {
+        Some(value) => value,
+        None => 0,
+    }
 }

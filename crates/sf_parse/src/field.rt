@@ -15,8 +15,6 @@ ghost use Rattle.sf_parse.specs.Machine.States.{State, InList, InDict};
 ghost use Rattle.sf_parse.specs.Machine.Fields.{begin as begin_at, step as step_of};
 ghost use Rattle.sf_parse.specs.Machine.Fields.{finish as finish_of};
 ghost use Rattle.sf_parse.specs.Machine.Tests.{may_end as may_end_at};
-ghost use Rattle.sf_parse.specs.WholeParts.{Behind};
-ghost use Rattle.sf_value.specs.Grammar.Classes.{is_sp};
 
 use crate::context::Context;
 use crate::entry::EntryReader;
@@ -27,8 +25,7 @@ use crate::member::MemberReader;
 use crate::refusal::Refusal;
 use crate::refusing::refuse_text;
 use crate::series::{SeriesPhase, SeriesReader, add_members, are_all};
-use crate::whole_bare::needs_reader;
-use crate::whole_parts::{after_spaces, read_other_item, read_params};
+use crate::whole_parts::{after_spaces, read_params};
 use sf_value::classes::ends;
 use sf_value::{Dict, Entries, Item, Kind, List, Member, OutOfMemory, Sequence};
 
@@ -172,13 +169,13 @@ pub trait WholeText: WholeField {
 impl WholeText for ItemFieldReader {
     fn parse(context: &Context, text: &[u8]) -> Result<Item, Refusal> {
         let inside = after_spaces(text);
-        let Some((leaf, after)) = find_leaf(inside) else {
-            return parse_other_item(context, text, inside);
+        let Some((leaf, after)) = find_leaf(context.dialect, inside) else {
+            return refuse_or_read::<ItemFieldReader>(context, Kind::Item, text);
         };
         let mut params = Entries::new(context.alloc, &context.seed);
         let rest = read_params(context, after, &mut params);
         if ends(after_spaces(rest)) {
-            if let Some(bare) = make(context, leaf) {
+            if let Ok(bare) = make(context, leaf) {
                 return Ok(Item { bare, params });
             }
         }
@@ -230,25 +227,6 @@ impl WholeText for DictReader {
         drop(members);
         refuse_or_read::<DictReader>(context, Kind::Dict, text)
     }
-}
-
-/// As `parse` of an Item, for a text that begins with no leaf after its spaces. It is not inlined,
-/// as [`refuse_or_read`] isn't.
-#[inline(never)]
-fn parse_other_item(context: &Context, text: &[u8], inside: &[u8]) -> Result<Item, Refusal>
-    requires { Behind is_sp text.now inside.now }
-    ensures parses { Makes field_is.Item (Parses context.now.dialect kind_is.Item text.now) result }
-    ensures allocation_free { TakesNoMemory kind_is.Item text.now → IfErr result IsOther }
-    ensures needs_value { NeedsValue context.now.dialect kind_is.Item text.now result }
-{
-    if needs_reader(inside) {
-        if let Some((item, rest)) = read_other_item(context, inside) {
-            if ends(after_spaces(rest)) {
-                return Ok(item);
-            }
-        }
-    }
-    refuse_or_read::<ItemFieldReader>(context, Kind::Item, text)
 }
 
 /// The field of this kind that the text spells, or the exact refusal of the text.

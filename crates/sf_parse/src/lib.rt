@@ -49,7 +49,6 @@ mod sets;
 mod spots;
 mod state;
 mod text;
-mod whole_bare;
 mod whole_parts;
 
 pub use byte_runs::{Runs, runs_of};

@@ -1,9 +1,7 @@
 //! A number that is being read (RFC 9651 section 4.2.4).
-ghost use Rattle.std.specs.Option.{option_map};
-ghost use Rattle.std.specs.Prelude.{◌≡◌, is_some, ◌≤◌, ◌<◌, ◌^◌, false, true, nat_abs, IfSome};
+ghost use Rattle.std.specs.Prelude.{◌≡◌, is_some, ◌≤◌, ◌<◌, ◌^◌, false, nat_abs};
 ghost use Rattle.sf_value.specs.Grammar.Numbers.{signed};
 ghost use Rattle.sf_parse.specs.Expected.{MarksStep};
-ghost use Rattle.sf_parse.specs.Leaves.{number_bare, HasFewDigits};
 ghost use Rattle.sf_parse.specs.Prefixes.{Goes, FirstIs, Halts, Starts};
 ghost use Rattle.sf_parse.specs.Machine.Language.{Steps};
 ghost use Rattle.sf_parse.specs.Machine.Numbers.{number_start, number_step, number_finish};
@@ -11,35 +9,6 @@ ghost use Rattle.sf_parse.specs.Machine.Numbers.{number_start, number_step, numb
 use crate::sets::{DIGITS, POINT, set_if};
 use sf_value::{Bare, Int, Thousandths};
 use std::marker::Model;
-
-/// A number that was read whole.
-#[derive(Clone, Copy)]
-pub enum Number {
-    /// An Integer.
-    Integer(i64),
-    /// A Decimal, in thousandths.
-    Decimal(i64),
-}
-
-impl Number {
-    /// The number as a bare item, or None if it has more than 15 digits.
-    #[inline(always)]
-    pub fn bare(self) -> Option<Bare>
-        ensures value { IfSome result (λ bare. bare ≡ number_bare self) }
-        ensures short { HasFewDigits self → is_some result ≡ true }
-    {
-        match self {
-            Number::Integer(value) => match Int::new(value) {
-                Ok(number) => Some(Bare::Integer(number)),
-                Err(_) => None,
-            },
-            Number::Decimal(value) => match Thousandths::new(value) {
-                Ok(number) => Some(Bare::Decimal(number)),
-                Err(_) => None,
-            },
-        }
-    }
-}
 
 /// What was read of a number: the digits of its whole part or, after the point, those of its
 /// fraction.
@@ -188,18 +157,20 @@ impl NumberReader {
         self.digits >= 1
     }
 
-    /// The number, if it is one already.
+    /// The number as a bare item, if it is one already.
     #[tactic(auto, using(crate::proofs::Numerals::short))]
-    pub fn number(&self) -> Option<Number>
+    pub fn finish(&self) -> Option<Bare>
         // It is the value that the state has at the end, if it has one.
-        ensures value { option_map number_bare result ≡ number_finish self.now }
-        ensures short { IfSome result HasFewDigits }
+        ensures { result ≡ number_finish self.now }
     {
         if self.digits == 0 {
             return None;
         }
         match self.whole {
-            None => Some(Number::Integer(with_sign(self.negative, self.value))),
+            None => {
+                let number = Int::new(with_sign(self.negative, self.value)).ok()?;
+                Some(Bare::Integer(number))
+            }
             Some(whole) => {
                 let scale = match self.digits {
                     1 => 100,
@@ -207,16 +178,9 @@ impl NumberReader {
                     _ => 1,
                 };
                 let thousandths = whole * 1000 + self.value * scale;
-                Some(Number::Decimal(with_sign(self.negative, thousandths)))
+                let number = Thousandths::new(with_sign(self.negative, thousandths)).ok()?;
+                Some(Bare::Decimal(number))
             }
         }
-    }
-
-    /// The same as a bare item.
-    pub fn finish(&self) -> Option<Bare>
-        // It is the value that the state has at the end, if it has one.
-        ensures { result ≡ number_finish self.now }
-    {
-        self.number()?.bare()
     }
 }

@@ -75,38 +75,35 @@ pub trait SeriesMember<G>: Level {
         // If nothing was added, the reader is unchanged.
         ensures kept { IfOk result (λ ended. ended ≡ false → self.new ≡ self.old) };
 
-    /// Whether the text may begin with a whole member. It is a hint that saves time; no proof
-    /// relies on it.
-    fn may_begin(text: &[u8], is_whole: bool) -> bool;
+    /// Whether the text may begin with a member. It is a hint that saves time; no proof relies on
+    /// it.
+    fn may_begin(text: &[u8]) -> bool;
 
-    /// A member that the text begins with, up to its parameters, and the rest. None says nothing
-    /// about the text.
-    fn find(text: &[u8]) -> Option<(Found<'_>, &[u8])>
+    /// A member that is an Item, up to its parameters, and the rest; None if the text begins with
+    /// none.
+    fn find(dialect: Dialect, text: &[u8]) -> Option<(Found<'_>, &[u8])>
         ensures found { IfSome result (λ r. is_found r.0) }
-        // With the parameters that the rest begins with it is a whole member, in both dialects.
-        ensures whole { IfSome result (λ r. (d : Dialect) (params : Pairs Bare) (rest : List ℕ)
-            → ReadsAs (SpellsParams d) r.1.now params rest → IsWholeMember (first d)
-            (Self.Level.next d) added with_found text.now (r.0, params) rest) };
+        // With the parameters that the rest begins with it is a whole member.
+        ensures whole { IfSome result (λ r. (params : Pairs Bare) (rest : List ℕ)
+            → ReadsAs (SpellsParams dialect) r.1.now params rest → IsWholeMember (first dialect)
+            (Self.Level.next dialect) added with_found text.now (r.0, params) rest) };
 
-    /// Adds a member that was found. If the bytes of its value can't be allocated, it returns false
-    /// and changes nothing.
+    /// Adds a member that was found.
     fn add_found(
         context: &Context,
         given: &mut G,
         found: Found<'_>,
         params: Entries<Bare>,
-    ) -> Result<bool, OutOfMemory>
+    ) -> Result<(), OutOfMemory>
         requires { is_found found }
-        ensures added { IfOk result (λ took. took ≡ true
-            → given.new ≡ with_found given.old (found.entry, params)) }
-        ensures same { IfOk result (λ took. took ≡ false → given.new ≡ given.old) };
+        ensures { OnOk result (given.new ≡ with_found given.old (found.entry, params)) };
 
-    /// Whether a whole text, or a chunk, in which none was found may begin with a whole member. It
-    /// is a hint that saves time; no proof relies on it.
-    fn may_read(text: &[u8], is_whole: bool) -> bool;
+    /// Whether the text may begin with a member that is an Inner List. It is a hint that saves
+    /// time; no proof relies on it.
+    fn may_begin_inner(text: &[u8]) -> bool;
 
-    /// A whole member that the text begins with, and the rest. None says nothing about the text.
-    fn read<'a>(context: &Context, text: &'a [u8]) -> Option<(Self::Whole, &'a [u8])>
+    /// A whole member that is an Inner List, and the rest. None says nothing about the text.
+    fn read_inner<'a>(context: &Context, text: &'a [u8]) -> Option<(Self::Whole, &'a [u8])>
         // The bytes before the rest are those of the member.
         ensures { IfSome result (λ r. IsWholeMember (first context.now.dialect)
             (Self.Level.next context.now.dialect) added with text.now r.0 r.1.now) };
@@ -232,7 +229,7 @@ impl<P: SeriesMember<G>, G: Drop> Level for SeriesReader<P, G> {
         match self.phase {
             SeriesPhase::Begin => {
                 let (_, rest) = short_prefix::<Space>(chunk);
-                if !may_add::<P, G>(rest) {
+                if !may_add::<P, G>(context.dialect, rest) {
                     return Ok(rest);
                 }
                 return self.take_members(context, rest);
@@ -243,7 +240,7 @@ impl<P: SeriesMember<G>, G: Drop> Level for SeriesReader<P, G> {
             }
             SeriesPhase::Comma => {
                 let (_, rest) = short_prefix::<Ows>(chunk);
-                if !may_add::<P, G>(rest) {
+                if !may_add::<P, G>(context.dialect, rest) {
                     return Ok(rest);
                 }
                 return self.take_members(context, rest);
@@ -367,7 +364,7 @@ pub fn add_members<'a, P: SeriesMember<G>, G>(
     ensures allocation_free { (s : P) → SeriesFree (series_of phase.old given.old s) text.now
         → IsOk result }
 {
-    if !P::may_begin(text, true) {
+    if !P::may_begin(text) {
         return Ok(text);
     }
     add_each_member::<P, G>(context, text, true, phase, given)
@@ -376,22 +373,22 @@ pub fn add_members<'a, P: SeriesMember<G>, G>(
 /// Whether whole members are looked for in a chunk: only if the first one may be whole. It is a
 /// hint that saves time; no proof relies on it.
 #[inline(always)]
-fn may_add<P: SeriesMember<G>, G>(chunk: &[u8]) -> bool {
-    chunk.len() >= WHOLE_PARTS && P::may_begin(chunk, false) && has_end::<P, G>(chunk)
+fn may_add<P: SeriesMember<G>, G>(dialect: Dialect, chunk: &[u8]) -> bool {
+    chunk.len() >= WHOLE_PARTS && P::may_begin(chunk) && has_end::<P, G>(dialect, chunk)
 }
 
 /// Whether the first member of a chunk may be whole in it. The chunk is searched for a comma only
 /// if what comes after the bare item that is found, and after a parameter that is found next, is
 /// allowed there, so that a chunk that is refused there isn't searched. No proof relies on it.
 #[inline(always)]
-fn has_end<P: SeriesMember<G>, G>(chunk: &[u8]) -> bool {
-    match P::find(chunk) {
+fn has_end<P: SeriesMember<G>, G>(dialect: Dialect, chunk: &[u8]) -> bool {
+    match P::find(dialect, chunk) {
         Some((_, after)) => match split(after) {
             Some((b',' | b' ' | b'\t', _)) => true,
-            Some((b';', _)) => begins_param(after) && has_comma(after),
+            Some((b';', _)) => begins_param(dialect, after) && has_comma(after),
             _ => false,
         },
-        None => P::may_read(chunk, false) && has_comma(chunk),
+        None => P::may_begin_inner(chunk) && has_comma(chunk),
     }
 }
 
@@ -429,12 +426,12 @@ fn add_each_member<'a, P: SeriesMember<G>, G>(
 {
     let mut rest = text;
     while is_whole || rest.len() >= WHOLE_PARTS {
-        let Some((found, after)) = P::find(rest) else {
+        let Some((found, after)) = P::find(context.dialect, rest) else {
             let is_first = rest.len() == text.len();
-            if !P::may_read(rest, is_whole) || !may_be_whole(is_whole || is_first, rest) {
+            if !P::may_begin_inner(rest) || !may_be_whole(is_whole || is_first, rest) {
                 return Ok(rest);
             }
-            let left = add_read_member::<P, G>(context, rest, is_whole, phase, given)?;
+            let left = add_inner::<P, G>(context, rest, is_whole, phase, given)?;
             if !goes_on(*phase, rest, left) {
                 return Ok(left);
             }
@@ -456,9 +453,7 @@ fn add_each_member<'a, P: SeriesMember<G>, G>(
             continue;
         };
         let params = Entries::new(context.alloc, &context.seed);
-        if !P::add_found(context, given, found, params)? {
-            return Ok(rest);
-        }
+        P::add_found(context, given, found, params)?;
         *phase = next;
         if !goes_on(next, rest, more) {
             return Ok(more);
@@ -514,18 +509,16 @@ fn add_with_params<'a, P: SeriesMember<G>, G>(
     let Some((next, more)) = after_member(rest, is_whole) else {
         return Ok(text);
     };
-    if !P::add_found(context, given, found, params)? {
-        return Ok(text);
-    }
+    P::add_found(context, given, found, params)?;
     *phase = next;
     Ok(more)
 }
 
-/// Adds the whole member of any type that a text begins with, with the comma or white space after
-/// it, and returns the rest. If the member is not whole, it returns all of the text. It is not
-/// inlined: a call clears its stack.
+/// Adds the whole member that a text begins with and that is an Inner List, with the comma or white
+/// space after it, and returns the rest. If the member is not whole, it returns all of the text. It
+/// is not inlined: a call clears its stack.
 #[inline(never)]
-fn add_read_member<'a, P: SeriesMember<G>, G>(
+fn add_inner<'a, P: SeriesMember<G>, G>(
     context: &Context,
     text: &'a [u8],
     is_whole: bool,
@@ -546,7 +539,7 @@ fn add_read_member<'a, P: SeriesMember<G>, G>(
     ensures allocation_free { (s : P) → SeriesFree (series_of phase.old given.old s) text.now
         → IsOk result }
 {
-    let Some((member, after)) = P::read(context, text) else {
+    let Some((member, after)) = P::read_inner(context, text) else {
         return Ok(text);
     };
     let Some((next, more)) = after_member(after, is_whole) else {

@@ -15,38 +15,20 @@ use crate::level::Level;
 use crate::member::MemberReader;
 use crate::series::SeriesMember;
 use crate::sets::KEY_START;
-use crate::whole_bare::may_begin_bare;
 use crate::whole_parts::{
-    Found, find_named, may_begin_part, may_begin_value, read_entry, read_member,
+    Found, find_named, may_begin_inner_entry, read_inner_entry, read_inner_member,
 };
 use sf_value::classes::{split, strip_byte};
-use sf_value::{Bare, Dialect, Entries, Item, Key, Member, OutOfMemory, Sequence, can_start_key};
+use sf_value::{
+    Bare, Dialect, Entries, Item, Key, Member, OutOfMemory, Sequence, can_start_key,
+    can_start_token,
+};
 
 /// A whole member of a Dictionary.
 #[derive(Drop)]
 pub struct Entry {
     key: Key,
     member: Member,
-}
-
-/// Whether a member of a List that begins with no leaf may be read directly. In a chunk, reading a
-/// bare item by the levels costs less, since they have its reader at hand.
-#[inline(always)]
-fn may_read_member(text: &[u8], is_whole: bool) -> bool {
-    if is_whole {
-        return may_begin_part(text);
-    }
-    strip_byte(text, b'(').is_some()
-}
-
-/// Whether the first member of a text may be one that begins with no leaf. No proof relies on it.
-#[inline(always)]
-fn may_begin_other(text: &[u8], is_whole: bool) -> bool {
-    match split(text) {
-        Some((b'(', _)) => true,
-        Some((b'@' | b'%', _)) => is_whole,
-        _ => false,
-    }
 }
 
 impl SeriesMember<Sequence<Member>> for MemberReader {
@@ -91,13 +73,17 @@ impl SeriesMember<Sequence<Member>> for MemberReader {
     }
 
     #[inline(always)]
-    fn may_begin(text: &[u8], is_whole: bool) -> bool {
-        may_begin_bare(text) || may_begin_other(text, is_whole)
+    fn may_begin(text: &[u8]) -> bool {
+        match split(text) {
+            Some((b'"' | b'-' | b'?' | b':' | b'(' | b'@' | b'%' | b'0'..=b'9', _)) => true,
+            Some((first, _)) => can_start_token(first),
+            None => false,
+        }
     }
 
     #[inline(always)]
-    fn find(text: &[u8]) -> Option<(Found<'_>, &[u8])> {
-        let (leaf, rest) = find_leaf(text)?;
+    fn find(dialect: Dialect, text: &[u8]) -> Option<(Found<'_>, &[u8])> {
+        let (leaf, rest) = find_leaf(dialect, text)?;
         Some((Found { key: &[], leaf }, rest))
     }
 
@@ -107,22 +93,19 @@ impl SeriesMember<Sequence<Member>> for MemberReader {
         given: &mut Sequence<Member>,
         found: Found<'_>,
         params: Entries<Bare>,
-    ) -> Result<bool, OutOfMemory> {
-        let Some(bare) = make(context, found.leaf) else {
-            return Ok(false);
-        };
-        given.push_or_drop(Member::Item(Item { bare, params }))?;
-        Ok(true)
+    ) -> Result<(), OutOfMemory> {
+        let bare = make(context, found.leaf)?;
+        given.push_or_drop(Member::Item(Item { bare, params }))
     }
 
     #[inline(always)]
-    fn may_read(text: &[u8], is_whole: bool) -> bool {
-        may_read_member(text, is_whole)
+    fn may_begin_inner(text: &[u8]) -> bool {
+        strip_byte(text, b'(').is_some()
     }
 
     #[inline(always)]
-    fn read<'a>(context: &Context, text: &'a [u8]) -> Option<(Member, &'a [u8])> {
-        read_member(context, text)
+    fn read_inner<'a>(context: &Context, text: &'a [u8]) -> Option<(Member, &'a [u8])> {
+        read_inner_member(context, text)
     }
 
     #[inline(always)]
@@ -169,7 +152,7 @@ impl SeriesMember<Entries<Member>> for EntryReader {
     }
 
     #[inline(always)]
-    fn may_begin(text: &[u8], _is_whole: bool) -> bool {
+    fn may_begin(text: &[u8]) -> bool {
         match split(text) {
             Some((first, _)) => can_start_key(first),
             None => false,
@@ -177,8 +160,8 @@ impl SeriesMember<Entries<Member>> for EntryReader {
     }
 
     #[inline(always)]
-    fn find(text: &[u8]) -> Option<(Found<'_>, &[u8])> {
-        find_named(text)
+    fn find(dialect: Dialect, text: &[u8]) -> Option<(Found<'_>, &[u8])> {
+        find_named(dialect, text)
     }
 
     #[inline(always)]
@@ -187,26 +170,23 @@ impl SeriesMember<Entries<Member>> for EntryReader {
         given: &mut Entries<Member>,
         found: Found<'_>,
         params: Entries<Bare>,
-    ) -> Result<bool, OutOfMemory> {
-        let Some(bare) = make(context, found.leaf) else {
-            return Ok(false);
-        };
+    ) -> Result<(), OutOfMemory> {
+        let bare = make(context, found.leaf)?;
         given.set_named(
             context.alloc,
             found.key,
             Member::Item(Item { bare, params }),
-        )?;
-        Ok(true)
+        )
     }
 
     #[inline(always)]
-    fn may_read(text: &[u8], _is_whole: bool) -> bool {
-        may_begin_value(text)
+    fn may_begin_inner(text: &[u8]) -> bool {
+        may_begin_inner_entry(text)
     }
 
     #[inline(always)]
-    fn read<'a>(context: &Context, text: &'a [u8]) -> Option<(Entry, &'a [u8])> {
-        let (key, member, rest) = read_entry(context, text)?;
+    fn read_inner<'a>(context: &Context, text: &'a [u8]) -> Option<(Entry, &'a [u8])> {
+        let (key, member, rest) = read_inner_entry(context, text)?;
         Some((Entry { key, member }, rest))
     }
 

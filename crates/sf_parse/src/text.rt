@@ -1,10 +1,11 @@
 //! A String that is being read (RFC 9651 section 4.2.5).
-ghost use Rattle.std.specs.Prelude.{◌≡◌, is_some, ℕ, List, [], ◌∷◌, ◌++◌, IfOk, IfSome, IsOk};
+ghost use Rattle.std.specs.Prelude.{◌≡◌, ◌<◌, is_some, ℕ, List, [], ◌∷◌, ◌++◌, length};
+ghost use Rattle.std.specs.Prelude.{IfOk, IfSome, IsOk, MatchOption};
 ghost use Rattle.sf_value.specs.Grammar.Words.{Every};
 ghost use Rattle.sf_value.specs.InPlace.{FitsInPlace};
 ghost use Rattle.sf_value.specs.Grammar.Classes.{is_visible as is_visible_byte};
 ghost use Rattle.sf_parse.specs.Expected.{MarksStep};
-ghost use Rattle.sf_parse.specs.Leaves.{EndsText, string_bytes};
+ghost use Rattle.sf_scan.specs.Leaves.{unescaped};
 ghost use Rattle.sf_parse.specs.Prefixes.{Goes};
 ghost use Rattle.sf_parse.specs.Views.{text_of};
 ghost use Rattle.sf_parse.specs.Machine.Language.{Steps};
@@ -12,7 +13,7 @@ ghost use Rattle.sf_parse.specs.Machine.Texts.{text_step, text_finish};
 
 use crate::context::Context;
 use crate::sets::{ESCAPED, VISIBLE};
-use sf_value::classes::{Unescaped, long_prefix};
+use sf_value::classes::{Unescaped, long_prefix, split};
 use sf_value::{OutOfMemory, ShortBytes, is_visible};
 
 /// The part of a String that is being read, after its opening quote.
@@ -114,27 +115,38 @@ impl TextPhase {
     }
 }
 
-/// Unescapes a whole String, given as its text after the opening quote, with the closing one; None
-/// if an allocation fails. It is not inlined: each caller would clear the stack that it needs.
+/// The bytes of a String whose text between the quotes is this. It is not inlined: each caller would
+/// clear the stack that it needs.
 #[inline(never)]
-pub fn unescape(context: &Context, text: &[u8]) -> Option<ShortBytes>
-    requires { EndsText text.now }
-    ensures bytes { IfSome result (λ bytes. bytes ≡ string_bytes text.now) }
-    ensures visible { IfSome result (λ bytes. Every is_visible_byte bytes) }
+pub fn unescape(context: &Context, text: &[u8]) -> Result<ShortBytes, OutOfMemory>
+    ensures { IfOk result (λ bytes. bytes ≡ unescaped text.now) }
 {
     let mut bytes = ShortBytes::new(context.alloc);
-    let mut phase = TextPhase::Inside;
     let mut rest = text;
     loop {
-        let Ok(left) = phase.take_run(&mut bytes, rest) else {
-            return None;
+        let (run, left) = long_prefix::<Unescaped>(rest);
+        bytes.extend(run)?;
+        let Some((byte, more)) = unescape_byte(left) else {
+            return Ok(bytes);
         };
-        let Some((byte, more)) = left.split_first() else {
-            return Some(bytes);
-        };
-        let Ok(true) = phase.step(&mut bytes, *byte) else {
-            return None;
-        };
+        bytes.push(byte)?;
         rest = more;
     }
+}
+
+/// The first byte, without the backslash before it, and the rest.
+#[inline(always)]
+fn unescape_byte(text: &[u8]) -> Option<(u8, &[u8])>
+    ensures bytes { MatchOption result (text.now ≡ [])
+        (λ r. unescaped text.now ≡ r.0 ∷ unescaped r.1.now) }
+    ensures less { IfSome result (λ r. length r.1.now < length text.now) }
+{
+    let (first, more) = split(text)?;
+    if first != b'\\' {
+        return Some((first, more));
+    }
+    let Some((second, rest)) = split(more) else {
+        return Some((first, more));
+    };
+    Some((second, rest))
 }

@@ -1,19 +1,19 @@
 //! Parts of a field that are whole in a text, read without a state between two calls, and built
 //! where they are stored. A function that returns None says nothing about the text, which is then
 //! refused, or read by the levels.
-ghost use Rattle.std.specs.Prelude.{◌≡◌, ◌++◌, ◌∷◌, ℕ, List, [], true, false};
-ghost use Rattle.std.specs.Prelude.{IfSome, IfNone, IfOk, OnErr};
+ghost use Rattle.std.specs.Prelude.{◌≡◌, ◌++◌, ◌∷◌, ℕ, List, []};
+ghost use Rattle.std.specs.Prelude.{IfSome, IfNone, IfOk, OnOk, OnErr};
 ghost use Rattle.sf_value.specs.Ascii.{open_bracket};
-ghost use Rattle.sf_value.specs.declared.dialect.Dialect.{Dialect};
 ghost use Rattle.sf_value.specs.Grammar.BareItems.{SpellsBare};
 ghost use Rattle.sf_value.specs.Grammar.Classes.{is_sp};
 ghost use Rattle.sf_value.specs.Grammar.Fields.{SpellsEntry};
 ghost use Rattle.sf_value.specs.Grammar.InnerLists.{SpellsInner, SpellsMember};
-ghost use Rattle.sf_value.specs.Grammar.Items.{SpellsItem, item as item_of};
+ghost use Rattle.sf_value.specs.Grammar.Items.{item as item_of};
 ghost use Rattle.sf_value.specs.Grammar.Pairs.{Pairs, put};
 ghost use Rattle.sf_value.specs.Grammar.Parameters.{SpellsParams};
 ghost use Rattle.sf_value.specs.Grammar.Tokens.{IsKey};
-ghost use Rattle.sf_parse.specs.Leaves.{IsLeaf, leaf_bare};
+ghost use Rattle.sf_scan.specs.Leaves.{leaf_bare};
+ghost use Rattle.sf_parse.specs.Leaves.{IsLeaf};
 ghost use Rattle.sf_parse.specs.Machine.Inners.{BetweenItems};
 ghost use Rattle.sf_parse.specs.Machine.Members.{InMany, member_step};
 ghost use Rattle.sf_parse.specs.Machine.Params.{Opened, params_step};
@@ -22,13 +22,15 @@ ghost use Rattle.sf_parse.specs.WholeParts.{ReadsAs, ReadsParam, PutsParam, Behi
 ghost use Rattle.sf_parse.specs.WholeParts.{ReadsItems, IsBehindItem, AddsItem};
 ghost use Rattle.sf_parse.specs.WholeParts.{found_member};
 
-use crate::ahead::{from_near, has_space};
+use crate::ahead::has_space;
 use crate::context::Context;
-use crate::leaf::{Leaf, find_leaf, make};
-use crate::whole_bare::{needs_reader, read_bare};
-use sf_value::classes::{InKey, Space, short_prefix, split, strip_byte};
+use crate::leaf::{find_leaf, make};
+use sf_scan::leaf::Leaf;
+use sf_scan::param::find_key;
+use sf_value::classes::{Space, short_prefix, split, strip_byte};
 use sf_value::{
-    Bare, Entries, Inner, Item, Key, Member, OutOfMemory, Sequence, ShortBytes, can_start_key,
+    Bare, Dialect, Entries, Inner, Item, Key, Member, OutOfMemory, Sequence, ShortBytes,
+    can_start_key,
 };
 
 /// Whole parts are looked for only in chunks of at least this many bytes. A smaller chunk seldom
@@ -44,19 +46,6 @@ pub fn after_spaces(text: &[u8]) -> &[u8]
     rest
 }
 
-/// The bytes of a key, and the rest.
-#[inline(always)]
-fn find_key(text: &[u8]) -> Option<(&[u8], &[u8])>
-    ensures { IfSome result (λ r. (text.now ≡ r.0.now ++ r.1.now) × IsKey r.0.now) }
-{
-    let (first, more) = split(text)?;
-    if !can_start_key(first) {
-        return None;
-    }
-    let (run, _) = short_prefix::<InKey>(more);
-    Some(text.split_at(run.len() + 1))
-}
-
 /// What was found of a parameter or of a member that is an Item: its key and its bare item. A member
 /// of a List has no key.
 #[derive(Clone, Copy)]
@@ -67,50 +56,26 @@ pub struct Found<'a> {
     pub leaf: Leaf<'a>,
 }
 
-/// A key and its value, a bare item, and the rest. None says nothing about the text.
+/// A key and its value, a bare item, and the rest; None if the text begins with none.
 #[inline(always)]
-pub fn find_named(text: &[u8]) -> Option<(Found<'_>, &[u8])>
+pub fn find_named(dialect: Dialect, text: &[u8]) -> Option<(Found<'_>, &[u8])>
     ensures key { IfSome result (λ r. IsKey r.0.key.now) }
     ensures leaf { IfSome result (λ r. IsLeaf r.0.leaf) }
     // They are a parameter and, with the parameters that the rest begins with, a member of a
     // Dictionary.
-    ensures param { IfSome result (λ r. (d : Dialect)
-        → ReadsParam d text.now r.0.key.now (leaf_bare r.0.leaf) r.1.now) }
-    ensures entry { IfSome result (λ r. (d : Dialect) (params : Pairs Bare) (rest : List ℕ)
-        → ReadsAs (SpellsParams d) r.1.now params rest
-        → ReadsAs (SpellsEntry d) text.now (r.0.key.now, found_member (r.0, params)) rest) }
+    ensures param { IfSome result (λ r. ReadsParam dialect text.now r.0.key.now
+        (leaf_bare r.0.leaf) r.1.now) }
+    ensures entry { IfSome result (λ r. (params : Pairs Bare) (rest : List ℕ)
+        → ReadsAs (SpellsParams dialect) r.1.now params rest
+        → ReadsAs (SpellsEntry dialect) text.now (r.0.key.now, found_member (r.0, params)) rest) }
 {
     let (key, after) = find_key(text)?;
     let Some(value) = strip_byte(after, b'=') else {
         let leaf = Leaf::Boolean(true);
         return Some((Found { key, leaf }, after));
     };
-    let (leaf, rest) = find_leaf(value)?;
+    let (leaf, rest) = find_leaf(dialect, value)?;
     Some((Found { key, leaf }, rest))
-}
-
-/// Whether the text may begin with an Inner List or a bare item that only its reader reads. It is a
-/// hint that saves time; no proof relies on it.
-#[inline(always)]
-pub fn may_begin_part(text: &[u8]) -> bool {
-    match split(text) {
-        Some((b'(' | b'@', _)) => true,
-        Some((b'%' | b'"' | b':', _)) => needs_reader(text),
-        _ => false,
-    }
-}
-
-/// As [`may_begin_part`], for the value of a key that the text begins with. It is a hint that saves
-/// time; no proof relies on it.
-#[inline(always)]
-pub fn may_begin_value(text: &[u8]) -> bool {
-    let Some((_, after)) = find_key(text) else {
-        return false;
-    };
-    match strip_byte(after, b'=') {
-        Some(value) => may_begin_part(value),
-        None => false,
-    }
 }
 
 /// Whether the text may begin with parameters. It is a hint that saves time; no proof relies on it.
@@ -125,31 +90,16 @@ pub fn may_begin_params(text: &[u8]) -> bool {
     }
 }
 
-/// Whether a text in which no parameter was found may begin with a whole one, whose value only its
-/// reader reads. It is not inlined, so that a loop over parameters that are found doesn't pay for
-/// it. No proof relies on it.
+/// Whether the text of a chunk after a bare item begins with a parameter and a byte that may follow
+/// it. It is a hint that saves time; no proof relies on it.
 #[inline(never)]
-fn may_read_param(text: &[u8]) -> bool {
-    let Some(from) = from_near(text, b'=') else {
-        return false;
-    };
-    match strip_byte(from, b'=') {
-        Some(value) => needs_reader(value),
-        None => false,
-    }
-}
-
-/// Whether the text of a chunk after a bare item may begin with a whole parameter. If one is found,
-/// what follows it must be allowed there. It is a hint that saves time; no proof relies on it.
-#[inline(never)]
-pub fn begins_param(text: &[u8]) -> bool {
+pub fn begins_param(dialect: Dialect, text: &[u8]) -> bool {
     let Some(more) = strip_byte(text, b';') else {
         return false;
     };
-    let named = after_spaces(more);
-    match find_named(named) {
+    match find_named(dialect, after_spaces(more)) {
         Some((_, rest)) => matches!(split(rest), Some((b';' | b',' | b' ' | b'\t', _))),
-        None => may_begin_value(named),
+        None => false,
     }
 }
 
@@ -164,20 +114,6 @@ fn read_key<'a>(context: &Context, text: &'a [u8]) -> Option<(Key, &'a [u8])>
         return None;
     };
     Some((Key::from_bytes(bytes), rest))
-}
-
-/// A parameter that was not found, after its semicolon: the bytes of its key, its value, which only
-/// its reader reads, and the rest.
-#[inline(always)]
-fn read_param<'a>(context: &Context, text: &'a [u8]) -> Option<(&'a [u8], Bare, &'a [u8])>
-    ensures key { IfSome result (λ r. IsKey r.0.now) }
-    ensures reads { IfSome result (λ r. ReadsParam context.now.dialect text.now r.0.now r.1
-        r.2.now) }
-{
-    let (key, after) = find_key(after_spaces(text))?;
-    let inside = strip_byte(after, b'=')?;
-    let (value, rest) = read_bare(context, inside)?;
-    Some((key, value, rest))
 }
 
 /// Puts the whole parameters that a text begins with, after the first semicolon, each with the
@@ -198,8 +134,7 @@ pub fn add_params<'a>(
     put_each_param(context, text, params)
 }
 
-/// As [`add_params`]: [`add_params`] itself only tests the length, since a call clears its stack. A
-/// parameter that was not found is left to the levels, which have the reader of its value at hand.
+/// As [`add_params`]: [`add_params`] itself only tests the length, since a call clears its stack.
 #[inline(never)]
 fn put_each_param<'a>(
     context: &Context,
@@ -212,41 +147,34 @@ fn put_each_param<'a>(
 {
     let mut rest = text;
     while rest.len() >= WHOLE_PARTS {
-        let Some((found, after)) = find_named(after_spaces(rest)) else {
+        let Some((found, after)) = find_named(context.dialect, after_spaces(rest)) else {
             return Ok(rest);
         };
         let Some(more) = strip_byte(after, b';') else {
             return Ok(rest);
         };
-        if !put_leaf(context, found, params)? {
-            return Ok(rest);
-        }
+        put_leaf(context, found, params)?;
         rest = more;
     }
     Ok(rest)
 }
 
-/// Puts a parameter that was found. If the bytes of its value can't be allocated, it returns false
-/// and changes nothing.
+/// Puts a parameter that was found.
 #[inline(always)]
 fn put_leaf(
     context: &Context,
     found: Found<'_>,
     params: &mut Entries<Bare>,
-) -> Result<bool, OutOfMemory>
+) -> Result<(), OutOfMemory>
     requires key { IsKey found.key.now }
     requires leaf { IsLeaf found.leaf }
     // It is put at its key.
-    ensures put { IfOk result (λ took. took ≡ true
-        → params.new ≡ put params.old found.entry.key.now (leaf_bare found.entry.leaf)) }
-    ensures same { IfOk result (λ took. took ≡ false → params.new ≡ params.old) }
+    ensures put { OnOk result (params.new ≡ put params.old found.entry.key.now
+        (leaf_bare found.entry.leaf)) }
     ensures failed { OnErr result (params.new ≡ params.old) }
 {
-    let Some(value) = make(context, found.leaf) else {
-        return Ok(false);
-    };
-    params.set_named(context.alloc, found.key, value)?;
-    Ok(true)
+    let value = make(context, found.leaf)?;
+    params.set_named(context.alloc, found.key, value)
 }
 
 /// Puts the whole parameters that a text begins with, and returns the rest, which begins with a
@@ -287,75 +215,11 @@ fn put_param<'a>(context: &Context, text: &'a [u8], params: &mut Entries<Bare>) 
         params.new rest.now) }
     ensures same { IfNone result (params.new ≡ params.old) }
 {
-    let Some((found, rest)) = find_named(after_spaces(text)) else {
-        if !may_read_param(text) {
-            return None;
-        }
-        return put_read_param(context, text, params);
-    };
-    let Ok(true) = put_leaf(context, found, params) else {
+    let (found, rest) = find_named(context.dialect, after_spaces(text))?;
+    let Ok(()) = put_leaf(context, found, params) else {
         return None;
     };
     Some(rest)
-}
-
-/// As [`put_param`], for a parameter that was not found.
-#[inline(never)]
-fn put_read_param<'a>(
-    context: &Context,
-    text: &'a [u8],
-    params: &mut Entries<Bare>,
-) -> Option<&'a [u8]>
-    ensures puts { IfSome result (λ rest. PutsParam context.now.dialect text.now params.old
-        params.new rest.now) }
-    ensures same { IfNone result (params.new ≡ params.old) }
-{
-    let (key, value, rest) = read_param(context, text)?;
-    let Ok(()) = params.set_named(context.alloc, key, value) else {
-        return None;
-    };
-    Some(rest)
-}
-
-/// A bare item of any type, and the rest.
-#[inline(always)]
-fn read_any_bare<'a>(context: &Context, text: &'a [u8]) -> Option<(Bare, &'a [u8])>
-    ensures { IfSome result (λ r. ReadsAs (SpellsBare context.now.dialect) text.now r.0 r.1.now) }
-{
-    let Some((leaf, rest)) = find_leaf(text) else {
-        return read_bare(context, text);
-    };
-    let bare = make(context, leaf)?;
-    Some((bare, rest))
-}
-
-/// An Item with its whole parameters, and the rest.
-#[inline(always)]
-fn read_item<'a>(context: &Context, text: &'a [u8]) -> Option<(Item, &'a [u8])>
-    ensures { IfSome result (λ r. ReadsAs (SpellsItem context.now.dialect) text.now r.0 r.1.now) }
-{
-    let (bare, after) = read_any_bare(context, text)?;
-    Some(item_before(context, bare, after))
-}
-
-/// As [`read_item`], for a text that begins with no leaf.
-#[inline(always)]
-pub fn read_other_item<'a>(context: &Context, text: &'a [u8]) -> Option<(Item, &'a [u8])>
-    ensures { IfSome result (λ r. ReadsAs (SpellsItem context.now.dialect) text.now r.0 r.1.now) }
-{
-    let (bare, after) = read_bare(context, text)?;
-    Some(item_before(context, bare, after))
-}
-
-/// The Item with this bare item and the whole parameters that the text begins with, and the rest.
-#[inline(always)]
-fn item_before<'a>(context: &Context, bare: Bare, text: &'a [u8]) -> (Item, &'a [u8])
-    ensures { (bare_text : List ℕ) → ReadsAs (SpellsBare context.now.dialect) bare_text bare text.now
-        → ReadsAs (SpellsItem context.now.dialect) bare_text result.0 result.1.now }
-{
-    let mut params = Entries::new(context.alloc, &context.seed);
-    let rest = read_params(context, text, &mut params);
-    (Item { bare, params }, rest)
 }
 
 /// Adds whole Items of an Inner List, each with the space after it, and returns the rest.
@@ -375,8 +239,7 @@ pub fn add_items<'a>(
     push_each_item(context, text, items)
 }
 
-/// As [`add_items`], which itself only tests the length, since a call clears its stack. An Item
-/// that begins with no leaf is left to the levels, which have the reader of its bare item at hand.
+/// As [`add_items`], which itself only tests the length, since a call clears its stack.
 #[inline(never)]
 fn push_each_item<'a>(
     context: &Context,
@@ -389,21 +252,19 @@ fn push_each_item<'a>(
 {
     let mut rest = text;
     while rest.len() >= WHOLE_PARTS {
-        let Some((leaf, after)) = find_leaf(rest) else {
+        let Some((leaf, after)) = find_leaf(context.dialect, rest) else {
             return Ok(rest);
         };
         if let Some(more) = strip_byte(after, b' ') {
             let params = Entries::new(context.alloc, &context.seed);
-            if !push_leaf(context, leaf, params, items)? {
-                return Ok(rest);
-            }
+            push_leaf(context, leaf, params, items)?;
             rest = after_spaces(more);
             continue;
         }
         if !may_begin_params(after) {
             return Ok(rest);
         }
-        let left = push_any_item(context, rest, items)?;
+        let left = push_before_space(context, rest, leaf, after, items)?;
         if left.len() >= rest.len() {
             return Ok(left);
         }
@@ -412,52 +273,50 @@ fn push_each_item<'a>(
     Ok(rest)
 }
 
-/// Adds an Item with parameters, with the space after it, and returns the rest; all of the text if
-/// it is not whole. It is not inlined, so that a loop over Items without parameters clears less
-/// stack.
+/// Adds an Item that was found, with the parameters after it and the space after those, and returns
+/// the rest; all of the text if they are not whole. It is not inlined, so that a loop over Items
+/// without parameters clears less stack.
 #[inline(never)]
-fn push_any_item<'a>(
+fn push_before_space<'a>(
     context: &Context,
     text: &'a [u8],
+    leaf: Leaf<'_>,
+    after: &'a [u8],
     items: &mut Sequence<Item>,
 ) -> Result<&'a [u8], OutOfMemory>
+    requires leaf { IsLeaf leaf }
+    requires reads { ReadsAs (SpellsBare context.now.dialect) text.now (leaf_bare leaf) after.now }
     // The bytes before the rest lead to the new Items.
     ensures { IfOk result (λ rest. Goes (member_step context.now.dialect)
         (InMany (BetweenItems items.old)) text.now rest.now (InMany (BetweenItems items.new))) }
 {
-    if !has_space(text) {
+    if !has_space(after) {
         return Ok(text);
     }
-    let Some((item, after)) = read_item(context, text) else {
+    let mut params = Entries::new(context.alloc, &context.seed);
+    let rest = read_params(context, after, &mut params);
+    let Some(left) = strip_byte(rest, b' ') else {
         return Ok(text);
     };
-    let Some(left) = strip_byte(after, b' ') else {
-        return Ok(text);
-    };
-    items.push_or_drop(item)?;
+    push_leaf(context, leaf, params, items)?;
     Ok(after_spaces(left))
 }
 
-/// Adds an Item that was found. If its bytes can't be allocated, it returns false and changes
-/// nothing.
+/// Adds an Item that was found.
 #[inline(always)]
 fn push_leaf(
     context: &Context,
     leaf: Leaf<'_>,
     params: Entries<Bare>,
     items: &mut Sequence<Item>,
-) -> Result<bool, OutOfMemory>
+) -> Result<(), OutOfMemory>
     requires { IsLeaf leaf }
-    ensures added { IfOk result (λ took. took ≡ true
-        → items.new ≡ items.old ++ item_of (leaf_bare leaf.entry) params ∷ []) }
-    ensures same { IfOk result (λ took. took ≡ false → items.new ≡ items.old) }
+    ensures added { OnOk result (items.new ≡ items.old ++ item_of (leaf_bare leaf.entry) params
+        ∷ []) }
     ensures failed { OnErr result (items.new ≡ items.old) }
 {
-    let Some(bare) = make(context, leaf) else {
-        return Ok(false);
-    };
-    items.push_or_drop(Item { bare, params })?;
-    Ok(true)
+    let bare = make(context, leaf)?;
+    items.push_or_drop(Item { bare, params })
 }
 
 /// What comes after an Item of an Inner List.
@@ -511,15 +370,13 @@ fn push_item<'a>(
     ensures takes { IfSome result (AddsItem context.now.dialect text.now items.old items.new) }
     ensures same { IfNone result (items.new ≡ items.old) }
 {
-    let Some((leaf, after)) = find_leaf(text) else {
-        return push_read_item(context, text, items);
-    };
+    let (leaf, after) = find_leaf(context.dialect, text)?;
     if strip_byte(after, b';').is_some() {
         return push_with_params(context, leaf, after, items);
     }
     let end = after_item(after)?;
     let params = Entries::new(context.alloc, &context.seed);
-    let Ok(true) = push_leaf(context, leaf, params, items) else {
+    let Ok(()) = push_leaf(context, leaf, params, items) else {
         return None;
     };
     Some(end)
@@ -542,28 +399,7 @@ fn push_with_params<'a>(
     let mut params = Entries::new(context.alloc, &context.seed);
     let rest = read_params(context, after, &mut params);
     let end = after_item(rest)?;
-    let Ok(true) = push_leaf(context, leaf, params, items) else {
-        return None;
-    };
-    Some(end)
-}
-
-/// As [`push_item`], for a text that begins with no leaf.
-#[inline(never)]
-fn push_read_item<'a>(
-    context: &Context,
-    text: &'a [u8],
-    items: &mut Sequence<Item>,
-) -> Option<BehindItem<'a>>
-    ensures takes { IfSome result (AddsItem context.now.dialect text.now items.old items.new) }
-    ensures same { IfNone result (items.new ≡ items.old) }
-{
-    if !needs_reader(text) {
-        return None;
-    }
-    let (item, rest) = read_other_item(context, text)?;
-    let end = after_item(rest)?;
-    let Ok(()) = items.push_or_drop(item) else {
+    let Ok(()) = push_leaf(context, leaf, params, items) else {
         return None;
     };
     Some(end)
@@ -582,27 +418,35 @@ fn read_inner<'a>(context: &Context, inside: &'a [u8]) -> Option<(Inner, &'a [u8
     Some((Inner { items, params }, rest))
 }
 
-/// A member of a List that begins with no leaf, and the rest.
+/// A member of a List that is an Inner List, and the rest. None says nothing about the text.
 #[inline(always)]
-pub fn read_member<'a>(context: &Context, text: &'a [u8]) -> Option<(Member, &'a [u8])>
+pub fn read_inner_member<'a>(context: &Context, text: &'a [u8]) -> Option<(Member, &'a [u8])>
     ensures { IfSome result (λ r. ReadsAs (SpellsMember context.now.dialect) text.now r.0 r.1.now) }
 {
-    if let Some(inside) = strip_byte(text, b'(') {
-        let (inner, rest) = read_inner(context, inside)?;
-        return Some((Member::Inner(inner), rest));
-    }
-    let (item, rest) = read_other_item(context, text)?;
-    Some((Member::Item(item), rest))
+    let inside = strip_byte(text, b'(')?;
+    let (inner, rest) = read_inner(context, inside)?;
+    Some((Member::Inner(inner), rest))
 }
 
-/// A member of a Dictionary with a value that begins with no leaf: its key, the value, and the rest.
+/// A member of a Dictionary that is an Inner List: its key, the Inner List, and the rest. None says
+/// nothing about the text.
 #[inline(always)]
-pub fn read_entry<'a>(context: &Context, text: &'a [u8]) -> Option<(Key, Member, &'a [u8])>
+pub fn read_inner_entry<'a>(context: &Context, text: &'a [u8]) -> Option<(Key, Member, &'a [u8])>
     ensures { IfSome result (λ r. ReadsAs (SpellsEntry context.now.dialect) text.now (r.0, r.1)
         r.2.now) }
 {
     let (key, after) = read_key(context, text)?;
     let value = strip_byte(after, b'=')?;
-    let (member, rest) = read_member(context, value)?;
+    let (member, rest) = read_inner_member(context, value)?;
     Some((key, member, rest))
+}
+
+/// Whether the text begins with a key whose value may be an Inner List. It is a hint that saves
+/// time; no proof relies on it.
+#[inline(always)]
+pub fn may_begin_inner_entry(text: &[u8]) -> bool {
+    match find_key(text) {
+        Some((_, after)) => matches!(after, [b'=', b'(', ..]),
+        None => false,
+    }
 }

@@ -1,17 +1,17 @@
-use Rattle.sf_parse.specs.Machine.Blobs.{blob_step}
-use Rattle.sf_parse.proofs.FoundBlobs.{decoded}
-use Rattle.sf_parse.proofs.Prefixes.{byte_on}
+use Rattle.sf_parse.proofs.Decoding.{character_taken, groups_ended}
 use Rattle.sf_parse.proofs.blob.decode.Goals as goal
 
-pub loop-byte-preserved : goal.loop-byte-preserved
-loop-byte-preserved c = record {
-  goes =
-      byte_on blob_step _ _ _ _ _ _ _ _ c.loop-byte.invariant.goes c.in-Some.ensures.cases.0
-      c.in-Ok-true.field-0-test c.in-Ok-true.ensures.step;
-  fits = c.in-Ok-true.ensures.fits;
-}
+pub loop-value-preserved : goal.loop-value-preserved
+loop-value-preserved c =
+    let one = c.in-Some.ensures.value in
+    record {
+      goes =
+          character_taken _ _ _ _ _ _ _ one.0 _ c.loop-value.invariant.goes one.1 one.2
+          c.in_ok-held.ensures.grown;
+      fits = c.in_ok-held.ensures.fits;
+    }
 
 pub returns : goal.returns
 returns c =
-    decoded _ _ _ c.loop-byte.phase c.requires c.loop-byte.invariant.goes
-    c.in_default-split_first.ensures.cases
+    groups_ended _ _ _ _ _ c.loop-value.invariant.goes c.in_default.ensures.value
+    c.in_ok-end.ensures

@@ -1,4 +1,3 @@
-use Rattle.std.proofs.Common.{rules}
 use Rattle.sf_parse.proofs.GrammarLaws.{one_value}
 use Rattle.sf_parse.proofs.refusing.refuse_text.Goals as goal
 

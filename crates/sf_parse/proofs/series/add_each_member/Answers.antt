@@ -3,7 +3,7 @@ use Rattle.sf_parse.specs.AllocationFree.{SeriesFree}
 use Rattle.sf_parse.specs.SeriesView.{series_next}
 use Rattle.sf_parse.specs.StaysFree.{series_keeps}
 use Rattle.sf_parse.proofs.Prefixes.{never, goes_more, free_goes}
-use Rattle.sf_parse.proofs.WholeMembers.{member_taken, taken_more, taken_so_far, kept_so_far}
+use Rattle.sf_parse.proofs.WholeMembers.{member_taken, taken_more, taken_so_far}
 use Rattle.sf_parse.proofs.WholeMembers.{comma_goes, comma_may_begin, after_open, not_free}
 use Rattle.sf_parse.proofs.WholeParts.{params_none}
 use Rattle.sf_parse.proofs.series.add_each_member.Goals as goal
@@ -36,8 +36,8 @@ returns-then-not-may_begin_params-clause-goes g c =
     let so_far = c.loop-found.invariant in
     λ s. taken_so_far first next added none with _ _ _ _ _ _ s (so_far.goes s)
 
-pub returns-then-not-may_read-clause-goes : goal.returns-then-not-may_read-clause-goes
-returns-then-not-may_read-clause-goes g c =
+pub returns-then-not-may_begin_inner-clause-goes : goal.returns-then-not-may_begin_inner-clause-goes
+returns-then-not-may_begin_inner-clause-goes g c =
     let d = c.args.context.now.dialect in
     let first = g.P.SeriesMember.first d in
     let next = g.P.Level.next d in
@@ -46,18 +46,6 @@ returns-then-not-may_read-clause-goes g c =
     let with = g.P.SeriesMember.with in
     let so_far = c.loop-found.invariant in
     λ s. taken_so_far first next added none with _ _ _ _ _ _ s (so_far.goes s)
-
-pub returns-then-not-branch-clause-goes : goal.returns-then-not-branch-clause-goes
-returns-then-not-branch-clause-goes g c =
-    let d = c.args.context.now.dialect in
-    let first = g.P.SeriesMember.first d in
-    let next = g.P.Level.next d in
-    let added = g.P.SeriesMember.added in
-    let none = g.P.SeriesMember.none in
-    let with = g.P.SeriesMember.with_found in
-    let so_far = c.loop-found.invariant in
-    λ s. kept_so_far first next added none with _ _ _ _ _ _ _ s
-    (c.in_ok-add_found.ensures.same c.if-not-branch.true) (so_far.goes s)
 
 pub returns-in_err-add_found-clause-allocation_free : goal.returns-in_err-add_found-clause-allocation_free
 returns-in_err-add_found-clause-allocation_free g c =
@@ -69,7 +57,7 @@ returns-in_err-add_found-clause-allocation_free g c =
     let with = g.P.SeriesMember.with_found in
     let so_far = c.loop-found.invariant in
     λ s h. never (absurd (not_free first next added none with _ _ _ s _ _ _ _ so_far.may_begin
-    (c.in-Some.ensures.whole d _ _ (params_none d _ _ c.new-params.ensures)) (so_far.goes s) h))
+    (c.in-Some.ensures.whole _ _ (params_none d _ _ c.new-params.ensures)) (so_far.goes s) h))
 
 pub returns-in_err-left-clause-allocation_free : goal.returns-in_err-left-clause-allocation_free
 returns-in_err-left-clause-allocation_free g c =
@@ -132,8 +120,8 @@ returns-then-not-goes_on-3-clause-goes g c =
     let so_far = c.loop-found.invariant in
     λ s. taken_more first next added none with _ _ _ _ _ _ _ _ s (so_far.goes s)
     (member_taken first next added none with _ _ _ _ s _ _ _ _ _ so_far.may_begin
-    (c.in-Some.ensures.whole d _ _ (params_none d _ _ c.new-params.ensures))
-    (c.in_ok-add_found.ensures.added c.if-not-branch.false) c.in-Some-after_member.ensures)
+    (c.in-Some.ensures.whole _ _ (params_none d _ _ c.new-params.ensures))
+    c.in_ok-add_found.ensures c.in-Some-after_member.ensures)
 
 pub returns-then-not-goes_on-3-clause-none_open : goal.returns-then-not-goes_on-3-clause-none_open
 returns-then-not-goes_on-3-clause-none_open g c =
@@ -192,6 +180,6 @@ loop-found-preserved g c =
       may_begin = comma_may_begin first next added none with _ _ comma;
       goes = λ s. goes_more (series_next first next added none) _ _ _ _ _ _ (so_far.goes s)
           (comma_goes first next added none with _ _ _ s _ _ _ comma (member_taken first next added none with _ _ _ _ s _ _ _ _ _ so_far.may_begin
-          (c.in-Some.ensures.whole d _ _ (params_none d _ _ c.new-params.ensures))
-          (c.in_ok-add_found.ensures.added c.if-not-branch.false) c.in-Some-after_member.ensures));
+          (c.in-Some.ensures.whole _ _ (params_none d _ _ c.new-params.ensures))
+          c.in_ok-add_found.ensures c.in-Some-after_member.ensures));
     }

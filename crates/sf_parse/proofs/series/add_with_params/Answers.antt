@@ -1,5 +1,5 @@
 use Rattle.std.proofs.Common.{refl, []}
-use Rattle.sf_parse.proofs.WholeMembers.{member_taken, taken_so_far, kept_so_far}
+use Rattle.sf_parse.proofs.WholeMembers.{member_taken, taken_so_far}
 use Rattle.sf_parse.proofs.WholeMembers.{not_free}
 use Rattle.sf_parse.proofs.Prefixes.{never}
 use Rattle.sf_parse.proofs.series.add_with_params.Goals as goal
@@ -15,18 +15,6 @@ returns-in_default-clause-goes g c =
     λ s. taken_so_far first next added none with _ _ _ _ _ _ s
     (record { taken = []; split = refl; leads = refl })
 
-pub returns-then-not-branch-clause-goes : goal.returns-then-not-branch-clause-goes
-returns-then-not-branch-clause-goes g c =
-    let d = c.args.context.now.dialect in
-    let first = g.P.SeriesMember.first d in
-    let next = g.P.Level.next d in
-    let added = g.P.SeriesMember.added in
-    let none = g.P.SeriesMember.none in
-    let with = g.P.SeriesMember.with_found in
-    λ s. kept_so_far first next added none with _ _ _ _ _ _ _ s
-    (c.in_ok-add_found.ensures.same c.if-not-branch.true)
-    (record { taken = []; split = refl; leads = refl })
-
 pub returns-clause-goes : goal.returns-clause-goes
 returns-clause-goes g c =
     let d = c.args.context.now.dialect in
@@ -36,7 +24,7 @@ returns-clause-goes g c =
     let none = g.P.SeriesMember.none in
     let with = g.P.SeriesMember.with_found in
     λ s. member_taken first next added none with _ _ _ _ s _ _ _ _ _ c.requires.may_begin
-    (c.requires.whole _ _ c.read_params-rest.ensures) (c.in_ok-add_found.ensures.added c.if-not-branch.false)
+    (c.requires.whole _ _ c.read_params-rest.ensures) c.in_ok-add_found.ensures
     c.in-Some.ensures
 
 pub returns-in_err-add_found-clause-allocation_free :

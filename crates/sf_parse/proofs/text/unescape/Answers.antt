@@ -1,20 +1,16 @@
-use Rattle.sf_parse.specs.Machine.Texts.{text_step}
-use Rattle.sf_parse.proofs.FoundTexts.{decoded}
-use Rattle.sf_parse.proofs.Prefixes.{byte_on, goes_more}
+use Rattle.std.proofs.Common.{ap}
+use Rattle.sf_scan.specs.Leaves.{unescaped}
+use Rattle.sf_parse.proofs.Decoding.{unescaped_more, one_more, none_left}
 use Rattle.sf_parse.proofs.text.unescape.Goals as goal
 
-pub loop-left-preserved : goal.loop-left-preserved
-loop-left-preserved c = record {
-  goes =
-      byte_on text_step _ _ _ _ _ _ _ _
-      (goes_more text_step _ _ _ _ _ _ c.loop-left.invariant.goes c.in-Ok.ensures.goes)
-      c.in-Some.ensures.cases.0 c.in-Ok-true.field-0-test c.in-Ok-true.ensures.step;
-  visible =
-      c.in-Ok-true.ensures.visible (c.in-Ok.ensures.visible c.loop-left.invariant.visible);
-}
+pub returns-in_default : goal.returns-in_default
+returns-in_default c =
+    none_left _ _ _ (ap unescaped c.in_default.ensures.bytes)
+    (unescaped_more c.args.text.now _ _ _ _ _ c.long_prefix.ensures.whole c.long_prefix.ensures.every
+    c.in_ok-extend.ensures.bytes c.loop-bytes.invariant)
 
-pub returns-in_default-split_first-clause-bytes : goal.returns-in_default-split_first-clause-bytes
-returns-in_default-split_first-clause-bytes c =
-    decoded _ _ _ c.loop-left.phase c.requires
-    (goes_more text_step _ _ _ _ _ _ c.loop-left.invariant.goes c.in-Ok.ensures.goes)
-    c.in_default-split_first.ensures.cases
+pub loop-bytes-preserved : goal.loop-bytes-preserved
+loop-bytes-preserved c =
+    one_more _ _ _ _ _ _ c.in-Some.ensures.bytes c.in_ok-push.ensures.bytes
+    (unescaped_more c.args.text.now _ _ _ _ _ c.long_prefix.ensures.whole c.long_prefix.ensures.every
+    c.in_ok-extend.ensures.bytes c.loop-bytes.invariant)

@@ -12,15 +12,15 @@ pub loop-rest-preserved-in-Some-strip_byte : goal.loop-rest-preserved-in-Some-st
 loop-rest-preserved-in-Some-strip_byte c =
     let d = c.args.context.now.dialect in
     goes_more (member_step d) _ _ _ _ _ _ c.loop-rest.invariant
-    (item_goes d _ _ _ _ _ _ _ (item_whole d _ _ _ _ _ (c.in-Some.ensures.reads d)
+    (item_goes d _ _ _ _ _ _ _ (item_whole d _ _ _ _ _ c.in-Some.ensures.reads
     (params_none d _ _ c.new-params.ensures))
     c.in-Some-strip_byte.ensures c.after_spaces-rest.ensures
-    (c.in_ok-push_leaf.ensures.added c.if-not-branch.false))
+    c.in_ok-push_leaf.ensures.added)
 
 pub loop-rest-smaller-in-Some-strip_byte : goal.loop-rest-smaller-in-Some-strip_byte
 loop-rest-smaller-in-Some-strip_byte c =
     let d = c.args.context.now.dialect in
-    item_shorter d _ _ _ _ _ (item_whole d _ _ _ _ _ (c.in-Some.ensures.reads d)
+    item_shorter d _ _ _ _ _ (item_whole d _ _ _ _ _ c.in-Some.ensures.reads
     (params_none d _ _ c.new-params.ensures))
     c.in-Some-strip_byte.ensures c.after_spaces-rest.ensures
 

@@ -1,5 +1,5 @@
 use Rattle.sf_value.specs.Grammar.Items.{item}
-use Rattle.sf_parse.specs.Leaves.{leaf_bare}
+use Rattle.sf_scan.specs.Leaves.{leaf_bare}
 use Rattle.sf_parse.proofs.WholeParts.{item_whole}
 use Rattle.sf_parse.proofs.whole_parts.push_with_params.Goals as goal
 
@@ -9,6 +9,6 @@ returns-clause-takes c = λ text bare.
       item = item (leaf_bare c.args.leaf) params;
       rest = c.read_params-rest.result.now;
       reads = item_whole c.args.context.now.dialect text _ _ _ params bare c.read_params-rest.ensures;
-      added = c.in-Ok-true.ensures.added c.in-Ok-true.field-0-test;
+      added = c.in-Ok.ensures.added;
       behind = c.in_ok-end.ensures;
     }

@@ -13,12 +13,12 @@ loop-rest-preserved c =
     let d = c.args.context.now.dialect in
     goes_more (params_step d) _ _ _ _ _ _ c.loop-rest.invariant
     (param_goes d _ _ _ _ _ _ _
-    (param_after d _ _ _ _ _ c.after_spaces.ensures (c.in-Some.ensures.param d))
-    c.in-Some-strip_byte.ensures (c.in_ok-put_leaf.ensures.put c.if-not-branch.false))
+    (param_after d _ _ _ _ _ c.after_spaces.ensures c.in-Some.ensures.param)
+    c.in-Some-strip_byte.ensures c.in_ok-put_leaf.ensures.put)
 
 pub loop-rest-smaller : goal.loop-rest-smaller
 loop-rest-smaller c =
     let d = c.args.context.now.dialect in
     param_shorter d _ _ _ _ _
-    (param_after d _ _ _ _ _ c.after_spaces.ensures (c.in-Some.ensures.param d))
+    (param_after d _ _ _ _ _ c.after_spaces.ensures c.in-Some.ensures.param)
     c.in-Some-strip_byte.ensures

@@ -10,8 +10,9 @@ use Rattle.sf_parse.proofs.series_members.EntryReaderSeriesMemberEntriesMember.f
 
 pub returns-clause-whole : goal.returns-clause-whole
 returns-clause-whole c =
+    let d = c.args.dialect in
     each_some
-    (λ r h d ps rest p. whole_member (dict_series d) (dict_laws d) with_entry
+    (λ r h ps rest p. whole_member (dict_series d) (dict_laws d) with_entry
     (λ given found. put given found.0.key.now (found_member found)) _ _ _ _ (λ s given. refl)
-    (λ given. refl) (h d ps rest p))
+    (λ given. refl) (h ps rest p))
     c.find_named.result c.find_named.ensures.entry

@@ -1,5 +1,0 @@
-use Rattle.sf_parse.proofs.Numerals.{short}
-use Rattle.sf_parse.proofs.number.NumberReader.number.Goals as goal
-
-pub with_sign-requires : goal.with_sign-requires
-with_sign-requires c = short _ _ c.self.invariant.1 c.self.invariant.0

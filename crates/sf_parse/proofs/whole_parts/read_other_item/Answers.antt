@@ -1,4 +1,0 @@
-use Rattle.sf_parse.proofs.whole_parts.read_other_item.Goals as goal
-
-pub returns : goal.returns
-returns c = c.item_before.ensures _ c.in_ok-bare.ensures
