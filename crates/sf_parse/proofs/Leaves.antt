@@ -17,7 +17,7 @@ use Rattle.sf_scan.specs.declared.leaf.Leaf.{Leaf}
 use Rattle.sf_scan.specs.declared.leaf.Leaf.TheVariants as leaf
 use Rattle.sf_scan.specs.declared.place.Stop.{Stop}
 use Rattle.sf_scan.specs.declared.place.BarePlace.{BarePlace}
-use Rattle.sf_scan.proofs.Bares.{leaf_read}
+use Rattle.sf_scan.proofs.Taken.{leaf_read}
 use Rattle.sf_parse.specs.Leaves.{IsLeaf}
 
 -- what the scanner read is a leaf

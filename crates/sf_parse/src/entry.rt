@@ -16,7 +16,7 @@ use crate::gathering::extend;
 use crate::level::Level;
 use crate::member::MemberReader;
 use crate::sets::BEHIND_KEY;
-use sf_value::classes::{ByteClass, InKey, short_prefix};
+use sf_value::classes::{ByteClass, InKey, any_prefix};
 use sf_value::{Bare, Dialect, Entries, Item, Key, Member, OutOfMemory, ShortBytes, can_start_key};
 use std::marker::Model;
 use std::mem;
@@ -139,7 +139,7 @@ impl Level for EntryReader {
     ) -> Result<&'a [u8], OutOfMemory> {
         match self.phase {
             EntryPhase::InKey => {
-                let (run, rest) = short_prefix::<InKey>(chunk);
+                let (run, rest) = any_prefix::<InKey>(chunk);
                 extend(&mut self.key, run)?;
                 return Ok(rest);
             }

@@ -11,7 +11,7 @@ use crate::gathering::extend;
 use crate::level::Level;
 use crate::sets::{BEHIND_KEY, KEY_START, SEMICOLON, SPACE, set_if};
 use crate::whole_parts::add_params;
-use sf_value::classes::{ByteClass, InKey, Space, short_prefix};
+use sf_value::classes::{ByteClass, InKey, Space, any_prefix, short_prefix};
 use sf_value::{Bare, Dialect, Entries, Key, OutOfMemory, ShortBytes, can_start_key};
 use std::marker::Model;
 use std::mem;
@@ -137,7 +137,7 @@ impl Level for ParamsReader {
                 return Ok(rest);
             }
             ParamsPhase::InKey => {
-                let (run, rest) = short_prefix::<InKey>(chunk);
+                let (run, rest) = any_prefix::<InKey>(chunk);
                 extend(&mut self.key, run)?;
                 return Ok(rest);
             }

@@ -24,7 +24,7 @@ use crate::context::Context;
 use crate::level::Level;
 use crate::sets::{COMMA, OWS, SPACE, set_if};
 use crate::whole_parts::{Found, WHOLE_PARTS, begins_param, may_begin_params, read_params};
-use sf_value::classes::{Ows, Space, ends, short_prefix, split, strip_byte};
+use sf_value::classes::{Ows, Space, ends, few_prefix, short_prefix, split, strip_byte};
 use sf_value::{Bare, Dialect, Entries, OutOfMemory, is_ows};
 use std::marker::Model;
 use std::mem;
@@ -556,7 +556,7 @@ fn add_inner<'a, P: SeriesMember<G>, G>(
 fn after_member(text: &[u8], is_whole: bool) -> Option<(SeriesPhase, &[u8])>
     ensures { IfSome result (λ r. IsBehindMember is_whole text.now r.0 r.1.now) }
 {
-    let (white, end) = short_prefix::<Ows>(text);
+    let (white, end) = few_prefix::<Ows>(text);
     let Some(more) = strip_byte(end, b',') else {
         if !ends(white) {
             return Some((SeriesPhase::Gap, end));
@@ -566,6 +566,6 @@ fn after_member(text: &[u8], is_whole: bool) -> Option<(SeriesPhase, &[u8])>
         }
         return Some((SeriesPhase::Gap, end));
     };
-    let (_, rest) = short_prefix::<Ows>(more);
+    let (_, rest) = few_prefix::<Ows>(more);
     Some((SeriesPhase::Comma, rest))
 }

@@ -27,7 +27,7 @@ use crate::context::Context;
 use crate::leaf::{find_leaf, make};
 use sf_scan::leaf::Leaf;
 use sf_scan::param::find_key;
-use sf_value::classes::{Space, short_prefix, split, strip_byte};
+use sf_value::classes::{Space, few_prefix, split, strip_byte};
 use sf_value::{
     Bare, Dialect, Entries, Inner, Item, Key, Member, OutOfMemory, Sequence, ShortBytes,
     can_start_key,
@@ -42,7 +42,7 @@ pub const WHOLE_PARTS: usize = 64;
 pub fn after_spaces(text: &[u8]) -> &[u8]
     ensures { Behind is_sp text.now result.now }
 {
-    let (_, rest) = short_prefix::<Space>(text);
+    let (_, rest) = few_prefix::<Space>(text);
     rest
 }
 

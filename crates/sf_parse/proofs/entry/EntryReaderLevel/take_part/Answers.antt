@@ -10,7 +10,7 @@ use Rattle.sf_parse.proofs.entry.EntryReaderLevel.take_part.Goals as goal
 pub invariant_of-self-in-InKey : goal.invariant_of-self-in-InKey
 invariant_of-self-in-InKey c = (
   word_run_kept is_key_start is_in_key _ _ _ c.in_ok-extend-in-InKey.ensures.bytes
-      c.short_prefix.ensures.every c.self.invariant.0,
+      c.any_prefix.ensures.every c.self.invariant.0,
   c.self.invariant.1,
 )
 
@@ -19,7 +19,7 @@ returns-in-InKey-clause-goes c =
     let d = c.args.context.now.dialect in
     rw (← c.self.view_is, c.in-InKey.is)
     (goes_above (word_step is_in_key) (entry_step d) InKey (key_in_entry d) _ _ _ _
-    (word_goes is_in_key _ _ _ _ _ c.short_prefix.ensures.whole c.short_prefix.ensures.every
+    (word_goes is_in_key _ _ _ _ _ c.any_prefix.ensures.whole c.any_prefix.ensures.every
     c.in_ok-extend-in-InKey.ensures.bytes))
 
 pub returns-in-InMemberValue-clause-goes : goal.returns-in-InMemberValue-clause-goes

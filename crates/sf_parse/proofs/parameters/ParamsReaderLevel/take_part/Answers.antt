@@ -22,7 +22,7 @@ invariant_of-self-in-InKey c =
     let key = rw c.in-InKey.is at c.self.invariant in
     rw c.in-InKey.is
     (word_run_kept is_key_start is_in_key _ _ _ c.in_ok-extend-in-InKey.ensures.bytes
-    c.short_prefix-in-InKey.ensures.every key)
+    c.any_prefix.ensures.every key)
 
 pub returns-in-InKey-clause-goes : goal.returns-in-InKey-clause-goes
 returns-in-InKey-clause-goes c =
@@ -30,8 +30,8 @@ returns-in-InKey-clause-goes c =
     let ps = c.self.inside.params in
     rw (← c.self.view_is, c.in-InKey.is)
     (goes_above (word_step is_in_key) (params_step d) (InParamKey ps) (key_in_params d ps) _ _ _ _
-    (word_goes is_in_key _ _ _ _ _ c.short_prefix-in-InKey.ensures.whole
-    c.short_prefix-in-InKey.ensures.every c.in_ok-extend-in-InKey.ensures.bytes))
+    (word_goes is_in_key _ _ _ _ _ c.any_prefix.ensures.whole
+    c.any_prefix.ensures.every c.in_ok-extend-in-InKey.ensures.bytes))
 
 pub returns-in-InValue-clause-goes : goal.returns-in-InValue-clause-goes
 returns-in-InValue-clause-goes c =
