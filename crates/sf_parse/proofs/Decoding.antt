@@ -1,11 +1,12 @@
 -- The bytes that the texts of Strings, Byte Sequences and Display Strings stand for.
 use Rattle.std.proofs.Common.{◌≡◌, ℕ, ◌+◌, ◌-◌, ◌*◌, ◌/◌, ◌%◌, ◌<◌, true, false, ◌==◌, nat_lt, ◌&&◌, List, []}
 use Rattle.std.proofs.Common.{◌∷◌, ◌++◌, length, take, set, Option, Some, None, refl, sym, ap, ◌∙◌}
-use Rattle.std.proofs.Common.{subst, arith, append_assoc, append-nil, ⊎_elim}
+use Rattle.std.proofs.Common.{subst, arith, length-append, append_assoc, append-nil, ⊎_elim}
 use Rattle.std.specs.Bool.{⊤}
 use Rattle.std.proofs.lemmas.List.{take_more_set}
 use Rattle.sf_value.specs.Ascii.{backslash, percent}
 use Rattle.sf_value.specs.Digits.{sextet}
+use Rattle.sf_value.specs.InPlace.{FitsInPlace}
 use Rattle.sf_value.specs.Grammar.DisplayStrings.{is_unencoded}
 use Rattle.sf_value.specs.Grammar.Strings.{is_unescaped}
 use Rattle.sf_value.specs.Grammar.Words.{Every, allow}
@@ -50,6 +51,14 @@ pub one_more : (all bytes more : List ℕ) (b : ℕ) (left rest : List ℕ) → 
     → more ≡ bytes ++ b ∷ [] → bytes ++ left ≡ all → more ++ rest ≡ all
 one_more all bytes more b left rest e f k =
     ap (λ t. t ++ rest) f ∙ append_assoc bytes (b ∷ []) rest ∙ ap (λ t. bytes ++ t) (sym e) ∙ k
+
+-- what is part of few bytes is few
+pub front_fits : (all bytes left : List ℕ) → FitsInPlace all → bytes ++ left ≡ all
+    → FitsInPlace bytes
+front_fits all bytes left h e =
+    let n = length-append bytes left in
+    let m : length (bytes ++ left) ≡ length all = ap length e in
+    omega arith
 
 -- nothing is left
 pub none_left : (all bytes left : List ℕ) → left ≡ [] → bytes ++ left ≡ all → bytes ≡ all

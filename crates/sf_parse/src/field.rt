@@ -173,11 +173,14 @@ impl WholeText for ItemFieldReader {
             return refuse_or_read::<ItemFieldReader>(context, Kind::Item, text);
         };
         let mut params = Entries::new(context.alloc, &context.seed);
-        let rest = read_params(context, after, &mut params);
+        let Ok(rest) = read_params(context, after, &mut params) else {
+            return refuse_unbuilt::<ItemFieldReader>(context, Kind::Item, text);
+        };
         if ends(after_spaces(rest)) {
-            if let Ok(bare) = make(context, leaf) {
-                return Ok(Item { bare, params });
-            }
+            return match make(context, leaf) {
+                Ok(bare) => Ok(Item { bare, params }),
+                Err(_) => refuse_unbuilt::<ItemFieldReader>(context, Kind::Item, text),
+            };
         }
         drop(params);
         refuse_or_read::<ItemFieldReader>(context, Kind::Item, text)

@@ -119,7 +119,9 @@ impl TextPhase {
 /// clear the stack that it needs.
 #[inline(never)]
 pub fn unescape(context: &Context, text: &[u8]) -> Result<ShortBytes, OutOfMemory>
-    ensures { IfOk result (λ bytes. bytes ≡ unescaped text.now) }
+    ensures bytes { IfOk result (λ bytes. bytes ≡ unescaped text.now) }
+    // With at most 16 bytes it does not allocate.
+    ensures in_place { FitsInPlace (unescaped text.now) → IsOk result }
 {
     let mut bytes = ShortBytes::new(context.alloc);
     let mut rest = text;
