@@ -9,7 +9,7 @@ use Rattle.sf_value.specs.declared.value.Member.TheVariants as member
 use Rattle.sf_value.specs.Grammar.Classes.{is_sp, is_ows}
 use Rattle.sf_value.specs.Grammar.Words.{Every}
 use Rattle.sf_value.specs.Grammar.Items.{SpellsItem, item}
-use Rattle.sf_value.specs.Grammar.Pairs.{Pairs, put}
+use Rattle.sf_value.specs.Grammar.Pairs.{Pairs}
 use Rattle.sf_value.specs.Grammar.Parameters.{SpellsParam}
 use Rattle.sf_value.specs.Grammar.InnerLists.{SpellsItems}
 use Rattle.sf_scan.specs.Leaves.{leaf_bare}
