@@ -16,8 +16,8 @@ use sf_value::{
     Bare, Blob, Dialect, Int, OutOfMemory, ShortBytes, Shown, Text, Thousandths, Token,
 };
 
-/// The bare item that a text begins with, and the rest; None if it begins with none. No byte after
-/// the place where a text can't go on is looked at.
+/// The bare item that a text begins with, and the rest; None if it begins with none. A malformed
+/// text is not searched after the place where it can't go on.
 #[inline(always)]
 pub fn find_leaf(dialect: Dialect, text: &[u8]) -> Option<(Leaf<'_>, &[u8])>
     ensures leaf { IfSome result (λ r. IsLeaf r.0) }
