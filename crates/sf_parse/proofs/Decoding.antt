@@ -1,13 +1,13 @@
 -- The bytes that the texts of Strings, Byte Sequences and Display Strings stand for.
 use Rattle.std.proofs.Common.{◌≡◌, ℕ, ◌+◌, ◌-◌, ◌*◌, ◌/◌, ◌%◌, ◌<◌, true, false, ◌==◌, nat_lt, ◌&&◌, List, []}
 use Rattle.std.proofs.Common.{◌∷◌, ◌++◌, length, take, set, Option, Some, None, refl, sym, ap, ◌∙◌}
-use Rattle.std.proofs.Common.{subst, arith, append_assoc, append-nil, ⊎_elim}
+use Rattle.std.proofs.Common.{not, subst, arith, length-append, append_assoc, append-nil, ⊎_elim}
 use Rattle.std.specs.Bool.{⊤}
 use Rattle.std.proofs.lemmas.List.{take_more_set}
 use Rattle.sf_value.specs.Ascii.{backslash, percent}
 use Rattle.sf_value.specs.Digits.{sextet}
-use Rattle.sf_value.specs.Grammar.DisplayStrings.{is_unencoded}
-use Rattle.sf_value.specs.Grammar.Strings.{is_unescaped}
+use Rattle.sf_value.specs.InPlace.{FitsInPlace}
+use Rattle.sf_value.specs.Grammar.Strings.{is_escaped}
 use Rattle.sf_value.specs.Grammar.Words.{Every, allow}
 use Rattle.sf_value.proofs.Words.{allow_cases, option_or_cases}
 use Rattle.sf_scan.specs.Blobs.{blob_bytes, octets, values}
@@ -22,7 +22,7 @@ use Rattle.sf_parse.proofs.Machine.Language.{and_then_cases}
 use Rattle.sf_parse.proofs.Prefixes.{goes_byte}
 
 -- Strings
-not_slash : (b : ℕ) → is_unescaped b ≡ true → (b == backslash) ≡ false
+not_slash : (b : ℕ) → not (is_escaped b) ≡ true → (b == backslash) ≡ false
 not_slash b h = grind arith
 
 unescaped_byte : (b : ℕ) (t : List ℕ) → (b == backslash) ≡ false
@@ -30,14 +30,14 @@ unescaped_byte : (b : ℕ) (t : List ℕ) → (b == backslash) ≡ false
 unescaped_byte b [] h = refl
 unescaped_byte b (c ∷ t) h = rw h refl
 
-unescaped_run : (xs rest : List ℕ) → Every is_unescaped xs
+unescaped_run : (xs rest : List ℕ) → Every (λ b. not (is_escaped b)) xs
     → unescaped (xs ++ rest) ≡ xs ++ unescaped rest
 unescaped_run [] rest h = refl
 unescaped_run (b ∷ xs) rest h =
     unescaped_byte b (xs ++ rest) (not_slash b h.0) ∙ ap (λ t. b ∷ t) (unescaped_run xs rest h.1)
 
 pub unescaped_more : (text rest xs left bytes more : List ℕ) → rest ≡ xs ++ left
-    → Every is_unescaped xs → more ≡ bytes ++ xs → bytes ++ unescaped rest ≡ unescaped text
+    → Every (λ b. not (is_escaped b)) xs → more ≡ bytes ++ xs → bytes ++ unescaped rest ≡ unescaped text
     → more ++ unescaped left ≡ unescaped text
 unescaped_more text rest xs left bytes more e h f k =
     ap (λ t. t ++ unescaped left) f
@@ -51,12 +51,20 @@ pub one_more : (all bytes more : List ℕ) (b : ℕ) (left rest : List ℕ) → 
 one_more all bytes more b left rest e f k =
     ap (λ t. t ++ rest) f ∙ append_assoc bytes (b ∷ []) rest ∙ ap (λ t. bytes ++ t) (sym e) ∙ k
 
+-- what is part of few bytes is few
+pub front_fits : (all bytes left : List ℕ) → FitsInPlace all → bytes ++ left ≡ all
+    → FitsInPlace bytes
+front_fits all bytes left h e =
+    let n = length-append bytes left in
+    let m : length (bytes ++ left) ≡ length all = ap length e in
+    omega arith
+
 -- nothing is left
 pub none_left : (all bytes left : List ℕ) → left ≡ [] → bytes ++ left ≡ all → bytes ≡ all
 none_left all bytes left e k = sym (append-nil bytes) ∙ ap (λ t. bytes ++ t) (sym e) ∙ k
 
 -- Display Strings
-not_percent : (b : ℕ) → is_unencoded b ≡ true → (b == percent) ≡ false
+not_percent : (b : ℕ) → not (b == percent) ≡ true → (b == percent) ≡ false
 not_percent b h = grind arith
 
 pub shown_byte : (b : ℕ) (t : List ℕ) → (b == percent) ≡ false
@@ -65,14 +73,14 @@ shown_byte b [] h = refl
 shown_byte b (c ∷ []) h = refl
 shown_byte b (c ∷ d ∷ t) h = rw h refl
 
-shown_run : (xs rest : List ℕ) → Every is_unencoded xs
+shown_run : (xs rest : List ℕ) → Every (λ b. not (b == percent)) xs
     → shown_bytes (xs ++ rest) ≡ xs ++ shown_bytes rest
 shown_run [] rest h = refl
 shown_run (b ∷ xs) rest h =
     shown_byte b (xs ++ rest) (not_percent b h.0) ∙ ap (λ t. b ∷ t) (shown_run xs rest h.1)
 
 pub shown_more : (text rest xs left bytes more : List ℕ) → rest ≡ xs ++ left
-    → Every is_unencoded xs → more ≡ bytes ++ xs → bytes ++ shown_bytes rest ≡ shown_bytes text
+    → Every (λ b. not (b == percent)) xs → more ≡ bytes ++ xs → bytes ++ shown_bytes rest ≡ shown_bytes text
     → more ++ shown_bytes left ≡ shown_bytes text
 shown_more text rest xs left bytes more e h f k =
     ap (λ t. t ++ shown_bytes left) f

@@ -14,7 +14,7 @@ use Rattle.std.proofs.Common.{◌≢◌}
 use Rattle.sf_parse.specs.SeriesView.{series_next, series_end, series_of}
 use Rattle.sf_parse.specs.declared.series.SeriesPhase.{SeriesPhase}
 use Rattle.sf_parse.specs.declared.series.SeriesPhase.TheVariants as phase
-use Rattle.sf_parse.specs.WholeParts.{ReadsAs}
+use Rattle.sf_parse.specs.WholeParts.{ReadsAs, BeginsMember}
 use Rattle.sf_parse.specs.WholeMembers.{IsWholeMember, MayBegin, MayEnd, NoneOpen}
 use Rattle.sf_parse.specs.WholeMembers.{TakesMembers, IsBehindMember}
 use Rattle.sf_parse.proofs.Machine.Language.{is_none}
@@ -237,20 +237,26 @@ module _ {S X V : Type 0} (first : ℕ → Option S) (next : S → ℕ → Optio
       (λ h. absurd (let k : true ≡ false = sym h.0 ∙ e in cc)) t.reached
 
   -- spaces are no member
-  pub not_free : (old : SeriesState S V) (p : SeriesPhase) (given : V) (s : S)
-      (chunk text rest : List ℕ) (x : X) → MayBegin none p given → IsWhole text x rest
+  pub not_begun : (old : SeriesState S V) (p : SeriesPhase) (given : V) (s : S)
+      (chunk text : List ℕ) → MayBegin none p given → BeginsMember text
       → Goes Next old chunk text (series_of p given s) → SeriesFree old chunk → ⊥
-  not_free old p given s chunk text rest x m w a h =
+  not_begun old p given s chunk text m begun a h =
       by p m (free_goes Next SeriesFree (series_keeps first next added none) old
       (series_of p given s) chunk text h a)
     where
       by : (p : SeriesPhase) → MayBegin none p given → SeriesFree (series_of p given s) text → ⊥
       by phase.Begin m h =
-          let k : Every is_sp (w.byte ∷ (w.more ++ rest)) = subst (Every is_sp) w.split h in
-          let j : true ≡ false = sym (sp_ows w.byte k.0) ∙ w.no_space in cc
+          let k : Every is_sp (begun.0 ∷ begun.1) = subst (Every is_sp) begun.2 h in
+          let j : true ≡ false = sym (sp_ows begun.0 k.0) ∙ begun.3 in cc
       by phase.InMember m h = m
       by phase.Gap m h = m
       by phase.Comma m h = h
+
+  pub not_free : (old : SeriesState S V) (p : SeriesPhase) (given : V) (s : S)
+      (chunk text rest : List ℕ) (x : X) → MayBegin none p given → IsWhole text x rest
+      → Goes Next old chunk text (series_of p given s) → SeriesFree old chunk → ⊥
+  not_free old p given s chunk text rest x m w =
+      not_begun old p given s chunk text m (w.byte, w.more ++ rest, w.split, w.no_space)
 
   pub may_begin_open : (p : SeriesPhase) (given : V) → MayBegin none p given
       → NoneOpen none p given

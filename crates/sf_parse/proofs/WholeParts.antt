@@ -1,7 +1,8 @@
 -- Parts that are read whole: their texts by those of their parts.
 use Rattle.std.proofs.Common.{◌≡◌, ℕ, true, List, [], ◌∷◌, ◌++◌, Option, Some, None}
 use Rattle.std.proofs.Common.{refl, sym, ap, ◌∙◌, subst, append_assoc, append-nil, inl, inr, arith}
-use Rattle.std.proofs.Common.{◌≤◌, ◌<◌, ◌+◌, length, length-append, IfSome}
+use Rattle.std.proofs.Common.{◌≤◌, ◌<◌, ◌+◌, length, length-append, IfSome, IfOk}
+use Rattle.std.proofs.Common.{Result, Ok, Err}
 use Rattle.sf_value.specs.declared.dialect.Dialect.{Dialect}
 use Rattle.sf_value.specs.declared.value.Bare.{Bare}
 use Rattle.sf_value.specs.declared.value.Bare.TheVariants.{Boolean}
@@ -25,6 +26,7 @@ use Rattle.sf_parse.specs.Machine.Bares.{BareState, GoodBare, ResidualBare}
 use Rattle.sf_parse.specs.Machine.Bares.{bare_step, bare_finish}
 use Rattle.sf_parse.specs.Machine.Params.{MoreParams}
 use Rattle.sf_parse.specs.declared.whole_parts.BehindItem.{BehindItem}
+use Rattle.sf_parse.specs.declared.whole_parts.Unread.{Unread}
 use Rattle.sf_parse.specs.WholeParts.{ReadsAs, ReadsParam, ReadsItems, AddsItem, Behind}
 use Rattle.sf_parse.proofs.Machine.Language.{and_then_cases}
 use Rattle.sf_parse.proofs.Machine.Bares.{bare_reads, bare_lives}
@@ -174,12 +176,12 @@ built_item d text after rest x y ps b e r =
 
 -- an Item that begins with this bare item
 pub takes_found : (d : Dialect) (x : Bare) (text after : List ℕ) (old new : List Item)
-    → ReadsAs (SpellsBare d) text x after → (o : Option BehindItem)
-    → IfSome o (λ end. (t : List ℕ) → ReadsAs (SpellsBare d) t x after
+    → ReadsAs (SpellsBare d) text x after → (r : Result BehindItem Unread)
+    → IfOk r (λ end. (t : List ℕ) → ReadsAs (SpellsBare d) t x after
     → AddsItem d t old new end)
-    → IfSome o (AddsItem d text old new)
-takes_found d x text after old new b None h = h
-takes_found d x text after old new b (Some end) h = h text b
+    → IfOk r (AddsItem d text old new)
+takes_found d x text after old new b (Err e) h = h
+takes_found d x text after old new b (Ok end) h = h text b
 
 -- Items of an Inner List: those after spaces, none, or one before others
 spaces_before : (d : Dialect) (least low : ℕ) (gap suffix : List ℕ) (is : List Item)

@@ -1,15 +1,15 @@
 -- What reading a whole part at the start of a text returns.
-use Rattle.std.specs.Prelude.{◌≡◌, ℕ, Bool, List, [], ◌∷◌, ◌++◌}
+use Rattle.std.specs.Prelude.{◌≡◌, ℕ, Bool, false, List, [], ◌∷◌, ◌++◌}
 use Rattle.sf_value.specs.Ascii.{space, semicolon, close_bracket}
 use Rattle.sf_value.specs.declared.dialect.Dialect.{Dialect}
 use Rattle.sf_value.specs.declared.value.Bare.{Bare}
 use Rattle.sf_value.specs.declared.value.Item.{Item}
 use Rattle.sf_value.specs.declared.value.Member.{Member}
 use Rattle.sf_value.specs.declared.value.Member.TheVariants as member
-use Rattle.sf_value.specs.Grammar.Classes.{is_sp}
+use Rattle.sf_value.specs.Grammar.Classes.{is_sp, is_ows}
 use Rattle.sf_value.specs.Grammar.Words.{Every}
 use Rattle.sf_value.specs.Grammar.Items.{SpellsItem, item}
-use Rattle.sf_value.specs.Grammar.Pairs.{Pairs, put}
+use Rattle.sf_value.specs.Grammar.Pairs.{Pairs}
 use Rattle.sf_value.specs.Grammar.Parameters.{SpellsParam}
 use Rattle.sf_value.specs.Grammar.InnerLists.{SpellsItems}
 use Rattle.sf_scan.specs.Leaves.{leaf_bare}
@@ -37,14 +37,6 @@ pub record ReadsParam (d : Dialect) (text key : List ℕ) (x : Bare) (rest : Lis
   pub split : text ≡ prefix ++ rest
   pub spelled : SpellsParam d (semicolon ∷ prefix) key x
 
--- it is put among the old ones
-pub record PutsParam (d : Dialect) (text : List ℕ) (old new : Pairs Bare) (rest : List ℕ)
-    : Type 0 where
-  pub key : List ℕ
-  pub value : Bare
-  pub reads : ReadsParam d text key value rest
-  pub added : new ≡ put old key value
-
 -- after an Item of an Inner List come one or more spaces, or the closing bracket
 abbrev pub IsBehindItem : List ℕ → BehindItem → Type 0
 IsBehindItem text (behind.Open rest) =
@@ -59,6 +51,10 @@ pub record AddsItem (d : Dialect) (text : List ℕ) (old new : List Item) (end :
   pub reads : ReadsAs (SpellsItem d) text item rest
   pub added : new ≡ old ++ item ∷ []
   pub behind : IsBehindItem rest end
+
+-- the text begins with a byte that is no white space, as members do
+abbrev pub BeginsMember : List ℕ → Type 0
+BeginsMember text = (b : ℕ) × (more : List ℕ) × (text ≡ b ∷ more) × (is_ows b ≡ false)
 
 -- what was found, with these parameters, as a member
 abbrev pub found_member : Found × Pairs Bare → Member

@@ -16,7 +16,7 @@ ghost use Rattle.sf_parse.specs.Expected.{MarksStep, digit_step};
 
 use crate::context::Context;
 use crate::sets::{FIRST_DIGITS, PERCENT, QUOTE, VISIBLE};
-use sf_value::classes::{UnencodedByte, long_prefix, split};
+use sf_value::classes::{NoPercent, UnencodedByte, long_prefix, split};
 use sf_value::{OutOfMemory, ShortBytes, Utf8State, is_visible, unhex};
 
 /// The part of a Display String that is being read.
@@ -376,7 +376,7 @@ pub fn decode_escapes(context: &Context, text: &[u8]) -> Result<ShortBytes, OutO
     let mut bytes = ShortBytes::new(context.alloc);
     let mut rest = text;
     loop {
-        let (run, left) = long_prefix::<UnencodedByte>(rest);
+        let (run, left) = long_prefix::<NoPercent>(rest);
         bytes.extend(run)?;
         let Some((first, more)) = decode_byte(left) else {
             return Ok(bytes);

@@ -173,11 +173,14 @@ impl WholeText for ItemFieldReader {
             return refuse_or_read::<ItemFieldReader>(context, Kind::Item, text);
         };
         let mut params = Entries::new(context.alloc, &context.seed);
-        let rest = read_params(context, after, &mut params);
+        let Ok(rest) = read_params(context, after, &mut params) else {
+            return refuse_unbuilt::<ItemFieldReader>(context, Kind::Item, text);
+        };
         if ends(after_spaces(rest)) {
-            if let Ok(bare) = make(context, leaf) {
-                return Ok(Item { bare, params });
-            }
+            return match make(context, leaf) {
+                Ok(bare) => Ok(Item { bare, params }),
+                Err(_) => refuse_unbuilt::<ItemFieldReader>(context, Kind::Item, text),
+            };
         }
         drop(params);
         refuse_or_read::<ItemFieldReader>(context, Kind::Item, text)
@@ -201,7 +204,6 @@ impl WholeText for ListReader {
             }
             Err(_) => return refuse_unbuilt::<ListReader>(context, Kind::List, text),
         }
-        // Its reader may need their memory.
         drop(members);
         refuse_or_read::<ListReader>(context, Kind::List, text)
     }
@@ -242,9 +244,9 @@ pub fn parse_whole<W: WholeText>(context: &Context, text: &[u8]) -> Result<W::Wh
     W::parse(context, text)
 }
 
-/// Refuses a text of which not all was read directly. If it is well-formed, an allocation failed, or
-/// it has a part that is left to its reader, which then reads all of it. It is not inlined, nor is
-/// [`read_text`]: a text that is read directly would pay for clearing their stack.
+/// Refuses a text of which not all was read directly. If it is well-formed after all, the reader of
+/// its kind reads all of it: no contract says that such a text is read directly. It is not inlined,
+/// nor is [`read_text`]: a text that is read directly would pay for clearing their stack.
 #[inline(never)]
 fn refuse_or_read<W: WholeField>(
     context: &Context,

@@ -1,9 +1,9 @@
 //! Bare items that are found in a text and built only where they are stored (RFC 9651 section
 //! 4.2.3.1). What was found is `Copy`: what follows it can be tested before anything is allocated.
-ghost use Rattle.std.specs.Prelude.{◌≡◌, ◌<◌, ◌^◌, nat_abs, IfSome, IfOk};
+ghost use Rattle.std.specs.Prelude.{◌≡◌, ◌<◌, ◌^◌, nat_abs, IfSome, IfOk, IsOk};
 ghost use Rattle.sf_value.specs.Grammar.BareItems.{SpellsBare};
 ghost use Rattle.sf_scan.specs.Leaves.{leaf_bare};
-ghost use Rattle.sf_parse.specs.Leaves.{IsLeaf};
+ghost use Rattle.sf_parse.specs.Leaves.{IsLeaf, FitsLeaf};
 ghost use Rattle.sf_parse.specs.WholeParts.{ReadsAs};
 
 use crate::blob::decode;
@@ -16,8 +16,8 @@ use sf_value::{
     Bare, Blob, Dialect, Int, OutOfMemory, ShortBytes, Shown, Text, Thousandths, Token,
 };
 
-/// The bare item that a text begins with, and the rest; None if it begins with none. No byte after
-/// the place where a text can't go on is looked at.
+/// The bare item that a text begins with, and the rest; None if it begins with none. A malformed
+/// text is not searched after the place where it can't go on.
 #[inline(always)]
 pub fn find_leaf(dialect: Dialect, text: &[u8]) -> Option<(Leaf<'_>, &[u8])>
     ensures leaf { IfSome result (λ r. IsLeaf r.0) }
@@ -34,7 +34,9 @@ pub fn find_leaf(dialect: Dialect, text: &[u8]) -> Option<(Leaf<'_>, &[u8])>
 #[inline(always)]
 pub fn make(context: &Context, leaf: Leaf<'_>) -> Result<Bare, OutOfMemory>
     requires { IsLeaf leaf }
-    ensures { IfOk result (λ bare. bare ≡ leaf_bare leaf.entry) }
+    ensures made { IfOk result (λ bare. bare ≡ leaf_bare leaf.entry) }
+    // A number, a Boolean, a Date, or a Token or String of at most 16 bytes does not allocate.
+    ensures in_place { FitsLeaf leaf.entry → IsOk result }
 {
     match leaf {
         Leaf::Integer(value) => return Ok(Bare::Integer(int(value))),

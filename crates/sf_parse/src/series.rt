@@ -7,7 +7,7 @@ ghost use Rattle.sf_value.specs.declared.value.Bare.{Bare};
 ghost use Rattle.sf_value.specs.Grammar.Pairs.{Pairs};
 ghost use Rattle.sf_value.specs.Grammar.Parameters.{SpellsParams};
 ghost use Rattle.sf_parse.specs.Expected.{MarksStep};
-ghost use Rattle.sf_parse.specs.WholeParts.{ReadsAs};
+ghost use Rattle.sf_parse.specs.WholeParts.{ReadsAs, BeginsMember};
 ghost use Rattle.sf_parse.specs.Prefixes.{Goes, FirstIs, Starts};
 ghost use Rattle.sf_parse.specs.SeriesView.{series_next, series_end, series_stuck, Ends};
 ghost use Rattle.sf_parse.specs.Machine.Series.{Begin};
@@ -23,7 +23,7 @@ use crate::ahead::has_comma;
 use crate::context::Context;
 use crate::level::Level;
 use crate::sets::{COMMA, OWS, SPACE, set_if};
-use crate::whole_parts::{Found, WHOLE_PARTS, begins_param, may_begin_params, read_params};
+use crate::whole_parts::{Found, Unread, WHOLE_PARTS, begins_param, may_begin_params, read_params};
 use sf_value::classes::{Ows, Space, ends, few_prefix, short_prefix, split, strip_byte};
 use sf_value::{Bare, Dialect, Entries, OutOfMemory, is_ows};
 use std::marker::Model;
@@ -98,14 +98,14 @@ pub trait SeriesMember<G>: Level {
         requires { is_found found }
         ensures { OnOk result (given.new ≡ with_found given.old (found.entry, params)) };
 
-    /// Whether the text may begin with a member that is an Inner List. It is a hint that saves
-    /// time; no proof relies on it.
-    fn may_begin_inner(text: &[u8]) -> bool;
+    /// Whether the text may begin with a member that is an Inner List.
+    fn may_begin_inner(text: &[u8]) -> bool
+        ensures { result ≡ true → BeginsMember text.now };
 
-    /// A whole member that is an Inner List, and the rest. None says nothing about the text.
-    fn read_inner<'a>(context: &Context, text: &'a [u8]) -> Option<(Self::Whole, &'a [u8])>
+    /// A whole member that is an Inner List, and the rest.
+    fn read_inner<'a>(context: &Context, text: &'a [u8]) -> Result<(Self::Whole, &'a [u8]), Unread>
         // The bytes before the rest are those of the member.
-        ensures { IfSome result (λ r. IsWholeMember (first context.now.dialect)
+        ensures { IfOk result (λ r. IsWholeMember (first context.now.dialect)
             (Self.Level.next context.now.dialect) added with text.now r.0 r.1.now) };
 
     /// Adds a whole member.
@@ -505,7 +505,7 @@ fn add_with_params<'a, P: SeriesMember<G>, G>(
         → IsOk result }
 {
     let mut params = Entries::new(context.alloc, &context.seed);
-    let rest = read_params(context, after, &mut params);
+    let rest = read_params(context, after, &mut params)?;
     let Some((next, more)) = after_member(rest, is_whole) else {
         return Ok(text);
     };
@@ -527,6 +527,7 @@ fn add_inner<'a, P: SeriesMember<G>, G>(
 ) -> Result<&'a [u8], OutOfMemory>
     // A member may begin.
     requires may_begin { MayBegin P.none phase.old given.old }
+    requires begun { BeginsMember text.now }
     // The bytes before the rest lead to the new phase and value, whatever member was read last; or
     // no byte is left of a whole text, and the value is that of the members.
     ensures goes { IfOk result (λ rest. (s : P) → TakesMembers
@@ -539,8 +540,10 @@ fn add_inner<'a, P: SeriesMember<G>, G>(
     ensures allocation_free { (s : P) → SeriesFree (series_of phase.old given.old s) text.now
         → IsOk result }
 {
-    let Some((member, after)) = P::read_inner(context, text) else {
-        return Ok(text);
+    let (member, after) = match P::read_inner(context, text) {
+        Ok(read) => read,
+        Err(Unread::NotWhole) => return Ok(text),
+        Err(Unread::OutOfMemory) => return Err(OutOfMemory),
     };
     let Some((next, more)) = after_member(after, is_whole) else {
         return Ok(text);

@@ -16,7 +16,7 @@ use crate::member::MemberReader;
 use crate::series::SeriesMember;
 use crate::sets::KEY_START;
 use crate::whole_parts::{
-    Found, find_named, may_begin_inner_entry, read_inner_entry, read_inner_member,
+    Found, Unread, find_named, may_begin_inner_entry, read_inner_entry, read_inner_member,
 };
 use sf_value::classes::{split, strip_byte};
 use sf_value::{
@@ -104,7 +104,7 @@ impl SeriesMember<Sequence<Member>> for MemberReader {
     }
 
     #[inline(always)]
-    fn read_inner<'a>(context: &Context, text: &'a [u8]) -> Option<(Member, &'a [u8])> {
+    fn read_inner<'a>(context: &Context, text: &'a [u8]) -> Result<(Member, &'a [u8]), Unread> {
         read_inner_member(context, text)
     }
 
@@ -185,9 +185,9 @@ impl SeriesMember<Entries<Member>> for EntryReader {
     }
 
     #[inline(always)]
-    fn read_inner<'a>(context: &Context, text: &'a [u8]) -> Option<(Entry, &'a [u8])> {
+    fn read_inner<'a>(context: &Context, text: &'a [u8]) -> Result<(Entry, &'a [u8]), Unread> {
         let (key, member, rest) = read_inner_entry(context, text)?;
-        Some((Entry { key, member }, rest))
+        Ok((Entry { key, member }, rest))
     }
 
     #[inline(always)]

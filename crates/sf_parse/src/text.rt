@@ -13,7 +13,7 @@ ghost use Rattle.sf_parse.specs.Machine.Texts.{text_step, text_finish};
 
 use crate::context::Context;
 use crate::sets::{ESCAPED, VISIBLE};
-use sf_value::classes::{Unescaped, long_prefix, split};
+use sf_value::classes::{NoBackslash, Unescaped, long_prefix, split};
 use sf_value::{OutOfMemory, ShortBytes, is_visible};
 
 /// The part of a String that is being read, after its opening quote.
@@ -119,12 +119,14 @@ impl TextPhase {
 /// clear the stack that it needs.
 #[inline(never)]
 pub fn unescape(context: &Context, text: &[u8]) -> Result<ShortBytes, OutOfMemory>
-    ensures { IfOk result (λ bytes. bytes ≡ unescaped text.now) }
+    ensures bytes { IfOk result (λ bytes. bytes ≡ unescaped text.now) }
+    // With at most 16 bytes it does not allocate.
+    ensures in_place { FitsInPlace (unescaped text.now) → IsOk result }
 {
     let mut bytes = ShortBytes::new(context.alloc);
     let mut rest = text;
     loop {
-        let (run, left) = long_prefix::<Unescaped>(rest);
+        let (run, left) = long_prefix::<NoBackslash>(rest);
         bytes.extend(run)?;
         let Some((byte, more)) = unescape_byte(left) else {
             return Ok(bytes);

@@ -1,9 +1,9 @@
 //! Parts of a field that are whole in a text, read without a state between two calls, and built
 //! where they are stored. A function that returns None says nothing about the text, which is then
 //! refused, or read by the levels.
-ghost use Rattle.std.specs.Prelude.{◌≡◌, ◌++◌, ◌∷◌, ℕ, List, []};
-ghost use Rattle.std.specs.Prelude.{IfSome, IfNone, IfOk, OnOk, OnErr};
-ghost use Rattle.sf_value.specs.Ascii.{open_bracket};
+ghost use Rattle.std.specs.Prelude.{◌≡◌, ◌++◌, ◌∷◌, ℕ, List, [], true};
+ghost use Rattle.std.specs.Prelude.{IfSome, IfOk, OnOk, OnErr};
+ghost use Rattle.sf_value.specs.Ascii.{open_bracket, semicolon};
 ghost use Rattle.sf_value.specs.Grammar.BareItems.{SpellsBare};
 ghost use Rattle.sf_value.specs.Grammar.Classes.{is_sp};
 ghost use Rattle.sf_value.specs.Grammar.Fields.{SpellsEntry};
@@ -18,9 +18,10 @@ ghost use Rattle.sf_parse.specs.Machine.Inners.{BetweenItems};
 ghost use Rattle.sf_parse.specs.Machine.Members.{InMany, member_step};
 ghost use Rattle.sf_parse.specs.Machine.Params.{Opened, params_step};
 ghost use Rattle.sf_parse.specs.Prefixes.{Goes};
-ghost use Rattle.sf_parse.specs.WholeParts.{ReadsAs, ReadsParam, PutsParam, Behind};
+ghost use Rattle.sf_parse.specs.WholeParts.{ReadsAs, ReadsParam, Behind, BeginsMember};
 ghost use Rattle.sf_parse.specs.WholeParts.{ReadsItems, IsBehindItem, AddsItem};
 ghost use Rattle.sf_parse.specs.WholeParts.{found_member};
+ghost use Rattle.sf_parse.specs.declared.whole_parts.Unread.TheVariants as unread_is;
 
 use crate::ahead::has_space;
 use crate::context::Context;
@@ -54,6 +55,23 @@ pub struct Found<'a> {
     pub key: &'a [u8],
     /// The bare item.
     pub leaf: Leaf<'a>,
+}
+
+/// Why a part was not read.
+#[derive(Clone, Copy)]
+pub enum Unread {
+    /// It is malformed, or not whole in the text.
+    NotWhole,
+    /// An allocation failed.
+    OutOfMemory,
+}
+
+impl From<OutOfMemory> for Unread {
+    ghost from_gives = { λ _ e. e ≡ unread_is.OutOfMemory };
+
+    fn from(_fault: OutOfMemory) -> Unread {
+        Unread::OutOfMemory
+    }
 }
 
 /// A key and its value, a bare item, and the rest; None if the text begins with none.
@@ -101,19 +119,6 @@ pub fn begins_param(dialect: Dialect, text: &[u8]) -> bool {
         Some((_, rest)) => matches!(split(rest), Some((b';' | b',' | b' ' | b'\t', _))),
         None => false,
     }
-}
-
-/// A key, and the rest.
-#[inline(always)]
-fn read_key<'a>(context: &Context, text: &'a [u8]) -> Option<(Key, &'a [u8])>
-    ensures split { IfSome result (λ r. text.now ≡ r.0 ++ r.1.now) }
-    ensures key { IfSome result (λ r. IsKey r.0) }
-{
-    let (key, rest) = find_key(text)?;
-    let Ok(bytes) = ShortBytes::from_slice(context.alloc, key) else {
-        return None;
-    };
-    Some((Key::from_bytes(bytes), rest))
 }
 
 /// Puts the whole parameters that a text begins with, after the first semicolon, each with the
@@ -181,45 +186,43 @@ fn put_leaf(
 /// semicolon if the next parameter is not whole. It costs a call only if the text begins with a
 /// semicolon.
 #[inline(always)]
-pub fn read_params<'a>(context: &Context, text: &'a [u8], params: &mut Entries<Bare>) -> &'a [u8]
+pub fn read_params<'a>(
+    context: &Context,
+    text: &'a [u8],
+    params: &mut Entries<Bare>,
+) -> Result<&'a [u8], OutOfMemory>
     requires { params.old ≡ [] }
-    ensures { ReadsAs (SpellsParams context.now.dialect) text.now params.new result.now }
+    ensures reads { IfOk result (λ rest. ReadsAs (SpellsParams context.now.dialect) text.now
+        params.new rest.now) }
+    // It fails only if there may be parameters.
+    ensures begun { OnErr result ((more : List ℕ) × (text.now ≡ semicolon ∷ more)) }
 {
     if strip_byte(text, b';').is_none() {
-        return text;
+        return Ok(text);
     }
     read_each_param(context, text, params)
 }
 
 /// As [`read_params`].
 #[inline(never)]
-fn read_each_param<'a>(context: &Context, text: &'a [u8], params: &mut Entries<Bare>) -> &'a [u8]
+fn read_each_param<'a>(
+    context: &Context,
+    text: &'a [u8],
+    params: &mut Entries<Bare>,
+) -> Result<&'a [u8], OutOfMemory>
     requires { params.old ≡ [] }
-    ensures { ReadsAs (SpellsParams context.now.dialect) text.now params.new result.now }
+    ensures { IfOk result (λ rest. ReadsAs (SpellsParams context.now.dialect) text.now params.new
+        rest.now) }
 {
     let mut rest = text;
     while let Some(more) = strip_byte(rest, b';') {
-        let Some(left) = put_param(context, more, params) else {
-            return rest;
+        let Some((found, left)) = find_named(context.dialect, after_spaces(more)) else {
+            return Ok(rest);
         };
+        put_leaf(context, found, params)?;
         rest = left;
     }
-    rest
-}
-
-/// Puts the parameter that a text begins with, after its semicolon, and returns the rest. If it is
-/// not whole, or an allocation fails, it changes nothing.
-#[inline(always)]
-fn put_param<'a>(context: &Context, text: &'a [u8], params: &mut Entries<Bare>) -> Option<&'a [u8]>
-    ensures puts { IfSome result (λ rest. PutsParam context.now.dialect text.now params.old
-        params.new rest.now) }
-    ensures same { IfNone result (params.new ≡ params.old) }
-{
-    let (found, rest) = find_named(context.dialect, after_spaces(text))?;
-    let Ok(()) = put_leaf(context, found, params) else {
-        return None;
-    };
-    Some(rest)
+    Ok(rest)
 }
 
 /// Adds whole Items of an Inner List, each with the space after it, and returns the rest.
@@ -294,7 +297,7 @@ fn push_before_space<'a>(
         return Ok(text);
     }
     let mut params = Entries::new(context.alloc, &context.seed);
-    let rest = read_params(context, after, &mut params);
+    let rest = read_params(context, after, &mut params)?;
     let Some(left) = strip_byte(rest, b' ') else {
         return Ok(text);
     };
@@ -328,58 +331,59 @@ pub enum BehindItem<'a> {
     Closed(&'a [u8]),
 }
 
-/// Adds the whole Items of an Inner List, and returns the rest after its closing bracket. None says
-/// nothing about the text.
+/// Adds the whole Items of an Inner List, and returns the rest after its closing bracket.
 #[inline(always)]
-fn read_items<'a>(context: &Context, text: &'a [u8], items: &mut Sequence<Item>) -> Option<&'a [u8]>
-    ensures { IfSome result (λ rest. ReadsItems context.now.dialect 0 text.now items.old items.new
+fn read_items<'a>(
+    context: &Context,
+    text: &'a [u8],
+    items: &mut Sequence<Item>,
+) -> Result<&'a [u8], Unread>
+    ensures { IfOk result (λ rest. ReadsItems context.now.dialect 0 text.now items.old items.new
         rest.now) }
 {
     let mut rest = after_spaces(text);
     loop {
         if let Some(left) = strip_byte(rest, b')') {
-            return Some(left);
+            return Ok(left);
         }
         match push_item(context, rest, items)? {
             BehindItem::Open(left) => rest = left,
-            BehindItem::Closed(left) => return Some(left),
+            BehindItem::Closed(left) => return Ok(left),
         }
     }
 }
 
 /// What comes after an Item of an Inner List: at least one space, or the closing bracket.
 #[inline(always)]
-fn after_item(text: &[u8]) -> Option<BehindItem<'_>>
-    ensures { IfSome result (IsBehindItem text.now) }
+fn after_item(text: &[u8]) -> Result<BehindItem<'_>, Unread>
+    ensures { IfOk result (IsBehindItem text.now) }
 {
     match split(text) {
-        Some((b' ', more)) => Some(BehindItem::Open(after_spaces(more))),
-        Some((b')', rest)) => Some(BehindItem::Closed(rest)),
-        _ => None,
+        Some((b' ', more)) => Ok(BehindItem::Open(after_spaces(more))),
+        Some((b')', rest)) => Ok(BehindItem::Closed(rest)),
+        _ => Err(Unread::NotWhole),
     }
 }
 
-/// Adds the Item that a text begins with, and returns what comes after it. If it is not whole, or
-/// an allocation fails, it changes nothing.
+/// Adds the Item that a text begins with, and returns what comes after it.
 #[inline(always)]
 fn push_item<'a>(
     context: &Context,
     text: &'a [u8],
     items: &mut Sequence<Item>,
-) -> Option<BehindItem<'a>>
-    ensures takes { IfSome result (AddsItem context.now.dialect text.now items.old items.new) }
-    ensures same { IfNone result (items.new ≡ items.old) }
+) -> Result<BehindItem<'a>, Unread>
+    ensures { IfOk result (AddsItem context.now.dialect text.now items.old items.new) }
 {
-    let (leaf, after) = find_leaf(context.dialect, text)?;
+    let Some((leaf, after)) = find_leaf(context.dialect, text) else {
+        return Err(Unread::NotWhole);
+    };
     if strip_byte(after, b';').is_some() {
         return push_with_params(context, leaf, after, items);
     }
     let end = after_item(after)?;
     let params = Entries::new(context.alloc, &context.seed);
-    let Ok(()) = push_leaf(context, leaf, params, items) else {
-        return None;
-    };
-    Some(end)
+    push_leaf(context, leaf, params, items)?;
+    Ok(end)
 }
 
 /// Adds an Item that was found, with the parameters after it, and returns what comes after them.
@@ -389,62 +393,72 @@ fn push_with_params<'a>(
     leaf: Leaf<'_>,
     after: &'a [u8],
     items: &mut Sequence<Item>,
-) -> Option<BehindItem<'a>>
+) -> Result<BehindItem<'a>, Unread>
     requires { IsLeaf leaf }
-    ensures takes { IfSome result (λ end. (text : List ℕ)
+    ensures { IfOk result (λ end. (text : List ℕ)
         → ReadsAs (SpellsBare context.now.dialect) text (leaf_bare leaf.entry) after.now
         → AddsItem context.now.dialect text items.old items.new end) }
-    ensures same { IfNone result (items.new ≡ items.old) }
 {
     let mut params = Entries::new(context.alloc, &context.seed);
-    let rest = read_params(context, after, &mut params);
+    let rest = read_params(context, after, &mut params)?;
     let end = after_item(rest)?;
-    let Ok(()) = push_leaf(context, leaf, params, items) else {
-        return None;
-    };
-    Some(end)
+    push_leaf(context, leaf, params, items)?;
+    Ok(end)
 }
 
 /// An Inner List after its opening bracket, and the rest.
 #[inline(never)]
-fn read_inner<'a>(context: &Context, inside: &'a [u8]) -> Option<(Inner, &'a [u8])>
-    ensures { IfSome result (λ r. ReadsAs (SpellsInner context.now.dialect)
+fn read_inner<'a>(context: &Context, inside: &'a [u8]) -> Result<(Inner, &'a [u8]), Unread>
+    ensures { IfOk result (λ r. ReadsAs (SpellsInner context.now.dialect)
         (open_bracket ∷ inside.now) r.0 r.1.now) }
 {
     let mut items = Sequence::new(context.alloc);
     let after = read_items(context, inside, &mut items)?;
     let mut params = Entries::new(context.alloc, &context.seed);
-    let rest = read_params(context, after, &mut params);
-    Some((Inner { items, params }, rest))
+    let rest = read_params(context, after, &mut params)?;
+    Ok((Inner { items, params }, rest))
 }
 
-/// A member of a List that is an Inner List, and the rest. None says nothing about the text.
+/// A member of a List that is an Inner List, and the rest.
 #[inline(always)]
-pub fn read_inner_member<'a>(context: &Context, text: &'a [u8]) -> Option<(Member, &'a [u8])>
-    ensures { IfSome result (λ r. ReadsAs (SpellsMember context.now.dialect) text.now r.0 r.1.now) }
+pub fn read_inner_member<'a>(
+    context: &Context,
+    text: &'a [u8],
+) -> Result<(Member, &'a [u8]), Unread>
+    ensures { IfOk result (λ r. ReadsAs (SpellsMember context.now.dialect) text.now r.0 r.1.now) }
 {
-    let inside = strip_byte(text, b'(')?;
+    let Some(inside) = strip_byte(text, b'(') else {
+        return Err(Unread::NotWhole);
+    };
     let (inner, rest) = read_inner(context, inside)?;
-    Some((Member::Inner(inner), rest))
+    Ok((Member::Inner(inner), rest))
 }
 
-/// A member of a Dictionary that is an Inner List: its key, the Inner List, and the rest. None says
-/// nothing about the text.
+/// A member of a Dictionary that is an Inner List: its key, the Inner List, and the rest.
 #[inline(always)]
-pub fn read_inner_entry<'a>(context: &Context, text: &'a [u8]) -> Option<(Key, Member, &'a [u8])>
-    ensures { IfSome result (λ r. ReadsAs (SpellsEntry context.now.dialect) text.now (r.0, r.1)
+pub fn read_inner_entry<'a>(
+    context: &Context,
+    text: &'a [u8],
+) -> Result<(Key, Member, &'a [u8]), Unread>
+    ensures { IfOk result (λ r. ReadsAs (SpellsEntry context.now.dialect) text.now (r.0, r.1)
         r.2.now) }
 {
-    let (key, after) = read_key(context, text)?;
-    let value = strip_byte(after, b'=')?;
+    let Some((key, after)) = find_key(text) else {
+        return Err(Unread::NotWhole);
+    };
+    let Some(value) = strip_byte(after, b'=') else {
+        return Err(Unread::NotWhole);
+    };
+    let bytes = ShortBytes::from_slice(context.alloc, key)?;
     let (member, rest) = read_inner_member(context, value)?;
-    Some((key, member, rest))
+    Ok((Key::from_bytes(bytes), member, rest))
 }
 
-/// Whether the text begins with a key whose value may be an Inner List. It is a hint that saves
-/// time; no proof relies on it.
+/// Whether the text begins with a key whose value may be an Inner List.
 #[inline(always)]
-pub fn may_begin_inner_entry(text: &[u8]) -> bool {
+pub fn may_begin_inner_entry(text: &[u8]) -> bool
+    ensures { result ≡ true → BeginsMember text.now }
+{
     match find_key(text) {
         Some((_, after)) => matches!(after, [b'=', b'(', ..]),
         None => false,

@@ -1,7 +1,8 @@
 //! Classes of bytes (RFC 9651 section 3), and what a text begins with: runs of them, and single
 //! bytes. A class is a type; each is tested here, once, for values, parsers and writers.
 ghost use Rattle.std.specs.Prelude.{◌≡◌, ◌≢◌, ◌≤◌, ◌<◌, ◌*◌, ◌++◌, [], ◌∷◌, ℕ, Bool, true, false};
-ghost use Rattle.std.specs.Prelude.{length, take, drop, not, MatchOption};
+ghost use Rattle.std.specs.Prelude.{◌==◌, length, take, drop, not, MatchOption};
+ghost use Rattle.sf_value.specs.Ascii.{percent};
 ghost use Rattle.std.specs.List.{prefix_len};
 ghost use Rattle.sf_value.specs.Grammar.Words.{Every};
 ghost use Rattle.sf_value.specs.Runs.{FirstIs, Lacks};
@@ -95,6 +96,9 @@ pub struct NoBackslash;
 /// A byte of a display string that is written without an escape (section 4.1.11).
 pub struct UnencodedByte;
 
+/// A byte with which no escape of a display string begins (section 4.1.11).
+pub struct NoPercent;
+
 /// The characters of base64 (RFC 4648 section 4).
 pub struct Base64;
 
@@ -173,6 +177,15 @@ impl ByteClass for UnencodedByte {
     #[inline]
     fn has(byte: u8) -> bool {
         CLASSES[byte as usize] & UNENCODED != 0
+    }
+}
+
+impl ByteClass for NoPercent {
+    ghost test = { λ b. not (b == percent) };
+
+    #[inline]
+    fn has(byte: u8) -> bool {
+        byte != b'%'
     }
 }
 

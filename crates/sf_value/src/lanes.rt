@@ -2,7 +2,7 @@
 ghost use Rattle.std.specs.Prelude.{◌≡◌, map, not};
 ghost use Rattle.std.specs.Simd.Lanes.{mask_l};
 
-use crate::classes::{Base64, ByteClass, InKey, InToken, NoBackslash, UnencodedByte};
+use crate::classes::{Base64, ByteClass, InKey, InToken, NoBackslash, NoPercent, UnencodedByte};
 use crate::classes::{Unescaped, Visible};
 use std::simd::prelude::*;
 
@@ -70,6 +70,13 @@ impl LaneClass for UnencodedByte {
         let invisible = bytes.simd_lt(u8x16::splat(b' ')) | bytes.simd_gt(u8x16::splat(b'~'));
         let encoded = bytes.simd_eq(u8x16::splat(b'"')) | bytes.simd_eq(u8x16::splat(b'%'));
         (invisible | encoded).to_bitmask()
+    }
+}
+
+impl LaneClass for NoPercent {
+    #[inline(always)]
+    fn outside(bytes: u8x16) -> u64 {
+        bytes.simd_eq(u8x16::splat(b'%')).to_bitmask()
     }
 }
 

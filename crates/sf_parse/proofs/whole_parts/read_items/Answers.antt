@@ -10,13 +10,13 @@ returns-in-Some c = c.loop-left.invariant _ _ (items_end _ 0 _ _ _ c.in-Some.ens
 
 pub returns-in-Closed : goal.returns-in-Closed
 returns-in-Closed c =
-    let one = rw c.in-Closed.is at c.in_ok-left.ensures.takes in
+    let one = rw c.in-Closed.is at c.in_ok-left.ensures in
     c.loop-left.invariant _ _
     (items_then _ _ _ _ _ _ _ _ one.reads one.added (items_end _ 1 _ _ _ one.behind))
 
 pub loop-left-preserved : goal.loop-left-preserved
 loop-left-preserved c =
-    let one = rw c.in-Open.is at c.in_ok-left.ensures.takes in
+    let one = rw c.in-Open.is at c.in_ok-left.ensures in
     let behind = one.behind in
     λ all s r. c.loop-left.invariant _ _
     (items_then _ _ _ _ _ _ _ _ one.reads one.added
@@ -24,6 +24,6 @@ loop-left-preserved c =
 
 pub loop-left-smaller : goal.loop-left-smaller
 loop-left-smaller c =
-    let one = rw c.in-Open.is at c.in_ok-left.ensures.takes in
+    let one = rw c.in-Open.is at c.in_ok-left.ensures in
     let behind = one.behind in
     item_shorter c.args.context.now.dialect _ _ _ _ _ one.reads behind.1 behind.2
