@@ -14,7 +14,7 @@ LIST, DICT = ("list",), ("dict",)
 
 TEXTS = [
     *calls_of("parse_text, parse_text_in, feed, feed 1, feed 7, feed 64, feed 512, parse_reader"),
-    *calls_of("normalise, accepts, scan, field_nodes, parse_declined"),
+    *calls_of("normalise, accepts, scan, field_nodes, parse_declined, refuse_text"),
     *calls_of("c_check, c_normalise, c_parse, c_equal"),
     *calls_of("item_cursor, hop_cursor, c_cache_status, c_append", LIST),
     *calls_of("dict_cursor, of_cache_control", DICT),

@@ -2,7 +2,7 @@
 
 use crate::record::Record;
 use crate::session::Session;
-use sf_parse::{Parser, Refusal, parse_reader, parse_text, parse_text_in};
+use sf_parse::{Parser, Refusal, parse_reader, parse_text, parse_text_in, refuse_text};
 use sf_value::{Dialect, Field, Reading};
 use sf_view::{accepts, normalise, parse_declined};
 
@@ -16,6 +16,7 @@ pub(crate) fn answer(session: &mut Session, record: &Record) -> anyhow::Result<b
         "normalise" => normalise_texts(session, record)?,
         "accepts" => accept_texts(session, record),
         "parse_declined" => parse_declined_texts(session, record)?,
+        "refuse_text" => refuse_texts(session, record),
         "message" => write_messages(session, record)?,
         _ => return Ok(false),
     }
@@ -110,6 +111,15 @@ fn accept_texts(session: &mut Session, record: &Record) {
     for _ in 0..record.times {
         let accepted = accepts(Dialect::Rfc9651, record.kind, record.text);
         session.digest.number(u64::from(accepted));
+    }
+    session.calls_end();
+}
+
+fn refuse_texts(session: &mut Session, record: &Record) {
+    session.calls_begin();
+    for _ in 0..record.times {
+        let refusal = refuse_text(Dialect::Rfc9651, record.kind, record.text);
+        session.digest.number(u64::from(refusal.is_some()));
     }
     session.calls_end();
 }

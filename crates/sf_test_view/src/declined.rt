@@ -1,5 +1,5 @@
 //! Texts that are malformed after whole members.
-use sf_parse::{Refusal, parse_text_in};
+use sf_parse::{Parser, Refusal};
 use sf_value::{Dialect, Field, Kind, same};
 use sf_view::parse_declined;
 use std::alloc::Global;
@@ -112,6 +112,21 @@ fn refusals_are_exact(rt: HostRuntime) -> Result<(), Fail> {
     Ok(())
 }
 
+/// The field of the text, or its refusal, by a parser that gets single bytes.
+fn parse_bytes(
+    alloc: Global,
+    seed: &RandomState,
+    dialect: Dialect,
+    kind: Kind,
+    text: &[u8],
+) -> Result<Field, Refusal> {
+    let mut parser = Parser::new_in(alloc, seed, dialect, kind, u64::MAX);
+    for byte in text.chunks(1) {
+        parser.feed(byte)?;
+    }
+    parser.finish()
+}
+
 /// Whether both are the same field or the same refusal.
 fn agree(first: Result<Field, Refusal>, second: Result<Field, Refusal>) -> bool {
     match (first, second) {
@@ -134,7 +149,7 @@ fn check_cuts(
     for cut in first..=text.len() {
         let (text, _) = text.split_at(cut);
         let parsed = parse_declined(alloc, seed, dialect, kind, text);
-        assert!(rt; agree(parsed, parse_text_in(alloc, seed, dialect, kind, text)));
+        assert!(rt; agree(parsed, parse_bytes(alloc, seed, dialect, kind, text)));
     }
 }
 
