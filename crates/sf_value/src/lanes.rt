@@ -2,8 +2,9 @@
 ghost use Rattle.std.specs.Prelude.{◌≡◌, map, not};
 ghost use Rattle.std.specs.Simd.Lanes.{mask_l};
 
-use crate::classes::{Base64, ByteClass, InKey, InToken, NoBackslash, NoPercent, UnencodedByte};
-use crate::classes::{Unescaped, Visible};
+use crate::classes::{
+    Base64, ByteClass, InKey, InToken, NoBackslash, NoPercent, UnencodedByte, Unescaped, Visible,
+};
 use std::simd::prelude::*;
 
 /// The number of bytes that are tested at a time.

@@ -50,11 +50,14 @@ returns-in-Err g c =
     (c.in-Some.ensures ∙ ap (λ x. x ∷ c.in-Some.more.now) c.if-first-eq63.true) (c.in-Err.ensures d)
 
 pub token-requires-then-can_start_token : goal.token-requires-then-can_start_token
-token-requires-then-can_start_token g c κs =
-    ((refl, tt),
-    (c.token.result.0.left.now,
+token-requires-then-can_start_token g c κs = (
+  (refl, tt),
+  (
+    c.token.result.0.left.now,
     token_fits _ (g.T.Take.fits c.args.take) _ _ _ c.token.result.0
-    (c.token.ensures c.args.dialect) refl c.requires))
+        (c.token.ensures c.args.dialect) refl c.requires,
+  ),
+)
 
 pub returns-then-can_start_token : goal.returns-then-can_start_token
 returns-then-can_start_token g c =
