@@ -28,7 +28,7 @@ impl Item {
     }
 
     /// The Item with one more parameter. The value of a key that is present is replaced in place,
-    /// which does not allocate.
+    /// which does not allocate. It fails only if the key is new and an allocation fails.
     ///
     /// ```
     /// let item = Item::new(alloc, &seed, Bare::Token(Token::new(alloc, b"a")?))
@@ -77,7 +77,13 @@ impl Inner {
     }
 
     /// The Inner List with one more parameter of its own. The value of a key that is present is
-    /// replaced in place, which does not allocate.
+    /// replaced in place, which does not allocate. It fails only if the key is new and an
+    /// allocation fails.
+    ///
+    /// ```
+    /// let inner = Inner::new(alloc, &seed)
+    ///     .with_param(Key::new(alloc, b"q")?, Bare::Boolean(true))?; // ();q
+    /// ```
     pub fn with_param(self, key: Key, value: Bare) -> Result<Inner, OutOfMemory>
         // A key that is present keeps its place and is overwritten; a new one goes last.
         ensures new { IfOk result (λ more. more ≡ inner self.items (put self.params key value)) }
@@ -126,7 +132,7 @@ impl Dict {
     }
 
     /// The Dictionary with one more member. The value of a key that is present is replaced in
-    /// place, which does not allocate.
+    /// place, which does not allocate. It fails only if the key is new and an allocation fails.
     ///
     /// ```
     /// let dict = Dict::new(alloc, &seed).with(Key::new(alloc, b"u")?, Member::Item(item))?;

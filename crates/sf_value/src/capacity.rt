@@ -3,7 +3,7 @@ ghost use Rattle.std.specs.Prelude.{◌≤◌};
 ghost use Rattle.sf_value.specs.Capacities.{HasGrown};
 
 /// The capacity of a vector after the first addition.
-const FIRST: usize = 4;
+pub(crate) const FIRST: usize = 4;
 
 /// The capacity for a copy of this many values: the same that adding them one by one would give, so
 /// that adding to a copy reallocates no more often than adding to its source.

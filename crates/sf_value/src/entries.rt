@@ -12,6 +12,7 @@ ghost use Rattle.sf_value.specs.Deciding.{pairs_decide};
 ghost use Rattle.std.specs.Iterator.{at_most};
 ghost use Rattle.std.specs.Map.Iter.{TakesFirst, ShowsInOrder};
 
+use crate::capacity::FIRST;
 use crate::fault::OutOfMemory;
 use crate::key::Key;
 use crate::part::Part;
@@ -242,9 +243,14 @@ impl<'a, V> IterMut<'a, V> {
 }
 
 impl<V: Drop> Entries<V> {
-    /// Puts a value at a key. A new key goes last, and the result is `None`. The value of a key
-    /// that is present is replaced in place and returned; this does not allocate. If an allocation
-    /// fails, the entries are unchanged, and the key and the value are returned.
+    /// Puts a value at a key (RFC 9651 sections 4.2.2 and 4.2.3.2). A new key goes last, and the
+    /// result is `None`. The value of a key that is present is replaced in place and returned; this
+    /// does not allocate. If an allocation fails, the entries are unchanged, and the key and the
+    /// value are returned.
+    ///
+    /// ```
+    /// entries.put(Key::new(alloc, b"a")?, 3) // Ok(Some(1)), if the value of a was 1
+    /// ```
     pub fn put(&mut self, key: Key, value: V) -> Result<Option<V>, (Key, V)>
         // A key that is present keeps its place and is overwritten; a new one goes last.
         ensures new { IfOk result (λ _. self.new ≡ settle (self.old ++ (key, value) ∷ [])) }
@@ -291,7 +297,31 @@ impl<V: Drop> Entries<V> {
         // It fails only if the key is new.
         ensures absent { OnErr result (value_at key.now self.old ≡ None) }
     {
-        self.store.set_named(alloc, key, value)
+        self.store.set_named(alloc, key, value, FIRST)
+    }
+
+    /// As [`Entries::set_named`], for entries of which so many are expected: the first one gets
+    /// memory for them. If more follow, the memory grows.
+    ///
+    /// ```
+    /// entries.set_named_of(1, alloc, b"q", Bare::Integer(Int::new(1)?))?; // memory for one
+    /// ```
+    #[inline(always)]
+    pub fn set_named_of(
+        &mut self,
+        expected: usize,
+        alloc: Global,
+        key: &[u8],
+        value: V,
+    ) -> Result<(), OutOfMemory>
+        requires { IsKey key.now }
+        // A key that is present keeps its place and is overwritten; a new one goes last.
+        ensures new { OnOk result (self.new ≡ settle (self.old ++ (key.now, value) ∷ [])) }
+        ensures same { OnErr result (self.new ≡ self.old) }
+        // It fails only if the key is new.
+        ensures absent { OnErr result (value_at key.now self.old ≡ None) }
+    {
+        self.store.set_named(alloc, key, value, expected)
     }
 
     /// Removes the key with these bytes, and returns its value; `None` if there is none. The other

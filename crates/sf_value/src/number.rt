@@ -55,8 +55,8 @@ impl Model for Thousandths {
 }
 
 impl Int {
-    /// The number if it has at most 15 digits; `OutOfRange` if and only if it has more. It does not
-    /// allocate.
+    /// The number if it has at most 15 digits (RFC 9651 section 3.3.1); `OutOfRange` if and only if
+    /// it has more. It does not allocate.
     pub fn new(value: i64) -> Result<Int, OutOfRange>
         ensures short { IsOk result ↔ (nat_abs value < 10 ^ 15) }
         ensures value { IfOk result (λ n. n ≡ value) }
@@ -78,8 +78,8 @@ impl Int {
 }
 
 impl Thousandths {
-    /// The Decimal of this number of thousandths, if that has at most 15 digits; `OutOfRange` if
-    /// and only if it has more. It does not allocate.
+    /// The Decimal of this number of thousandths, if that has at most 15 digits (RFC 9651 section
+    /// 3.3.2); `OutOfRange` if and only if it has more. It does not allocate.
     pub fn new(value: i64) -> Result<Thousandths, OutOfRange>
         ensures short { IsOk result ↔ (nat_abs value < 10 ^ 15) }
         ensures value { IfOk result (λ n. n ≡ value) }

@@ -297,13 +297,14 @@ impl<V: Drop> Store<V> {
 
     /// Puts a value at the key with these bytes, as `Entries::set_named` does. It is inlined for
     /// the common cases, in which neither the key nor the slot is moved: a short key that is the
-    /// first, or among a few.
+    /// first, or among a few. The first entry gets memory for as many as are expected.
     #[inline(always)]
     pub(crate) fn set_named(
         &mut self,
         alloc: Global,
         key: &[u8],
         value: V,
+        expected: usize,
     ) -> Result<(), OutOfMemory>
         requires key { IsKey key.now }
         // Each key is valid, and none occurs twice.
@@ -327,7 +328,7 @@ impl<V: Drop> Store<V> {
             return self.set_made(alloc, key, value);
         }
         let seed = self.seed();
-        let at = self.reserve(key)?;
+        let at = self.reserve(key, expected)?;
         if at >= MAX_SLOTS {
             return self.set_made(alloc, key, value);
         }
@@ -366,7 +367,7 @@ impl<V: Drop> Store<V> {
     /// capacity reserved for it. It is `MAX_SLOTS` if the key is new and the vector is full, or if
     /// the entries are in a map.
     #[inline(never)]
-    fn reserve(&mut self, key: &[u8]) -> Result<usize, OutOfMemory>
+    fn reserve(&mut self, key: &[u8], expected: usize) -> Result<usize, OutOfMemory>
         requires { HasSeed self.old }
         ensures same { stored self.new ≡ stored self.old }
         ensures place { IfOk result (λ place. place < MAX_SLOTS → HasPlace key.now place self.new) }
@@ -379,7 +380,7 @@ impl<V: Drop> Store<V> {
         match self {
             Store::Fresh(alloc, seed) => {
                 let (alloc, seed) = (*alloc, *seed);
-                self.reserve_first(alloc, seed)?;
+                self.reserve_first(alloc, seed, expected)?;
                 return Ok(0);
             }
             Store::Few(slots) => {
@@ -396,11 +397,16 @@ impl<V: Drop> Store<V> {
         }
     }
 
-    /// Makes an empty vector with capacity for the first entry. The vector is stored first and
-    /// grows there: if it were moved right after growing, it would be loaded while it is still
-    /// being stored.
+    /// Makes an empty vector with capacity for as many entries as are expected, and at least one.
+    /// The vector is stored first and grows there: if it were moved right after growing, it would be
+    /// loaded while it is still being stored.
     #[inline(always)]
-    fn reserve_first(&mut self, alloc: Global, seed: RandomState) -> Result<(), OutOfMemory>
+    fn reserve_first(
+        &mut self,
+        alloc: Global,
+        seed: RandomState,
+        expected: usize,
+    ) -> Result<(), OutOfMemory>
         requires { stored self.old ≡ [] }
         ensures none { stored self.new ≡ [] }
         ensures room { OnOk result (HasRoom self.new) }
@@ -410,7 +416,7 @@ impl<V: Drop> Store<V> {
         let Store::Few(slots) = self else {
             unreachable!()
         };
-        if slots.reserve(1).is_err() {
+        if slots.reserve_exact(expected.max(1)).is_err() {
             *self = Store::Fresh(alloc, seed);
             return Err(OutOfMemory);
         }

@@ -55,24 +55,37 @@ fn filled(rt: &(impl Abort + AllocGlobal), seed: &RandomState, count: u8) -> Ent
     entries
 }
 
-fn set_at(rt: &(impl Abort + AllocGlobal), entries: &mut Entries<Bare>, place: u8, value: i64) {
+/// Sets a value by the bytes of its key, where so many entries may be expected.
+fn set_at(
+    rt: &(impl Abort + AllocGlobal),
+    entries: &mut Entries<Bare>,
+    expected: Option<usize>,
+    place: u8,
+    value: i64,
+) {
     let key = key(rt, &key_at(rt, place));
-    assert!(rt;
-        entries
-            .set_named(rt.alloc(), key.as_bytes(), integer(rt, value))
-            .is_ok()
-    );
+    let (bytes, value) = (key.as_bytes(), integer(rt, value));
+    let set = match expected {
+        Some(expected) => entries.set_named_of(expected, rt.alloc(), bytes, value),
+        None => entries.set_named(rt.alloc(), bytes, value),
+    };
+    assert!(rt; set.is_ok());
 }
 
 /// The same as [`filled`], each set by the bytes of its key.
-fn set_by_bytes(rt: &(impl Abort + AllocGlobal), seed: &RandomState, count: u8) -> Entries<Bare> {
+fn set_by_bytes(
+    rt: &(impl Abort + AllocGlobal),
+    seed: &RandomState,
+    expected: Option<usize>,
+    count: u8,
+) -> Entries<Bare> {
     let mut entries = Entries::new(rt.alloc(), seed);
     for place in 0..count {
-        set_at(rt, &mut entries, place, i64::from(place));
+        set_at(rt, &mut entries, expected, place, i64::from(place));
     }
     for place in 0..count {
         if place % 2 == 0 {
-            set_at(rt, &mut entries, place, 100 + i64::from(place));
+            set_at(rt, &mut entries, expected, place, 100 + i64::from(place));
         }
     }
     entries
@@ -147,9 +160,11 @@ fn entries_of_each_count_are_the_same_pairs(rt: HostRuntime) {
 fn entries_are_set_by_the_bytes_of_keys(rt: HostRuntime) {
     let seed = seed(&rt);
     for count in 0..21u8 {
-        let entries = set_by_bytes(&rt, &seed, count);
-        assert!(rt; entries.same(&filled(&rt, &seed, count)));
-        check_pairs(&rt, entries, count);
+        for expected in [None, Some(0), Some(1), Some(5), Some(30)] {
+            let entries = set_by_bytes(&rt, &seed, expected, count);
+            assert!(rt; entries.same(&filled(&rt, &seed, count)));
+            check_pairs(&rt, entries, count);
+        }
     }
 }
 
