@@ -5,7 +5,8 @@ use Rattle.sf_value.specs.Grammar.Lines.{Continues}
 use Rattle.sf_scan.specs.Languages.{Either}
 use Rattle.sf_scan.specs.Lifts.{Lifts}
 use Rattle.sf_scan.specs.Stops.{Past, IsFollowed}
-use Rattle.sf_scan.proofs.Languages.{SameTexts, Apart}
+use Rattle.sf_scan.specs.Languages.{Apart}
+use Rattle.sf_scan.proofs.Languages.{SameTexts}
 use Rattle.sf_scan.proofs.Lifts.{lifts_first}
 use Rattle.sf_scan.proofs.Sequences.{or_left, or_right, or_cases, continues_before_first}
 

@@ -136,6 +136,13 @@ step_begins c e b l k =
     (begins_all c) b l in
     subst (λ o. (not (is_some o) || can_begin c (b / 16)) ≡ true) k h
 
+pub pair_begins : (c e : CharPlace) (h l : ℕ) → h < 16 → l < 16
+    → char_step c (h * 16 + l) ≡ Some e → can_begin c h ≡ true
+pair_begins c e h l i j k = first (h * 16 + l) (omega arith) (step_begins c e (h * 16 + l) (omega arith) k)
+  where
+    first : (b : ℕ) → b / 16 ≡ h → can_begin c (b / 16) ≡ true → can_begin c h ≡ true
+    first b e m = subst (λ n. can_begin c n ≡ true) e m
+
 -- for the byte b with the digits h and l
 abbrev agrees : CharPlace → ℕ → ℕ → ℕ → Bool
 agrees c b h l = not (can_begin c h) || same (is_some (char_step c b)) (is_low (low_digits c h) l)

@@ -17,7 +17,7 @@ use Rattle.sf_scan.specs.Items.{in_item, ends_item}
 use Rattle.sf_scan.specs.Members.{in_member, ends_member}
 use Rattle.sf_scan.specs.NumberPlaces.{in_number, ends_number}
 use Rattle.sf_scan.specs.Places.{in_bare, ends_bare, in_params}
-use Rattle.sf_scan.specs.Series.{in_list}
+use Rattle.sf_scan.specs.Series.{in_series, in_list}
 use Rattle.sf_scan.specs.Sets.{Marks}
 use Rattle.sf_scan.specs.declared.blob_place.BlobPlace.{BlobPlace}
 use Rattle.sf_scan.specs.declared.blob_place.BlobPlace.TheVariants as blob
@@ -25,8 +25,6 @@ use Rattle.sf_scan.specs.declared.char_place.CharPlace.{CharPlace}
 use Rattle.sf_scan.specs.declared.char_place.CharPlace.TheVariants as chars
 use Rattle.sf_scan.specs.declared.char_place.LowDigits.{LowDigits}
 use Rattle.sf_scan.specs.declared.char_place.LowDigits.TheVariants as low
-use Rattle.sf_scan.specs.declared.dict.DictPlace.{DictPlace}
-use Rattle.sf_scan.specs.declared.dict.DictPlace.TheVariants as dict
 use Rattle.sf_scan.specs.declared.entry.EntryPlace.{EntryPlace}
 use Rattle.sf_scan.specs.declared.entry.EntryPlace.TheVariants as entry
 use Rattle.sf_scan.specs.declared.field.FieldPlace.{FieldPlace}
@@ -35,8 +33,6 @@ use Rattle.sf_scan.specs.declared.inner.InnerPlace.{InnerPlace}
 use Rattle.sf_scan.specs.declared.inner.InnerPlace.TheVariants as inner
 use Rattle.sf_scan.specs.declared.item.ItemPlace.{ItemPlace}
 use Rattle.sf_scan.specs.declared.item.ItemPlace.TheVariants as item
-use Rattle.sf_scan.specs.declared.list.ListPlace.{ListPlace}
-use Rattle.sf_scan.specs.declared.list.ListPlace.TheVariants as list
 use Rattle.sf_scan.specs.declared.member.MemberPlace.{MemberPlace}
 use Rattle.sf_scan.specs.declared.member.MemberPlace.TheVariants as member
 use Rattle.sf_scan.specs.declared.number_place.NumberPlace.{NumberPlace}
@@ -45,6 +41,8 @@ use Rattle.sf_scan.specs.declared.place.BarePlace.{BarePlace}
 use Rattle.sf_scan.specs.declared.place.BarePlace.TheVariants as bare
 use Rattle.sf_scan.specs.declared.place.ParamPlace.{ParamPlace}
 use Rattle.sf_scan.specs.declared.place.ParamPlace.TheVariants as param
+use Rattle.sf_scan.specs.declared.series.SeriesPlace.{SeriesPlace}
+use Rattle.sf_scan.specs.declared.series.SeriesPlace.TheVariants as series
 use Rattle.sf_scan.specs.declared.shown_place.ShownPlace.{ShownPlace}
 use Rattle.sf_scan.specs.declared.shown_place.ShownPlace.TheVariants as shown
 use Rattle.sf_scan.proofs.Sequences.{or_left, or_right}
@@ -180,16 +178,16 @@ due_field d (field.InItem p) =
     due_left (in_item d p) (λ b. ends_item p && is_sp b) (due_item d p)
 due_field d field.Spaces = (space, refl)
 
-pub due_list : (d : Dialect) (p : ListPlace) → Due (in_list d p)
-due_list d list.Start = (quote, refl)
-due_list d (list.InMember p) =
-    due_left (in_member d p) (λ b. ends_member p && (is_ows b || b == comma)) (due_member d p)
-due_list d list.Spaces = (comma, refl)
-due_list d list.Comma = (quote, refl)
+due_series : {P : Type 0} (start : P) (next : P → ℕ → Bool) (ends : P → Bool)
+    → ((p : P) → Due (next p)) → (p : SeriesPlace P) → Due (in_series start next ends p)
+due_series start next ends due series.Start = due_left (next start) is_sp (due start)
+due_series start next ends due (series.InMember p) =
+    due_left (next p) (λ b. ends p && (is_ows b || b == comma)) (due p)
+due_series start next ends due series.Spaces = (comma, refl)
+due_series start next ends due series.Comma = due_left (next start) is_ows (due start)
 
-pub due_dict : (d : Dialect) (p : DictPlace) → Due (in_dict d p)
-due_dict d dict.Start = (space, refl)
-due_dict d (dict.InMember p) =
-    due_left (in_entry d p) (λ b. ends_entry p && (is_ows b || b == comma)) (due_entry d p)
-due_dict d dict.Spaces = (comma, refl)
-due_dict d dict.Comma = (space, refl)
+pub due_list : (d : Dialect) (p : SeriesPlace MemberPlace) → Due (in_list d p)
+due_list d = due_series member.Start (in_member d) ends_member (due_member d)
+
+pub due_dict : (d : Dialect) (p : SeriesPlace EntryPlace) → Due (in_dict d p)
+due_dict d = due_series entry.Start (in_entry d) ends_entry (due_entry d)

@@ -13,17 +13,12 @@ use Rattle.sf_scan.specs.Lifts.{Lifts}
 use Rattle.sf_scan.specs.Places.{is_after}
 use Rattle.sf_scan.specs.Stops.{Past, IsFollowed, Reads, Refuses}
 use Rattle.sf_value.specs.Runs.{Lacks, FirstIs}
-use Rattle.sf_scan.proofs.Languages.{Apart}
+use Rattle.sf_scan.specs.Languages.{Apart, Begun}
 use Rattle.sf_scan.proofs.Languages.{SameTexts}
 use Rattle.sf_scan.proofs.Lifts.{same_then, same_more, lifts_past, lifts_first, past_continues}
 use Rattle.sf_scan.proofs.Lists.{heads, tails, cons_nil}
 use Rattle.sf_scan.proofs.Sequences.{or_left, or_right, or_cases, lacks_both, then_texts, then_stuck}
 use Rattle.sf_scan.proofs.Sequences.{then_refuses, then_continues, continues_before_first}
-
--- the text has a first byte, and this can't come after an Item
-abbrev pub Begun : List ℕ → Type 0
-Begun [] = ⊥
-Begun (b ∷ t) = is_after b ≡ false
 
 pub begun_first : (p s : List ℕ) (c : ℕ) (t : List ℕ) → Begun p → c ∷ t ≡ p ++ s
     → is_after c ≡ false

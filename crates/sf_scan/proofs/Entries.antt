@@ -10,22 +10,26 @@ use Rattle.sf_value.specs.Grammar.Pairs.{Pairs}
 use Rattle.sf_value.specs.Grammar.Tokens.{IsKey}
 use Rattle.sf_value.specs.Grammar.Words.{Every, IsWord}
 use Rattle.sf_value.proofs.Runs.{every_append}
-use Rattle.sf_scan.specs.Entries.{SpellsKey, SpellsKeyed, SpellsRawEntry, raw_flag}
+use Rattle.sf_scan.specs.Entries.{SpellsKey, SpellsKeyed, SpellsRawEntry, raw_flag, in_entry}
 use Rattle.sf_value.specs.Grammar.BareItems.{SpellsBare}
 use Rattle.sf_scan.specs.Lifts.{Lifts}
-use Rattle.sf_scan.specs.Members.{RawMember, SpellsRawMember}
+use Rattle.sf_scan.specs.Members.{RawMember, SpellsRawMember, in_member}
 use Rattle.sf_value.specs.Grammar.Parameters.{SpellsRaw}
 use Rattle.sf_scan.specs.Places.{is_follow, is_after}
+use Rattle.sf_scan.specs.Series.{IsElement}
 use Rattle.sf_scan.specs.Stops.{Past, IsFollowed, Reads, Refuses}
 use Rattle.sf_value.specs.Runs.{Lacks, FirstIs}
+use Rattle.sf_scan.specs.declared.entry.EntryPlace.TheVariants as place
+use Rattle.sf_scan.specs.declared.member.MemberPlace.TheVariants as member_place
 use Rattle.sf_scan.proofs.Following.{bare_apart}
-use Rattle.sf_scan.proofs.Enclosed.{Begun, begun_first}
+use Rattle.sf_scan.specs.Languages.{Begun}
+use Rattle.sf_scan.proofs.Enclosed.{begun_first}
 use Rattle.sf_scan.proofs.Items.{raw_starts, one_raw, no_semicolon}
-use Rattle.sf_scan.proofs.Languages.{Apart}
+use Rattle.sf_scan.specs.Languages.{Apart}
 use Rattle.sf_scan.proofs.Languages.{SameTexts}
 use Rattle.sf_scan.proofs.Lifts.{lifts_past, lifts_then, lifts_first}
 use Rattle.sf_scan.proofs.Lists.{heads, tails, cons_nil, no_follow, true_false}
-use Rattle.sf_scan.proofs.Members.{leaf_member_apart, leaf_member_some}
+use Rattle.sf_scan.proofs.Members.{member_element}
 use Rattle.sf_scan.proofs.Sequences.{or_left, or_right, or_cases, lacks_both, refused_followed}
 use Rattle.sf_scan.proofs.Sequences.{then_reads, then_refuses_after, then_ends, then_apart}
 use Rattle.sf_scan.proofs.Starts.{raw_apart}
@@ -120,7 +124,7 @@ key_followed = record {
 }
 
 module _ (d : Dialect) (apart : Apart (SpellsBare d) is_follow)
-    (member_ends : Apart (SpellsRawMember d) is_after) (some : Continues (SpellsRawMember d) []) where
+    (member : IsElement (SpellsRawMember d) (in_member d member_place.Start)) where
   abbrev Q : List ℕ → RawMember → Type 0
   Q = SpellsKeyed d
 
@@ -160,10 +164,10 @@ module _ (d : Dialect) (apart : Apart (SpellsBare d) is_follow)
     viable = ([], raw_flag [], inr ([], refl, refl));
     may = λ b h. elim (or_cases (b == equals) (b == semicolon) h) [
       | inl k ↦ (
-        some.0,
-        some.1,
-        subst (λ z. Q (z ∷ some.0) some.1) (sym (eqb-true b equals k))
-            (equals_texts.up some.0 some.1 some.2),
+        member.start.viable.0,
+        member.start.viable.1,
+        subst (λ z. Q (z ∷ member.start.viable.0) member.start.viable.1) (sym (eqb-true b equals k))
+            (equals_texts.up member.start.viable.0 member.start.viable.1 member.start.viable.2),
       )
       | inr k ↦
           let c = one_raw d in (
@@ -189,7 +193,7 @@ module _ (d : Dialect) (apart : Apart (SpellsBare d) is_follow)
       let k : Q (equals ∷ ((s ++ b ∷ []) ++ c.0)) c.1 =
       subst (λ z. Q ((z ++ b ∷ []) ++ c.0) c.1) h.1 c.2 in
       let m = equals_texts.down ((s ++ b ∷ []) ++ c.0) c.1 k in
-      member_ends s v b h.2 f (c.0, m.0, m.1)
+      member.apart s v b h.2 f (c.0, m.0, m.1)
   keyed_apart (x ∷ a) v b (inr h) f c =
       let e : x ≡ semicolon = raw_starts d (x ∷ a) h.0 h.2 in
       let k : Q (semicolon ∷ ((a ++ b ∷ []) ++ c.0)) c.1 =
@@ -272,18 +276,10 @@ module _ (d : Dialect) (apart : Apart (SpellsBare d) is_follow)
             differs b h = grind arith
 
 -- with the bare items of a dialect
-pub leaf_entry_apart : (d : Dialect) → Apart (SpellsRawEntry d) is_after
-leaf_entry_apart d =
-    entry_apart d (bare_apart d) (leaf_member_apart d) (leaf_member_some d)
-
-pub leaf_entry_begun : (d : Dialect) (t : List ℕ) (p : List ℕ × RawMember)
-    → SpellsRawEntry d t p → Begun t
-leaf_entry_begun d =
-    entry_begun d (bare_apart d) (leaf_member_apart d) (leaf_member_some d)
-
-pub leaf_entry_start : (d : Dialect) → IsFollowed (SpellsRawEntry d) is_key_start []
-leaf_entry_start d =
-    entry_start d (bare_apart d) (leaf_member_apart d) (leaf_member_some d)
-
-pub leaf_entry_some : (d : Dialect) → Continues (SpellsRawEntry d) []
-leaf_entry_some d = (leaf_entry_start d).viable
+pub entry_element : (d : Dialect) → IsElement (SpellsRawEntry d) (in_entry d place.Start)
+entry_element d =
+    let m = member_element d in record {
+      apart = entry_apart d (bare_apart d) m;
+      begun = entry_begun d (bare_apart d) m;
+      start = entry_start d (bare_apart d) m;
+    }

@@ -27,7 +27,8 @@ use Rattle.sf_scan.proofs.BlobStops.{blob_recognized}
 use Rattle.sf_scan.proofs.Dates.{at_texts}
 use Rattle.sf_scan.proofs.DisplayStrings as shows
 use Rattle.sf_scan.proofs.Escapes.{closed_followed}
-use Rattle.sf_scan.proofs.Languages.{Apart, same_followed, past_followed}
+use Rattle.sf_scan.specs.Languages.{Apart}
+use Rattle.sf_scan.proofs.Languages.{same_followed, past_followed}
 use Rattle.sf_scan.proofs.Lists.{every_at, no_follow}
 use Rattle.sf_scan.proofs.Numbers.{minus_texts, digit_texts}
 use Rattle.sf_scan.proofs.NumberStarts.{integer_first, decimal_first, integer_some, decimal_some}

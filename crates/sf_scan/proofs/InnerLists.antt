@@ -27,10 +27,11 @@ use Rattle.sf_scan.specs.declared.place.ParamPlace.{ParamPlace}
 use Rattle.sf_scan.specs.declared.item.ItemPlace.{ItemPlace}
 use Rattle.sf_scan.specs.declared.inner.InnerPlace.{InnerPlace}
 use Rattle.sf_scan.specs.declared.inner.InnerPlace.TheVariants as place
-use Rattle.sf_scan.proofs.Enclosed.{Begun, gap_lifts, close_lifts, item_space_lifts}
+use Rattle.sf_scan.specs.Languages.{Begun}
+use Rattle.sf_scan.proofs.Enclosed.{gap_lifts, close_lifts, item_space_lifts}
 use Rattle.sf_scan.proofs.Enclosed.{item_close_lifts, item_stuck, item_broken, open_refused, inner_texts}
 use Rattle.sf_scan.proofs.Items.{open_test, closed_test}
-use Rattle.sf_scan.proofs.Languages.{Apart}
+use Rattle.sf_scan.specs.Languages.{Apart}
 use Rattle.sf_scan.proofs.Lifts.{lifts_past, lifts_then, lifts_self}
 use Rattle.sf_scan.proofs.Sequences.{lacks_both, refuses_as, same_lacks, none_read}
 use Rattle.sf_scan.proofs.Starts.{item_apart, item_begun, item_start}

@@ -20,7 +20,7 @@ use Rattle.sf_scan.specs.declared.place.BarePlace.{BarePlace}
 use Rattle.sf_scan.specs.declared.place.ParamPlace.{ParamPlace}
 use Rattle.sf_scan.specs.declared.item.ItemPlace.{ItemPlace}
 use Rattle.sf_scan.specs.declared.item.ItemPlace.TheVariants as place
-use Rattle.sf_scan.proofs.Languages.{Apart}
+use Rattle.sf_scan.specs.Languages.{Apart}
 use Rattle.sf_scan.proofs.Lists.{heads, cons_nil}
 use Rattle.sf_scan.proofs.Sequences.{then_refuses, then_ends, then_reads, then_refuses_after}
 use Rattle.sf_scan.proofs.Sequences.{reads_as, refuses_as}

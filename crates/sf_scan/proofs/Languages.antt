@@ -2,6 +2,7 @@
 use Rattle.std.proofs.Common.{◌≡◌, ℕ, Bool, true, List, [], ◌∷◌, ◌++◌, sym, ap, ◌∙◌, subst}
 use Rattle.std.proofs.Common.{inl, inr, append_assoc}
 use Rattle.sf_value.specs.Grammar.Lines.{Continues}
+use Rattle.sf_scan.specs.Languages.{Apart}
 use Rattle.sf_scan.specs.Stops.{Past, IsFollowed, Stops, Reads, Refuses}
 use Rattle.sf_value.specs.Runs.{FirstIs}
 use Rattle.sf_scan.proofs.Lists.{Longer, two_parts}
@@ -92,11 +93,6 @@ same_refuses L M into s next text left h = record {
   stops = same_stops L M into s next text left h.stops;
   unspelled = λ w k. let d = s.down (h.stops.prefix) w k in h.unspelled d.0 d.1;
 }
-
--- no text of L is followed by such a byte within a longer one: so where a text of L ends and such a
--- byte comes, L ends
-abbrev pub Apart : {V : Type 0} → (List ℕ → V → Type 0) → (ℕ → Bool) → Type 0
-Apart {V = V} L F = (a : List ℕ) (v : V) (b : ℕ) → L a v → F b ≡ true → Continues L (a ++ b ∷ []) → ⊥
 
 -- a prefix of L, and what comes after it, read as a text of L and a rest that is empty or begins
 -- with such a byte: the text of L is the prefix or a longer one

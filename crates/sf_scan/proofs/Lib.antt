@@ -11,7 +11,7 @@ pub mod InnerLists
 pub mod Members
 pub mod Spaced
 pub mod Entries
-pub mod Series
+pub mod Separated
 pub mod Escapes
 pub mod Beginnings
 pub mod NumberStarts

@@ -12,6 +12,7 @@ use Rattle.sf_scan.specs.Members.{RawMember, SpellsRawMember, in_member, ends_me
 use Rattle.sf_scan.specs.Outcomes.{Rejects}
 use Rattle.sf_value.specs.Grammar.Parameters.{SpellsRaw}
 use Rattle.sf_scan.specs.Places.{in_bare, is_follow, is_after}
+use Rattle.sf_scan.specs.Series.{IsElement}
 use Rattle.sf_scan.specs.Stops.{Past, IsFollowed, Reads, Refuses}
 use Rattle.sf_value.specs.Runs.{Lacks, FirstIs}
 use Rattle.sf_scan.specs.declared.place.Stop.{Stop}
@@ -20,11 +21,11 @@ use Rattle.sf_scan.specs.declared.item.ItemPlace.{ItemPlace}
 use Rattle.sf_scan.specs.declared.member.MemberPlace.{MemberPlace}
 use Rattle.sf_scan.specs.declared.member.MemberPlace.TheVariants as place
 use Rattle.sf_value.specs.Grammar.BareItems.{SpellsBare}
-use Rattle.sf_value.specs.Grammar.Lines.{Continues}
 use Rattle.sf_scan.proofs.Following.{bare_apart}
 use Rattle.sf_scan.proofs.Alternatives.{right_texts, left_lifts, either_followed, either_apart}
-use Rattle.sf_scan.proofs.Enclosed.{Begun, inner_apart, inner_first, no_inner, inner_followed}
-use Rattle.sf_scan.proofs.Languages.{Apart}
+use Rattle.sf_scan.specs.Languages.{Begun}
+use Rattle.sf_scan.proofs.Enclosed.{inner_apart, inner_first, no_inner, inner_followed}
+use Rattle.sf_scan.specs.Languages.{Apart}
 use Rattle.sf_scan.proofs.Lifts.{lifts_past}
 use Rattle.sf_scan.proofs.Sequences.{lacks_both, same_lacks, none_read}
 use Rattle.sf_scan.proofs.Starts.{item_apart, item_begun, item_start, raw_apart}
@@ -150,19 +151,9 @@ module _ (d : Dialect) (apart : Apart (SpellsBare d) is_follow)
       }
 
 -- with the bare items of a dialect
-pub leaf_member_start : (d : Dialect)
-    → IsFollowed (SpellsRawMember d) (in_member d place.Start) []
-leaf_member_start d =
-    member_start d (bare_apart d) (bare_begun d) (bare_start d) (bare_no_bracket d)
-
-pub leaf_member_apart : (d : Dialect) → Apart (SpellsRawMember d) is_after
-leaf_member_apart d =
-    member_apart d (bare_apart d) (bare_begun d) (bare_start d) (bare_no_bracket d)
-
-pub leaf_member_begun : (d : Dialect) (t : List ℕ) (v : RawMember)
-    → SpellsRawMember d t v → Begun t
-leaf_member_begun d =
-    member_begun d (bare_apart d) (bare_begun d) (bare_start d) (bare_no_bracket d)
-
-pub leaf_member_some : (d : Dialect) → Continues (SpellsRawMember d) []
-leaf_member_some d = (leaf_member_start d).viable
+pub member_element : (d : Dialect) → IsElement (SpellsRawMember d) (in_member d place.Start)
+member_element d = record {
+  apart = member_apart d (bare_apart d) (bare_begun d) (bare_start d) (bare_no_bracket d);
+  begun = member_begun d (bare_apart d) (bare_begun d) (bare_start d) (bare_no_bracket d);
+  start = member_start d (bare_apart d) (bare_begun d) (bare_start d) (bare_no_bracket d);
+}

@@ -17,7 +17,7 @@ use Rattle.sf_scan.specs.Stops.{Past, IsFollowed, Reads, Refuses}
 use Rattle.sf_value.specs.Runs.{Lacks, FirstIs}
 use Rattle.sf_scan.proofs.Languages.{same_reads, same_refuses, past_reads, past_refuses}
 use Rattle.sf_scan.proofs.Languages.{SameTexts}
-use Rattle.sf_scan.proofs.Languages.{Apart}
+use Rattle.sf_scan.specs.Languages.{Apart}
 use Rattle.sf_scan.specs.Places.{is_follow}
 use Rattle.sf_scan.proofs.Lists.{heads, tails, cons_nil, no_follow}
 

@@ -14,7 +14,8 @@ use Rattle.sf_scan.specs.Makers.{made_of}
 use Rattle.sf_scan.specs.Places.{is_follow}
 use Rattle.sf_scan.specs.Stops.{IsFollowed, Reads, Refuses}
 use Rattle.sf_value.specs.Runs.{Lacks, FirstIs}
-use Rattle.sf_scan.proofs.Languages.{Apart, cut}
+use Rattle.sf_scan.specs.Languages.{Apart}
+use Rattle.sf_scan.proofs.Languages.{cut}
 use Rattle.sf_scan.proofs.Lists.{heads, tails, cons_nil}
 use Rattle.sf_scan.proofs.Pairs.{pair_apart}
 

@@ -6,7 +6,8 @@ use Rattle.sf_value.specs.Grammar.Lines.{Continues}
 use Rattle.sf_scan.specs.Languages.{Then}
 use Rattle.sf_scan.specs.Stops.{Past, IsFollowed, Stops, Reads, Refuses}
 use Rattle.sf_value.specs.Runs.{Lacks, FirstIs}
-use Rattle.sf_scan.proofs.Languages.{Apart, cut, continues_before, past_reads, past_refuses}
+use Rattle.sf_scan.specs.Languages.{Apart}
+use Rattle.sf_scan.proofs.Languages.{cut, continues_before, past_reads, past_refuses}
 use Rattle.sf_scan.proofs.Languages.{SameTexts}
 use Rattle.sf_scan.proofs.Languages.{same_reads, same_refuses}
 use Rattle.sf_scan.proofs.Lists.{heads, tails, cons_nil, Longer, SameSplit}

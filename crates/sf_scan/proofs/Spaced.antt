@@ -11,8 +11,9 @@ use Rattle.sf_scan.specs.Lifts.{Lifts}
 use Rattle.sf_scan.specs.Places.{is_after}
 use Rattle.sf_scan.specs.Stops.{Past, IsFollowed, Reads, Refuses}
 use Rattle.sf_value.specs.Runs.{Lacks, FirstIs}
-use Rattle.sf_scan.proofs.Enclosed.{Begun, begun_first}
-use Rattle.sf_scan.proofs.Languages.{Apart}
+use Rattle.sf_scan.specs.Languages.{Begun}
+use Rattle.sf_scan.proofs.Enclosed.{begun_first}
+use Rattle.sf_scan.specs.Languages.{Apart}
 use Rattle.sf_scan.proofs.Languages.{SameTexts}
 use Rattle.sf_scan.proofs.Lifts.{lifts_past, lifts_then, lifts_first}
 use Rattle.sf_scan.proofs.Lists.{heads, tails, cons_nil}

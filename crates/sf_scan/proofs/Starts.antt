@@ -16,9 +16,10 @@ use Rattle.sf_scan.specs.Stops.{IsFollowed}
 use Rattle.sf_value.specs.Runs.{FirstIs}
 use Rattle.sf_scan.specs.declared.place.BarePlace.TheVariants as place
 use Rattle.sf_scan.proofs.Bares.{first_byte, start_of, started, unstarted, some_bare}
-use Rattle.sf_scan.proofs.Enclosed.{Begun, begun_first}
+use Rattle.sf_scan.specs.Languages.{Begun}
+use Rattle.sf_scan.proofs.Enclosed.{begun_first}
 use Rattle.sf_scan.proofs.Items.{raw_starts, raw_follows}
-use Rattle.sf_scan.proofs.Languages.{Apart}
+use Rattle.sf_scan.specs.Languages.{Apart}
 use Rattle.sf_scan.proofs.Lists.{cons_nil, among, true_false}
 use Rattle.sf_scan.proofs.Pairs.{pair_apart}
 use Rattle.sf_scan.proofs.Sequences.{same_cut, then_apart, refused_followed}

@@ -1,12 +1,12 @@
 -- Members of Dictionaries, and whole Dictionaries, as sf_value's grammar defines them, with repeated
 -- keys.
-use Rattle.std.specs.Prelude.{◌≡◌, ℕ, Bool, true, false, List, ◌∷◌, ◌==◌, ◌||◌, ◌&&◌, ◌⊎◌}
+use Rattle.std.specs.Prelude.{◌≡◌, ℕ, Bool, true, false, List, ◌∷◌, ◌==◌, ◌||◌, ◌⊎◌}
 use Rattle.std.proofs.Common.{inl}
 use Rattle.sf_value.specs.declared.dialect.Dialect.{Dialect}
 use Rattle.sf_value.specs.declared.value.Bare.{Bare}
 use Rattle.sf_value.specs.declared.value.Bare.TheVariants.{Boolean}
-use Rattle.sf_value.specs.Ascii.{comma, equals, semicolon}
-use Rattle.sf_value.specs.Grammar.Classes.{is_sp, is_ows, is_key_start, is_in_key}
+use Rattle.sf_value.specs.Ascii.{equals, semicolon}
+use Rattle.sf_value.specs.Grammar.Classes.{is_key_start, is_in_key}
 use Rattle.sf_value.specs.Grammar.Pairs.{Pairs}
 use Rattle.sf_value.specs.Grammar.Series.{SpellsWhole}
 use Rattle.sf_value.specs.Grammar.Tokens.{IsKey}
@@ -14,10 +14,10 @@ use Rattle.sf_scan.specs.Languages.{Then}
 use Rattle.sf_scan.specs.Members.{RawMember, SpellsRawMember, made_member, in_member, ends_member}
 use Rattle.sf_value.specs.Grammar.Parameters.{SpellsRaw}
 use Rattle.sf_scan.specs.Places.{in_params, ends_params}
+use Rattle.sf_scan.specs.Series.{in_series, ends_series}
 use Rattle.sf_scan.specs.declared.entry.EntryPlace.{EntryPlace}
 use Rattle.sf_scan.specs.declared.entry.EntryPlace.TheVariants as place
-use Rattle.sf_scan.specs.declared.dict.DictPlace.{DictPlace}
-use Rattle.sf_scan.specs.declared.dict.DictPlace.TheVariants as dict
+use Rattle.sf_scan.specs.declared.series.SeriesPlace.{SeriesPlace}
 
 -- a key is its own text
 abbrev pub SpellsKey : List ℕ → List ℕ → Type 0
@@ -61,16 +61,9 @@ ends_entry place.InKey = true
 ends_entry (place.InValue p) = ends_member p
 ends_entry (place.InParams p) = ends_params p
 
--- the bytes that may come at a place in a Dictionary, as part of it
-abbrev pub in_dict : Dialect → DictPlace → ℕ → Bool
-in_dict d dict.Start b = in_entry d place.Start b || is_sp b
-in_dict d (dict.InMember p) b = in_entry d p b || (ends_entry p && (is_ows b || b == comma))
-in_dict d dict.Spaces b = is_ows b || b == comma
-in_dict d dict.Comma b = in_entry d place.Start b || is_ows b
+-- the same in a Dictionary
+abbrev pub in_dict : Dialect → SeriesPlace EntryPlace → ℕ → Bool
+in_dict d = in_series place.Start (in_entry d) ends_entry
 
--- whether the Dictionary may end there
-abbrev pub ends_dict : DictPlace → Bool
-ends_dict dict.Start = true
-ends_dict (dict.InMember p) = ends_entry p
-ends_dict dict.Spaces = true
-ends_dict dict.Comma = false
+abbrev pub ends_dict : SeriesPlace EntryPlace → Bool
+ends_dict = ends_series ends_entry

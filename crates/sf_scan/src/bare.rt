@@ -1,9 +1,10 @@
 //! Bare items (RFC 9651 section 4.2.3.1).
-ghost use Rattle.std.specs.Prelude.{◌≡◌, ◌≢◌, [], ◌∷◌, ◌++◌, ℕ, List, false, ⊤, MatchResult};
-ghost use Rattle.std.specs.Prelude.{MatchOption};
-ghost use Rattle.sf_value.specs.Ascii.{quote, question_mark, minus, percent as percent_sign};
+ghost use Rattle.std.specs.Prelude.{◌≡◌, ◌≢◌, ◌==◌, ◌&&◌, [], ◌∷◌, ◌++◌, ℕ, List, true, ⊤};
+ghost use Rattle.std.specs.Prelude.{MatchOption, MatchResult};
+ghost use Rattle.sf_value.specs.Ascii.{quote, colon, question_mark, at_sign};
+ghost use Rattle.sf_value.specs.Ascii.{percent as percent_sign};
 ghost use Rattle.sf_value.specs.declared.dialect.Dialect.{Dialect as Which};
-ghost use Rattle.sf_value.specs.Grammar.Classes.{is_digit, is_token_start};
+ghost use Rattle.sf_value.specs.Grammar.Dialects.{is_rfc9651};
 ghost use Rattle.sf_value.specs.Grammar.Strings.{is_escaped};
 ghost use Rattle.sf_value.specs.Grammar.BareItems.{SpellsBare};
 ghost use Rattle.sf_scan.specs.Leaves.{number_leaf};
@@ -148,6 +149,11 @@ pub fn bare<'a, T: Take<'a>>(
     } else if can_start_token(first) {
         let (stop, bytes) = token(text, more);
         return Ok((stop, take.token(bytes)));
+    } else if first != b':' && first != b'%' && !can_start_date(dialect, first) {
+        return Err(Stop {
+            left: text,
+            place: BarePlace::Start,
+        });
     }
     match other(dialect, text, first, more) {
         Ok((stop, leaf)) => {
@@ -231,11 +237,8 @@ fn other<'a>(
     more: &'a [u8],
 ) -> Result<(Stop<'a, BarePlace>, Leaf<'a>), Stop<'a, BarePlace>>
     requires split { text.now ≡ first ∷ more.now }
-    // Neither a number, nor a Boolean, nor a Token begins with this byte.
-    requires digit { is_digit first ≡ false }
-    requires sign { first ≢ minus }
-    requires question { first ≢ question_mark }
-    requires letter { is_token_start first ≡ false }
+    requires date { first ≢ quote → first ≢ colon → first ≢ percent_sign
+        → (first == at_sign && is_rfc9651 dialect) ≡ true }
     ensures { ScansLeaf dialect (SpellsBare dialect) text.now result }
 {
     if first == b'"' {
@@ -247,13 +250,7 @@ fn other<'a>(
     if first == b'%' {
         return percent(dialect, text, more);
     }
-    if can_start_date(dialect, first) {
-        return date(more);
-    }
-    Err(Stop {
-        left: text,
-        place: BarePlace::Start,
-    })
+    date(more)
 }
 
 /// What begins with a percent sign; `more` is the text without it.

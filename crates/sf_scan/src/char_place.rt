@@ -40,6 +40,7 @@ pub enum LowDigits {
 
 impl CharPlace {
     /// The place after one more byte; `None` if it can't come.
+    #[inline(always)]
     pub fn after(self, byte: u8) -> Option<CharPlace>
         ensures { result ≡ char_step self byte }
     {

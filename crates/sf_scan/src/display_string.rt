@@ -1,5 +1,5 @@
 //! Display Strings (RFC 9651 section 4.2.10).
-ghost use Rattle.std.specs.Prelude.{◌≡◌, ◌<◌, [], ◌∷◌, true, MatchResult, MatchOption};
+ghost use Rattle.std.specs.Prelude.{◌≡◌, ◌<◌, [], ◌∷◌, true, MatchResult, MatchOption, IfSome};
 ghost use Rattle.sf_value.specs.Ascii.{percent};
 ghost use Rattle.sf_value.specs.Grammar.Dialects.{is_rfc9651};
 ghost use Rattle.sf_value.specs.declared.dialect.Dialect.{Dialect as Which};
@@ -34,7 +34,10 @@ pub fn display_string(text: &[u8]) -> Result<(Stop<'_, BarePlace>, Leaf<'_>), St
     let mut chars = CharPlace::Start;
     let mut left = after_unencoded(CharPlace::Start, inside);
     while let Some(escape) = strip_byte(left, b'%') {
-        let (next, more) = after_escape(chars, escape)?;
+        let (next, more) = match past_escape(chars, escape) {
+            Some(past) => past,
+            None => after_escape(chars, escape)?,
+        };
         chars = next;
         left = after_unencoded(next, more);
     }
@@ -60,6 +63,10 @@ fn after_unencoded(chars: CharPlace, text: &[u8]) -> &[u8]
 {
     match chars {
         CharPlace::Start => {
+            // An escape often comes after another; testing a run takes longer.
+            if strip_byte(text, b'%').is_some() {
+                return text;
+            }
             let (_, rest) = long_prefix::<UnencodedByte>(text);
             rest
         }
@@ -79,7 +86,21 @@ fn after_quote(chars: CharPlace, text: &[u8]) -> Option<&[u8]>
 }
 
 /// The place in UTF-8 after the byte of an escape, and the rest, given the text after the percent
-/// sign.
+/// sign; `None` if the byte can't come, which is looked at as a whole.
+#[inline(always)]
+fn past_escape(chars: CharPlace, text: &[u8]) -> Option<(CharPlace, &[u8])>
+    ensures { IfSome result (λ r. PastEscape chars text.now r.0 r.1.now) }
+{
+    let (first, more) = split(text)?;
+    let (second, rest) = split(more)?;
+    let high = unhex(first)?;
+    let low = unhex(second)?;
+    let next = chars.after(high * 16 + low)?;
+    Some((next, rest))
+}
+
+/// As [`past_escape`], digit by digit: it says which of the two can't come.
+#[inline(never)]
 fn after_escape(chars: CharPlace, text: &[u8]) -> Result<(CharPlace, &[u8]), Stop<'_, BarePlace>>
     ensures { MatchResult result (λ r. PastEscape chars text.now r.0 r.1.now)
         (λ stop. StopsEscape chars text.now stop) }

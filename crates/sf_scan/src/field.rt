@@ -5,8 +5,9 @@ ghost use Rattle.sf_scan.specs.Items.{made_item};
 ghost use Rattle.sf_scan.specs.Outcomes.{Scans};
 ghost use Rattle.sf_scan.specs.Sets.{Marks};
 
+use crate::allowed::Allowed;
 use crate::builder::Builder;
-use crate::byte_sets::{SPACE, set_if};
+use crate::byte_sets::SPACE;
 use crate::item::{ItemPlace, item};
 use crate::place::{BarePlace, Halt, Stop};
 use sf_value::Dialect;
@@ -24,27 +25,17 @@ pub enum FieldPlace {
 }
 
 impl FieldPlace {
-    /// The bytes below 128 that may come, a bit for each.
-    pub fn expected(self, dialect: Dialect) -> u128
-        ensures { Marks result (in_field dialect self) }
+    /// What may come here.
+    pub fn allowed(self, dialect: Dialect) -> Allowed
+        ensures expected { Marks result.expected (in_field dialect self) }
+        ensures may_end { result.may_end ≡ ends_field self }
     {
         match self {
-            FieldPlace::Start => BarePlace::Start.expected(dialect) | SPACE,
-            FieldPlace::InItem(place) => {
-                place.expected(dialect) | set_if(place.may_end(), SPACE)
+            FieldPlace::Start => {
+                Allowed::new(BarePlace::Start.allowed(dialect).expected | SPACE, false)
             }
-            FieldPlace::Spaces => SPACE,
-        }
-    }
-
-    /// Whether the field may end here.
-    pub fn may_end(self) -> bool
-        ensures { result ≡ ends_field self }
-    {
-        match self {
-            FieldPlace::Start => false,
-            FieldPlace::InItem(place) => place.may_end(),
-            FieldPlace::Spaces => true,
+            FieldPlace::InItem(place) => place.allowed(dialect).or_after(SPACE),
+            FieldPlace::Spaces => Allowed::new(SPACE, true),
         }
     }
 }

@@ -8,8 +8,9 @@ ghost use Rattle.sf_scan.specs.Outcomes.{Scans};
 ghost use Rattle.sf_scan.specs.Sets.{Marks};
 ghost use Rattle.sf_scan.specs.Stops.{Past};
 
+use crate::allowed::Allowed;
 use crate::builder::Builder;
-use crate::byte_sets::{SPACE, set_if};
+use crate::byte_sets::SPACE;
 use crate::item::{ItemPlace, item};
 use crate::param::params;
 use crate::place::{BarePlace, Halt, ParamPlace, Stop};
@@ -30,26 +31,23 @@ pub enum InnerPlace {
 const AFTER_ITEM: u128 = SPACE | 1 << b')';
 
 impl InnerPlace {
-    /// The bytes below 128 that may come, a bit for each.
-    pub fn expected(self, dialect: Dialect) -> u128
-        ensures { Marks result (in_inner dialect self) }
+    /// What may come here.
+    #[inline(always)]
+    pub fn allowed(self, dialect: Dialect) -> Allowed
+        ensures expected { Marks result.expected (in_inner dialect self) }
+        ensures may_end { result.may_end ≡ ends_inner self }
     {
         match self {
-            InnerPlace::Open => BarePlace::Start.expected(dialect) | AFTER_ITEM,
-            InnerPlace::InItem(place) => {
-                place.expected(dialect) | set_if(place.may_end(), AFTER_ITEM)
+            InnerPlace::Open => {
+                Allowed::new(
+                    BarePlace::Start.allowed(dialect).expected | AFTER_ITEM,
+                    false,
+                )
             }
-            InnerPlace::InParams(place) => place.expected(dialect),
-        }
-    }
-
-    /// Whether the Inner List may end here.
-    pub fn may_end(self) -> bool
-        ensures { result ≡ ends_inner self }
-    {
-        match self {
-            InnerPlace::Open | InnerPlace::InItem(_) => false,
-            InnerPlace::InParams(place) => place.may_end(),
+            InnerPlace::InItem(place) => {
+                Allowed::new(place.allowed(dialect).or_after(AFTER_ITEM).expected, false)
+            }
+            InnerPlace::InParams(place) => place.allowed(dialect),
         }
     }
 }

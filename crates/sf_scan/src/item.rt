@@ -4,9 +4,10 @@ ghost use Rattle.sf_scan.specs.Items.{SpellsRawItem, made_item, in_item, ends_it
 ghost use Rattle.sf_scan.specs.Outcomes.{Scans, Keeps};
 ghost use Rattle.sf_scan.specs.Sets.{Marks};
 
+use crate::allowed::Allowed;
 use crate::bare::{AsLeaf, bare};
 use crate::builder::Builder;
-use crate::byte_sets::{SEMICOLON, set_if};
+use crate::byte_sets::SEMICOLON;
 use crate::param::params;
 use crate::place::{BarePlace, Halt, ParamPlace, Stop};
 use sf_value::Dialect;
@@ -22,25 +23,15 @@ pub enum ItemPlace {
 }
 
 impl ItemPlace {
-    /// The bytes below 128 that may come, a bit for each.
-    pub fn expected(self, dialect: Dialect) -> u128
-        ensures { Marks result (in_item dialect self) }
+    /// What may come here.
+    #[inline(always)]
+    pub fn allowed(self, dialect: Dialect) -> Allowed
+        ensures expected { Marks result.expected (in_item dialect self) }
+        ensures may_end { result.may_end ≡ ends_item self }
     {
         match self {
-            ItemPlace::InBare(place) => {
-                place.expected(dialect) | set_if(place.may_end(), SEMICOLON)
-            }
-            ItemPlace::InParams(place) => place.expected(dialect),
-        }
-    }
-
-    /// Whether the Item may end here.
-    pub fn may_end(self) -> bool
-        ensures { result ≡ ends_item self }
-    {
-        match self {
-            ItemPlace::InBare(place) => place.may_end(),
-            ItemPlace::InParams(place) => place.may_end(),
+            ItemPlace::InBare(place) => place.allowed(dialect).or_after(SEMICOLON),
+            ItemPlace::InParams(place) => place.allowed(dialect),
         }
     }
 }

@@ -12,6 +12,7 @@
 //! reading stops.
 #![tactic(auto)]
 
+pub mod allowed;
 pub mod bare;
 pub mod blob_place;
 pub mod builder;
@@ -33,4 +34,5 @@ pub mod number_place;
 pub mod param;
 pub mod place;
 pub mod refusal;
+pub mod series;
 pub mod shown_place;

@@ -1,13 +1,15 @@
 //! Members: Items and Inner Lists (RFC 9651 section 4.2.1.1).
-ghost use Rattle.std.specs.Prelude.{◌≡◌};
-ghost use Rattle.sf_scan.specs.Members.{SpellsRawMember, made_member, in_member, ends_member};
+ghost use Rattle.sf_scan.specs.Members.{RawMember, SpellsRawMember, made_member};
+ghost use Rattle.sf_scan.specs.Members.{in_member, ends_member};
 ghost use Rattle.sf_scan.specs.Outcomes.{Scans, Keeps};
-ghost use Rattle.sf_scan.specs.Sets.{Marks};
+ghost use Rattle.sf_scan.specs.declared.member.MemberPlace.TheVariants as place;
 
+use crate::allowed::Allowed;
 use crate::builder::Builder;
 use crate::inner::{InnerPlace, inner_list};
 use crate::item::{ItemPlace, item};
 use crate::place::{BarePlace, Halt, Stop};
+use crate::series::{Element, ElementPlace};
 use sf_value::Dialect;
 use sf_value::classes::strip_byte;
 
@@ -22,71 +24,76 @@ pub enum MemberPlace {
     InInner(InnerPlace),
 }
 
-impl MemberPlace {
-    /// The bytes below 128 that may come, a bit for each.
-    pub fn expected(self, dialect: Dialect) -> u128
-        ensures { Marks result (in_member dialect self) }
-    {
-        match self {
-            MemberPlace::Start => BarePlace::Start.expected(dialect) | 1 << b'(',
-            MemberPlace::InItem(place) => place.expected(dialect),
-            MemberPlace::InInner(place) => place.expected(dialect),
-        }
+impl ElementPlace for MemberPlace {
+    ghost begin = { place.Start };
+
+    ghost next = { in_member };
+
+    ghost ends = { ends_member };
+
+    fn start() -> MemberPlace {
+        MemberPlace::Start
     }
 
-    /// Whether the member may end here.
-    pub fn may_end(self) -> bool
-        ensures { result ≡ ends_member self }
-    {
+    #[inline(always)]
+    fn allowed(self, dialect: Dialect) -> Allowed {
         match self {
-            MemberPlace::Start => false,
-            MemberPlace::InItem(place) => place.may_end(),
-            MemberPlace::InInner(place) => place.may_end(),
+            MemberPlace::Start => {
+                Allowed::new(
+                    BarePlace::Start.allowed(dialect).expected | 1 << b'(',
+                    false,
+                )
+            }
+            MemberPlace::InItem(place) => place.allowed(dialect),
+            MemberPlace::InInner(place) => place.allowed(dialect),
         }
     }
 }
 
-/// Gives the maker the Item or Inner List that the text begins with, and returns where it stops.
-#[inline(always)]
-pub fn member<'a, M: Builder<'a>>(
-    dialect: Dialect,
-    text: &'a [u8],
-    maker: &mut M,
-) -> Result<Stop<'a, MemberPlace>, Halt<'a, MemberPlace, M::Fault>>
-    ensures scans { Scans (SpellsRawMember dialect) (in_member dialect) ends_member
-        (made_member M.bare M.with M.opened M.closed) text.now maker.old maker.new result }
-    ensures kept { Keeps text.now maker.old maker.new result }
-{
-    if let Some(rest) = strip_byte(text, b'(') {
-        return match inner_list(dialect, rest, maker) {
+impl<'a, M: Builder<'a>> Element<'a, M> for MemberPlace {
+    ghost Value = { RawMember };
+
+    ghost spells = { SpellsRawMember };
+
+    ghost made = { made_member M.bare M.with M.opened M.closed };
+
+    #[inline(always)]
+    fn read(
+        dialect: Dialect,
+        text: &'a [u8],
+        maker: &mut M,
+    ) -> Result<Stop<'a, MemberPlace>, Halt<'a, MemberPlace, M::Fault>> {
+        if let Some(rest) = strip_byte(text, b'(') {
+            return match inner_list(dialect, rest, maker) {
+                Ok(stop) => Ok(Stop {
+                    left: stop.left,
+                    place: MemberPlace::InInner(stop.place),
+                }),
+                Err(Halt::Refused(stop)) => Err(Halt::Refused(Stop {
+                    left: stop.left,
+                    place: MemberPlace::InInner(stop.place),
+                })),
+                Err(Halt::Fault(fault)) => Err(Halt::Fault(fault)),
+            };
+        }
+        match item(dialect, text, maker) {
             Ok(stop) => Ok(Stop {
                 left: stop.left,
-                place: MemberPlace::InInner(stop.place),
-            }),
-            Err(Halt::Refused(stop)) => Err(Halt::Refused(Stop {
-                left: stop.left,
-                place: MemberPlace::InInner(stop.place),
-            })),
-            Err(Halt::Fault(fault)) => Err(Halt::Fault(fault)),
-        };
-    }
-    match item(dialect, text, maker) {
-        Ok(stop) => Ok(Stop {
-            left: stop.left,
-            place: MemberPlace::InItem(stop.place),
-        }),
-        Err(Halt::Refused(stop)) => {
-            if stop.left.len() == text.len() {
-                return Err(Halt::Refused(Stop {
-                    left: stop.left,
-                    place: MemberPlace::Start,
-                }));
-            }
-            Err(Halt::Refused(Stop {
-                left: stop.left,
                 place: MemberPlace::InItem(stop.place),
-            }))
+            }),
+            Err(Halt::Refused(stop)) => {
+                if stop.left.len() == text.len() {
+                    return Err(Halt::Refused(Stop {
+                        left: stop.left,
+                        place: MemberPlace::Start,
+                    }));
+                }
+                Err(Halt::Refused(Stop {
+                    left: stop.left,
+                    place: MemberPlace::InItem(stop.place),
+                }))
+            }
+            Err(Halt::Fault(fault)) => Err(Halt::Fault(fault)),
         }
-        Err(Halt::Fault(fault)) => Err(Halt::Fault(fault)),
     }
 }

@@ -5,6 +5,7 @@ ghost use Rattle.sf_value.specs.Grammar.Dialects.{is_rfc9651};
 ghost use Rattle.sf_scan.specs.NumberPlaces.{in_number, ends_number};
 ghost use Rattle.sf_scan.specs.Sets.{Marks};
 
+use crate::allowed::Allowed;
 use crate::byte_sets::{DIGITS, MINUS, set_if};
 use sf_value::Dialect;
 
@@ -35,29 +36,20 @@ pub fn can_start_date(dialect: Dialect, byte: u8) -> bool
 }
 
 impl NumberPlace {
-    /// The bytes below 128 that may come, a bit for each.
-    pub fn expected(self) -> u128
-        ensures { Marks result (in_number self) }
+    /// What may come here.
+    #[inline(always)]
+    pub fn allowed(self) -> Allowed
+        ensures expected { Marks result.expected (in_number self) }
+        ensures may_end { result.may_end ≡ ends_number self }
     {
         match self {
-            NumberPlace::Whole(count) => {
-                set_if(count < 15, DIGITS) | set_if(count >= 1, set_if(count <= 12, POINT))
-            }
-            NumberPlace::Fraction(count) => set_if(count < 3, DIGITS),
-            NumberPlace::At => MINUS | DIGITS,
-            NumberPlace::DateDigits(count) => set_if(count < 15, DIGITS),
-        }
-    }
-
-    /// Whether the bare item may end here.
-    pub fn may_end(self) -> bool
-        ensures { result ≡ ends_number self }
-    {
-        match self {
-            NumberPlace::Whole(count)
-            | NumberPlace::Fraction(count)
-            | NumberPlace::DateDigits(count) => count >= 1,
-            NumberPlace::At => false,
+            NumberPlace::Whole(count) => Allowed::new(
+                set_if(count < 15, DIGITS) | set_if(count >= 1, set_if(count <= 12, POINT)),
+                count >= 1,
+            ),
+            NumberPlace::Fraction(count) => Allowed::new(set_if(count < 3, DIGITS), count >= 1),
+            NumberPlace::At => Allowed::new(MINUS | DIGITS, false),
+            NumberPlace::DateDigits(count) => Allowed::new(set_if(count < 15, DIGITS), count >= 1),
         }
     }
 }

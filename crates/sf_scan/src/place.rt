@@ -4,9 +4,10 @@ ghost use Rattle.sf_scan.specs.Places.{in_bare, ends_bare, is_bare_start};
 ghost use Rattle.sf_scan.specs.Places.{in_params, ends_params};
 ghost use Rattle.sf_scan.specs.Sets.{Marks};
 
+use crate::allowed::Allowed;
 use crate::blob_place::BlobPlace;
 use crate::byte_sets::{
-    DIGITS, EQUALS, KEY, KEY_START, LETTERS, MINUS, QUOTE, SEMICOLON, SPACE, VISIBLE, set_if,
+    DIGITS, EQUALS, KEY, KEY_START, LETTERS, MINUS, QUOTE, SEMICOLON, SPACE, VISIBLE,
 };
 use crate::number_place::NumberPlace;
 use crate::shown_place::ShownPlace;
@@ -62,31 +63,21 @@ fn bare_start(dialect: Dialect) -> u128
 }
 
 impl BarePlace {
-    /// The bytes below 128 that may come, a bit for each.
-    pub fn expected(self, dialect: Dialect) -> u128
-        ensures { Marks result (in_bare dialect self) }
+    /// What may come here.
+    pub fn allowed(self, dialect: Dialect) -> Allowed
+        ensures expected { Marks result.expected (in_bare dialect self) }
+        ensures may_end { result.may_end ≡ ends_bare self }
     {
         match self {
-            BarePlace::Start => bare_start(dialect),
-            BarePlace::QuestionMark => 3 << b'0',
-            BarePlace::InToken => TOKEN,
-            BarePlace::InString => VISIBLE,
-            BarePlace::Backslash => QUOTE | 1 << b'\\',
-            BarePlace::Blob(place) => place.expected(),
-            BarePlace::Shown(place) => place.expected(),
-            BarePlace::Number(place) => place.expected(),
-            BarePlace::Complete => 0,
-        }
-    }
-
-    /// Whether the bare item may end here.
-    pub fn may_end(self) -> bool
-        ensures { result ≡ ends_bare self }
-    {
-        match self {
-            BarePlace::InToken | BarePlace::Complete => true,
-            BarePlace::Number(place) => place.may_end(),
-            _ => false,
+            BarePlace::Start => Allowed::new(bare_start(dialect), false),
+            BarePlace::QuestionMark => Allowed::new(3 << b'0', false),
+            BarePlace::InToken => Allowed::new(TOKEN, true),
+            BarePlace::InString => Allowed::new(VISIBLE, false),
+            BarePlace::Backslash => Allowed::new(QUOTE | 1 << b'\\', false),
+            BarePlace::Blob(place) => Allowed::new(place.expected(), false),
+            BarePlace::Shown(place) => Allowed::new(place.expected(), false),
+            BarePlace::Number(place) => place.allowed(),
+            BarePlace::Complete => Allowed::new(0, true),
         }
     }
 }
@@ -105,28 +96,17 @@ pub enum ParamPlace {
 }
 
 impl ParamPlace {
-    /// The bytes below 128 that may come, a bit for each.
-    pub fn expected(self, dialect: Dialect) -> u128
-        ensures { Marks result (in_params dialect self) }
+    /// What may come here.
+    #[inline(always)]
+    pub fn allowed(self, dialect: Dialect) -> Allowed
+        ensures expected { Marks result.expected (in_params dialect self) }
+        ensures may_end { result.may_end ≡ ends_params self }
     {
         match self {
-            ParamPlace::Before => SEMICOLON,
-            ParamPlace::Semicolon => KEY_START | SPACE,
-            ParamPlace::InKey => KEY | EQUALS | SEMICOLON,
-            ParamPlace::InValue(place) => {
-                place.expected(dialect) | set_if(place.may_end(), SEMICOLON)
-            }
-        }
-    }
-
-    /// Whether the parameters may end here.
-    pub fn may_end(self) -> bool
-        ensures { result ≡ ends_params self }
-    {
-        match self {
-            ParamPlace::Before | ParamPlace::InKey => true,
-            ParamPlace::Semicolon => false,
-            ParamPlace::InValue(place) => place.may_end(),
+            ParamPlace::Before => Allowed::new(SEMICOLON, true),
+            ParamPlace::Semicolon => Allowed::new(KEY_START | SPACE, false),
+            ParamPlace::InKey => Allowed::new(KEY | EQUALS | SEMICOLON, true),
+            ParamPlace::InValue(place) => place.allowed(dialect).or_after(SEMICOLON),
         }
     }
 }

@@ -68,10 +68,11 @@ fn item_refusal(dialect: Dialect, text: &[u8]) -> Option<Refused<'_>>
         (λ refused. IsRefused dialect kind_is.Item text.now refused) }
 {
     let stop = stop_short(item_field(dialect, text, &mut Nothing))?;
+    let allowed = stop.place.allowed(dialect);
     Some(Refused {
         left: stop.left,
-        expected: stop.place.expected(dialect),
-        may_end: stop.place.may_end(),
+        expected: allowed.expected,
+        may_end: allowed.may_end,
     })
 }
 
@@ -81,10 +82,11 @@ fn list_refusal(dialect: Dialect, text: &[u8]) -> Option<Refused<'_>>
         (λ refused. IsRefused dialect kind_is.List text.now refused) }
 {
     let stop = stop_short(list(dialect, text, &mut Nothing))?;
+    let allowed = stop.place.allowed(dialect);
     Some(Refused {
         left: stop.left,
-        expected: stop.place.expected(dialect),
-        may_end: stop.place.may_end(),
+        expected: allowed.expected,
+        may_end: allowed.may_end,
     })
 }
 
@@ -94,9 +96,10 @@ fn dict_refusal(dialect: Dialect, text: &[u8]) -> Option<Refused<'_>>
         (λ refused. IsRefused dialect kind_is.Dict text.now refused) }
 {
     let stop = stop_short(dict(dialect, text, &mut Nothing))?;
+    let allowed = stop.place.allowed(dialect);
     Some(Refused {
         left: stop.left,
-        expected: stop.place.expected(dialect),
-        may_end: stop.place.may_end(),
+        expected: allowed.expected,
+        may_end: allowed.may_end,
     })
 }

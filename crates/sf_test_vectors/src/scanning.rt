@@ -96,7 +96,7 @@ fn parameters_before_a_mistake(rt: HostRuntime) -> Result<(), Fail> {
         return Err(Fail::from("not refused"));
     };
     assert_eq!(&rt; stop.left, b"@1".as_slice());
-    assert!(&rt; !stop.place.may_end());
+    assert!(&rt; !stop.place.allowed(Dialect::Rfc8941).may_end);
     assert_eq!(&rt; all.params().len(), 1);
     Ok(())
 }
@@ -112,6 +112,6 @@ fn stops(rt: HostRuntime) -> Result<(), Fail> {
         return Err(Fail::from("no Dictionary"));
     };
     assert_eq!(&rt; stop.left, b"\n".as_slice());
-    assert!(&rt; stop.place.may_end());
+    assert!(&rt; stop.place.allowed(Dialect::Rfc9651).may_end);
     Ok(())
 }

@@ -2,8 +2,9 @@ use Rattle.std.proofs.Common.{refl, ap, sym, ◌∙◌, ◌∷◌, ◌++◌, []}
 use Rattle.sf_value.specs.Ascii.{quote, question_mark}
 use Rattle.sf_value.specs.Grammar.BareItems.{SpellsBare}
 use Rattle.sf_scan.specs.declared.leaf.Leaf.TheVariants as leaf
-use Rattle.sf_scan.proofs.Bares.{bare_refused, past_refused, past_leaf, no_byte}
-use Rattle.sf_scan.proofs.Numbers.{minus_scans, digit_scans}
+use Rattle.sf_scan.proofs.Bares.{bare_refused, past_refused, past_leaf, no_byte, no_start}
+use Rattle.sf_scan.proofs.CodedStarts.{no_coded_start}
+use Rattle.sf_scan.proofs.Numbers.{minus_scans, digit_scans, no_number_start}
 use Rattle.sf_scan.proofs.Taken.{text_taken, token_taken, token_fits, leaf_taken}
 use Rattle.sf_scan.proofs.bare.bare.Goals as goal
 
@@ -63,6 +64,15 @@ pub returns-then-can_start_token : goal.returns-then-can_start_token
 returns-then-can_start_token g c =
     token_taken (g.T.Take.makes c.args.take) _ _ _ (leaf.Token c.token.result.1) _ _
     (c.token.ensures c.args.dialect) refl c.token-then-can_start_token.ensures
+
+pub returns-then-not-can_start_date : goal.returns-then-not-can_start_date
+returns-then-not-can_start_date g c =
+    let d = c.args.dialect in
+    bare_refused d _ (no_start d _ _ _ c.in-Some.ensures c.if-first-eq34.false c.if-first-eq63.false
+    (sym c.can_start_token.ensures ∙ c.if-can_start_token.false)
+    (no_number_start d _ (sym c.is_ascii_digit.ensures.value ∙ c.if-is_ascii_digit.false)
+    c.if-first-eq45.false (sym c.can_start_date.ensures ∙ c.if-not-can_start_date.true))
+    (no_coded_start d _ c.if-first-ne58.true c.if-first-ne37.true)) refl
 
 pub returns-in-Ok-other : goal.returns-in-Ok-other
 returns-in-Ok-other g c =

@@ -8,7 +8,7 @@ use Rattle.sf_scan.specs.declared.place.BarePlace.TheVariants.{Start}
 use Rattle.sf_scan.proofs.Following.{bare_apart}
 use Rattle.sf_scan.proofs.Items.{open_test, closed_test}
 use Rattle.sf_scan.proofs.Sequences.{some_left, unread, reads_as, refuses_as}
-use Rattle.sf_scan.proofs.Series.{empty_run, some_run}
+use Rattle.sf_scan.proofs.Separated.{empty_run, some_run}
 use Rattle.sf_scan.proofs.Spaced.{field_broken, field_refused, field_ends, field_spaces}
 use Rattle.sf_scan.proofs.Starts.{item_apart, item_begun, item_start, bare_begun, bare_start}
 use Rattle.sf_scan.proofs.field.item_field.Goals as goal

@@ -18,4 +18,4 @@ returns c =
     let d = c.args.dialect in
     refused_field d kind.Dict (SpellsRawDict d) dict_field_of (settles_dict d)
     (in_dict d) (due_dict d) ends_dict _ _ _ _ _ c.dict.ensures _ c.in_ok-stop.ensures
-    _ c.expected.ensures _ c.may_end.ensures
+    _ c.allowed-allowed.ensures.expected _ c.allowed-allowed.ensures.may_end

@@ -18,4 +18,4 @@ returns c =
     let d = c.args.dialect in
     refused_field d kind.Item (SpellsRawField d) item_field_of (settles_item_field d)
     (in_field d) (due_field d) ends_field _ _ _ _ _ c.item_field.ensures _ c.in_ok-stop.ensures
-    _ c.expected.ensures _ c.may_end.ensures
+    _ c.allowed-allowed.ensures.expected _ c.allowed-allowed.ensures.may_end

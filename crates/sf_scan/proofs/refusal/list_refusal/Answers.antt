@@ -18,4 +18,4 @@ returns c =
     let d = c.args.dialect in
     refused_field d kind.List (SpellsRawList d) list_field_of (settles_list d)
     (in_list d) (due_list d) ends_list _ _ _ _ _ c.list.ensures _ c.in_ok-stop.ensures
-    _ c.expected.ensures _ c.may_end.ensures
+    _ c.allowed-allowed.ensures.expected _ c.allowed-allowed.ensures.may_end
