@@ -1,5 +1,5 @@
 -- Parts that are read whole: their texts by those of their parts.
-use Rattle.std.proofs.Common.{◌≡◌, ℕ, true, List, [], ◌∷◌, ◌++◌, Option, Some, None}
+use Rattle.std.proofs.Common.{◌≡◌, ℕ, true, false, List, [], ◌∷◌, ◌++◌, Option, Some, None}
 use Rattle.std.proofs.Common.{refl, sym, ap, ◌∙◌, subst, append_assoc, append-nil, inl, inr, arith}
 use Rattle.std.proofs.Common.{◌≤◌, ◌<◌, ◌+◌, length, length-append, IfSome, IfOk}
 use Rattle.std.proofs.Common.{Result, Ok, Err}
@@ -11,7 +11,7 @@ use Rattle.sf_value.specs.declared.value.Inner.{Inner}
 use Rattle.sf_value.specs.declared.value.Member.{Member}
 use Rattle.sf_value.specs.declared.value.Member.TheVariants as member
 use Rattle.sf_value.specs.Grammar.Words.{Every}
-use Rattle.sf_value.specs.Grammar.Classes.{is_sp}
+use Rattle.sf_value.specs.Grammar.Classes.{is_sp, is_ows, is_key_start}
 use Rattle.sf_value.specs.Grammar.Pairs.{Pairs, settle}
 use Rattle.sf_value.specs.Grammar.Tokens.{IsKey}
 use Rattle.sf_value.specs.Grammar.BareItems.{SpellsBare}
@@ -28,6 +28,7 @@ use Rattle.sf_parse.specs.Machine.Params.{MoreParams}
 use Rattle.sf_parse.specs.declared.whole_parts.BehindItem.{BehindItem}
 use Rattle.sf_parse.specs.declared.whole_parts.Unread.{Unread}
 use Rattle.sf_parse.specs.WholeParts.{ReadsAs, ReadsParam, ReadsItems, AddsItem, Behind}
+use Rattle.sf_parse.specs.WholeParts.{BeginsMember}
 use Rattle.sf_parse.proofs.Machine.Language.{and_then_cases}
 use Rattle.sf_parse.proofs.Machine.Bares.{bare_reads, bare_lives}
 use Rattle.sf_parse.proofs.Machines.{may_end, accepted}
@@ -323,6 +324,14 @@ pub named_entry : (d : Dialect) (text key after inside more rest : List ℕ) (x 
 named_entry d text key after inside more rest x ps e k f b r =
     entry_value d text key after inside rest (member.Item (item x ps)) e k f
     (item_member d inside rest (item x ps) (item_whole d inside more rest x ps b r))
+
+-- no key begins with white space
+pub key_begins : (text key after : List ℕ) → text ≡ key ++ after → IsKey key → BeginsMember text
+key_begins text [] after e k = absurd k
+key_begins text (b ∷ key) after e k = (b, key ++ after, e, no_space b k.0)
+  where
+    no_space : (b : ℕ) → is_key_start b ≡ true → is_ows b ≡ false
+    no_space b h = grind arith
 
 -- what follows from an answer follows from each
 pub each_some : {A : Type 0} {P Q : A → Type 0} → ((a : A) → P a → Q a) → (o : Option A)

@@ -1,7 +1,19 @@
 -- Whole members that are added to a value: their machine, and what taking them returns.
 use Rattle.std.specs.Prelude.{◌≡◌, ℕ, Bool, true, false, List, [], ◌∷◌, ◌++◌, Option, Some, None}
 use Rattle.std.specs.Prelude.{◌⊎◌, ◌≢◌, ⊤}
-use Rattle.sf_value.specs.Ascii.{comma}
+use Rattle.sf_value.specs.Ascii.{comma, open_bracket}
+use Rattle.sf_value.specs.declared.dialect.Dialect.{Dialect}
+use Rattle.sf_value.specs.declared.value.Bare.{Bare}
+use Rattle.sf_value.specs.declared.value.Inner.{Inner}
+use Rattle.sf_value.specs.declared.value.Member.{Member}
+use Rattle.sf_value.specs.declared.value.Member.TheVariants as member
+use Rattle.sf_value.specs.Grammar.InnerLists.{SpellsInner}
+use Rattle.sf_value.specs.Grammar.Pairs.{Pairs}
+use Rattle.sf_value.specs.Grammar.Parameters.{SpellsParams}
+use Rattle.sf_parse.specs.Leaves.{IsLeaf}
+use Rattle.sf_parse.specs.WholeParts.{ReadsAs, BeginsMember, found_member}
+use Rattle.sf_parse.specs.declared.whole_parts.Begun.{Begun}
+use Rattle.sf_parse.specs.declared.whole_parts.Begun.TheVariants as begun
 use Rattle.sf_value.specs.Grammar.Classes.{is_ows}
 use Rattle.sf_value.specs.Grammar.Words.{Every}
 use Rattle.sf_parse.specs.Machine.Language.{run, is_after}
@@ -26,6 +38,19 @@ pub record IsWholeMember {S X V : Type 0} (first : ℕ → Option S) (next : S �
   pub leads : run next begun more ≡ Some whole
   pub adds : (given : V) → added whole given ≡ Some (with given x)
   pub apart : (b : ℕ) → is_after b ≡ true → next whole b ≡ None
+
+-- a member begins so: with its parameters, or with the rest of the Inner List, it is whole
+abbrev pub IsBegun : {S V : Type 0} → (List ℕ → Type 0) → (ℕ → Option S) → (S → ℕ → Option S)
+    → (S → V → Option V) → (V → List ℕ × Member → V) → Dialect → List ℕ → Begun → Type 0
+IsBegun is_key first next added with d text (begun.Item found after) =
+    is_key found.key.now × IsLeaf found.leaf
+    × ((params : Pairs Bare) (rest : List ℕ) → ReadsAs (SpellsParams d) after.now params rest
+    → IsWholeMember first next added with text (found_member found params) rest)
+IsBegun is_key first next added with d text (begun.Inner key inside) =
+    is_key key.now × BeginsMember text
+    × ((inner : Inner) (rest : List ℕ)
+    → ReadsAs (SpellsInner d) (open_bracket ∷ inside.now) inner rest
+    → IsWholeMember first next added with text (key.now, member.Inner inner) rest)
 
 -- between a member and the rest are white space and a comma, with white space after it; or white
 -- space alone, of which there may be none if nothing is left of a whole text

@@ -56,9 +56,9 @@ pub record AddsItem (d : Dialect) (text : List ℕ) (old new : List Item) (end :
 abbrev pub BeginsMember : List ℕ → Type 0
 BeginsMember text = (b : ℕ) × (more : List ℕ) × (text ≡ b ∷ more) × (is_ows b ≡ false)
 
--- what was found, with these parameters, as a member
-abbrev pub found_member : Found × Pairs Bare → Member
-found_member f = member.Item (item (leaf_bare f.0.leaf) f.1)
+-- what was found, with these parameters, as a member after its key
+abbrev pub found_member : Found → Pairs Bare → List ℕ × Member
+found_member f params = (f.key.now, member.Item (item (leaf_bare f.leaf) params))
 
 -- the start of the text spells Items of an Inner List, after at least this many spaces, and a
 -- closing bracket follows; they are added to the old ones

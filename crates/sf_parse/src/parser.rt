@@ -137,7 +137,13 @@ impl Parser {
         }
     }
 
-    /// The number of bytes taken: after a Syntax refusal its place, after TooLong the limit.
+    /// The number of bytes taken: after a Syntax refusal its place, after TooLong the limit, and
+    /// after OutOfMemory at most the number of bytes fed. It does not allocate.
+    ///
+    /// ```
+    /// parser.feed(b"a, ")?;
+    /// parser.place() // 3
+    /// ```
     pub fn place(&self) -> u64
         ensures count { result ≡ self.now.count }
         // It is the place of a Syntax refusal, and the limit after TooLong.
@@ -204,6 +210,11 @@ impl Parser {
     /// Takes the next chunk, or refuses the text: with Syntax at a byte that is not allowed, with
     /// TooLong after the limit, or with OutOfMemory if an allocation fails. A parser that refused
     /// returns the same refusal to every later call, whatever the chunk.
+    ///
+    /// ```
+    /// parser.feed(b"a, ")?;
+    /// parser.feed(b"1x") // Err: byte 0x78 'x' at place 4, expected ..
+    /// ```
     pub fn feed(&mut self, chunk: &[u8]) -> Result<(), Refusal>
         // Ok took the chunk; a refusal remains, whatever comes after it.
         ensures fed { Feeds self.old self.new result chunk.now }
@@ -294,6 +305,11 @@ impl Parser {
 
     /// The value of what was taken. Fails with the refusal of an earlier call, with Syntax if the
     /// text may not end here, and with OutOfMemory if an allocation fails.
+    ///
+    /// ```
+    /// parser.feed(b"a;q=")?;
+    /// parser.finish() // Err: the text ended at place 4, expected ..
+    /// ```
     pub fn finish(self) -> Result<Field, Refusal>
         // It is the one value of all bytes taken, or Syntax at their end; otherwise an allocation
         // failed.

@@ -3,37 +3,36 @@
 ghost use Rattle.std.specs.Prelude.{◌≡◌, ◌<◌, ℕ, List, [], false, true, length};
 ghost use Rattle.std.specs.Prelude.{is_some, Option, IfOk, OnOk, IsOk, IfSome};
 ghost use Rattle.sf_value.specs.declared.dialect.Dialect.{Dialect};
-ghost use Rattle.sf_value.specs.declared.value.Bare.{Bare};
-ghost use Rattle.sf_value.specs.Grammar.Pairs.{Pairs};
-ghost use Rattle.sf_value.specs.Grammar.Parameters.{SpellsParams};
+ghost use Rattle.sf_value.specs.declared.value.Member.{Member as Whole};
 ghost use Rattle.sf_parse.specs.Expected.{MarksStep};
-ghost use Rattle.sf_parse.specs.WholeParts.{ReadsAs, BeginsMember};
+ghost use Rattle.sf_parse.specs.Leaves.{IsLeaf};
+ghost use Rattle.sf_parse.specs.WholeParts.{found_member};
 ghost use Rattle.sf_parse.specs.Prefixes.{Goes, FirstIs, Starts};
 ghost use Rattle.sf_parse.specs.SeriesView.{series_next, series_end, series_stuck, Ends};
 ghost use Rattle.sf_parse.specs.Machine.Series.{Begin};
 ghost use Rattle.sf_parse.specs.AllocationFree.{SeriesFree};
 ghost use Rattle.sf_parse.specs.StaysFree.{series_keeps};
 ghost use Rattle.sf_parse.specs.SeriesView.{series_of};
-ghost use Rattle.sf_parse.specs.WholeMembers.{IsWholeMember, MayBegin, MayEnd, NoneOpen};
+ghost use Rattle.sf_parse.specs.WholeMembers.{IsBegun, MayBegin, MayEnd, NoneOpen};
 ghost use Rattle.sf_parse.specs.WholeMembers.{TakesMembers, IsBehindMember};
-ghost use Rattle.sf_parse.specs.declared.whole_parts.Found.{Found};
 ghost use Rattle.sf_parse.specs.declared.series.SeriesPhase.TheVariants as phase_is;
+ghost use Rattle.sf_parse.specs.declared.whole_parts.Begun.TheVariants as begun_is;
 
 use crate::ahead::has_comma;
 use crate::context::Context;
+use crate::leaf::make;
 use crate::level::Level;
 use crate::sets::{COMMA, OWS, SPACE, set_if};
-use crate::whole_parts::{Found, Unread, WHOLE_PARTS, begins_param, may_begin_params, read_params};
+use crate::whole_parts::{
+    Begun, Found, Unread, WHOLE_PARTS, begins_param, may_begin_params, read_inner, read_params,
+};
 use sf_value::classes::{Ows, Space, ends, few_prefix, short_prefix, split, strip_byte};
-use sf_value::{Bare, Dialect, Entries, OutOfMemory, is_ows};
+use sf_value::{Bare, Dialect, Entries, Item, Member, OutOfMemory, is_ows};
 use std::marker::Model;
 use std::mem;
 
 /// A member between commas; complete ones are added to a `G`.
 pub trait SeriesMember<G>: Level {
-    /// A whole member.
-    type Whole: Drop;
-
     // The state after the first byte of a member.
     ghost first: { Dialect → ℕ → Option Self };
 
@@ -43,13 +42,11 @@ pub trait SeriesMember<G>: Level {
     // The value with this member, if it may end.
     ghost added: { Self → G → Option G };
 
-    // The value with this whole member.
-    ghost with: { G → Self.Whole → G };
+    // What the key of a member is; a List has members without keys.
+    ghost is_key: { List ℕ → Type 0 };
 
-    // What was found is a member, and the value with it and its parameters.
-    ghost is_found: { Found → Type 0 };
-
-    ghost with_found: { G → Found × Pairs Bare → G };
+    // The value with the member of this key.
+    ghost with: { G → List ℕ × Whole → G };
 
     /// A reader in which no member was begun. It does not allocate.
     fn new(context: &Context) -> Self;
@@ -79,38 +76,15 @@ pub trait SeriesMember<G>: Level {
     /// it.
     fn may_begin(text: &[u8]) -> bool;
 
-    /// A member that is an Item, up to its parameters, and the rest; None if the text begins with
-    /// none.
-    fn find(dialect: Dialect, text: &[u8]) -> Option<(Found<'_>, &[u8])>
-        ensures found { IfSome result (λ r. is_found r.0) }
-        // With the parameters that the rest begins with it is a whole member.
-        ensures whole { IfSome result (λ r. (params : Pairs Bare) (rest : List ℕ)
-            → ReadsAs (SpellsParams dialect) r.1.now params rest → IsWholeMember (first dialect)
-            (Self.Level.next dialect) added with_found text.now (r.0, params) rest) };
+    /// How the member begins that the text begins with; None if there is none.
+    fn begin(dialect: Dialect, text: &[u8]) -> Option<Begun<'_>>
+        ensures { IfSome result (IsBegun is_key (first dialect) (Self.Level.next dialect) added with
+            dialect text.now) };
 
-    /// Adds a member that was found.
-    fn add_found(
-        context: &Context,
-        given: &mut G,
-        found: Found<'_>,
-        params: Entries<Bare>,
-    ) -> Result<(), OutOfMemory>
-        requires { is_found found }
-        ensures { OnOk result (given.new ≡ with_found given.old (found.entry, params)) };
-
-    /// Whether the text may begin with a member that is an Inner List.
-    fn may_begin_inner(text: &[u8]) -> bool
-        ensures { result ≡ true → BeginsMember text.now };
-
-    /// A whole member that is an Inner List, and the rest.
-    fn read_inner<'a>(context: &Context, text: &'a [u8]) -> Result<(Self::Whole, &'a [u8]), Unread>
-        // The bytes before the rest are those of the member.
-        ensures { IfOk result (λ r. IsWholeMember (first context.now.dialect)
-            (Self.Level.next context.now.dialect) added with text.now r.0 r.1.now) };
-
-    /// Adds a whole member.
-    fn add(given: &mut G, member: Self::Whole) -> Result<(), OutOfMemory>
-        ensures { OnOk result (given.new ≡ with given.old member) };
+    /// Adds the member of this key.
+    fn add(context: &Context, given: &mut G, key: &[u8], member: Member) -> Result<(), OutOfMemory>
+        requires { is_key key.now }
+        ensures { OnOk result (given.new ≡ with given.old (key.now, member)) };
 
     // A member is added exactly if it may end.
     ghost adds: { (s : Self) (given : G) → is_some (added s given) ≡ Self.Level.ends s };
@@ -382,22 +356,23 @@ fn may_add<P: SeriesMember<G>, G>(dialect: Dialect, chunk: &[u8]) -> bool {
 /// allowed there, so that a chunk that is refused there isn't searched. No proof relies on it.
 #[inline(always)]
 fn has_end<P: SeriesMember<G>, G>(dialect: Dialect, chunk: &[u8]) -> bool {
-    match P::find(dialect, chunk) {
-        Some((_, after)) => match split(after) {
+    match P::begin(dialect, chunk) {
+        Some(Begun::Item(_, after)) => match split(after) {
             Some((b',' | b' ' | b'\t', _)) => true,
             Some((b';', _)) => begins_param(dialect, after) && has_comma(after),
             _ => false,
         },
-        None => P::may_begin_inner(chunk) && has_comma(chunk),
+        Some(Begun::Inner(_, inside)) => has_comma(inside),
+        None => false,
     }
 }
 
-/// Whether a member may be whole in this text: in a chunk only if a comma is near. Otherwise it is
-/// left to its reader, since it would have to be read again. It is a hint that saves time; no proof
-/// relies on it.
+/// Whether a member may be whole in this text: in a chunk only if a comma is near, for which the
+/// first member was tested before. Otherwise it is left to its reader, since it would have to be
+/// read again. It is a hint that saves time; no proof relies on it.
 #[inline(always)]
-fn may_be_whole(is_whole: bool, text: &[u8]) -> bool {
-    is_whole || has_comma(text)
+fn may_be_whole(is_near: bool, text: &[u8]) -> bool {
+    is_near || has_comma(text)
 }
 
 /// As [`add_members`], also for a chunk: [`add_members`] itself only tests whether there may be a
@@ -425,40 +400,14 @@ fn add_each_member<'a, P: SeriesMember<G>, G>(
         → IsOk result }
 {
     let mut rest = text;
+    let mut is_near = true;
     while is_whole || rest.len() >= WHOLE_PARTS {
-        let Some((found, after)) = P::find(context.dialect, rest) else {
-            let is_first = rest.len() == text.len();
-            if !P::may_begin_inner(rest) || !may_be_whole(is_whole || is_first, rest) {
-                return Ok(rest);
-            }
-            let left = add_inner::<P, G>(context, rest, is_whole, phase, given)?;
-            if !goes_on(*phase, rest, left) {
-                return Ok(left);
-            }
-            rest = left;
-            continue;
-        };
-        let Some((next, more)) = after_member(after, is_whole) else {
-            let is_first = rest.len() == text.len();
-            if !may_begin_params(after) || !may_be_whole(is_whole || is_first, after) {
-                return Ok(rest);
-            }
-            let left = add_with_params::<P, G>(
-                context, rest, found, after, is_whole, phase, given,
-            )?;
-            if !goes_on(*phase, rest, left) {
-                return Ok(left);
-            }
-            rest = left;
-            continue;
-        };
-        let params = Entries::new(context.alloc, &context.seed);
-        P::add_found(context, given, found, params)?;
-        *phase = next;
-        if !goes_on(next, rest, more) {
-            return Ok(more);
+        let left = add_member::<P, G>(context, rest, is_near, is_whole, phase, given)?;
+        if !goes_on(*phase, rest, left) {
+            return Ok(left);
         }
-        rest = more;
+        rest = left;
+        is_near = is_whole;
     }
     Ok(rest)
 }
@@ -470,6 +419,76 @@ fn goes_on(phase: SeriesPhase, text: &[u8], left: &[u8]) -> bool
     ensures less { result ≡ true → length left.now < length text.now }
 {
     matches!(phase, SeriesPhase::Comma) && left.len() < text.len()
+}
+
+/// Adds the whole member that a text begins with, with the comma or the white space after it, and
+/// returns the rest. If there is none, it returns all of the text. `is_near` says that it may be
+/// whole, so that no comma is searched.
+#[inline(always)]
+fn add_member<'a, P: SeriesMember<G>, G>(
+    context: &Context,
+    text: &'a [u8],
+    is_near: bool,
+    is_whole: bool,
+    phase: &mut SeriesPhase,
+    given: &mut G,
+) -> Result<&'a [u8], OutOfMemory>
+    // A member may begin.
+    requires may_begin { MayBegin P.none phase.old given.old }
+    // The bytes before the rest lead to the new phase and value, whatever member was read last; or
+    // no byte is left of a whole text, and the value is that of the members.
+    ensures goes { IfOk result (λ rest. (s : P) → TakesMembers
+        (series_next (P.first context.now.dialect) (P.next context.now.dialect) P.added P.none)
+        (series_end P.added P.none) is_whole (series_of phase.old given.old s) text.now rest.now
+        phase.new given.new s) }
+    // No member is open.
+    ensures none_open { IfOk result (λ _. NoneOpen P.none phase.new given.new) }
+    // Before the first member spaces do not allocate.
+    ensures allocation_free { (s : P) → SeriesFree (series_of phase.old given.old s) text.now
+        → IsOk result }
+{
+    match P::begin(context.dialect, text) {
+        Some(Begun::Item(found, after)) => {
+            let Some((next, more)) = after_member(after, is_whole) else {
+                if !may_begin_params(after) || !may_be_whole(is_near, after) {
+                    return Ok(text);
+                }
+                return add_with_params::<P, G>(context, text, found, after, is_whole, phase, given);
+            };
+            let params = Entries::new(context.alloc, &context.seed);
+            add_found::<P, G>(context, given, found, params)?;
+            *phase = next;
+            Ok(more)
+        }
+        Some(Begun::Inner(key, inside)) => {
+            if !may_be_whole(is_near, inside) {
+                return Ok(text);
+            }
+            add_inner::<P, G>(context, text, key, inside, is_whole, phase, given)
+        }
+        None => Ok(text),
+    }
+}
+
+/// Adds a member that is an Item and that was found.
+#[inline(always)]
+fn add_found<P: SeriesMember<G>, G>(
+    context: &Context,
+    given: &mut G,
+    found: Found<'_>,
+    params: Entries<Bare>,
+) -> Result<(), OutOfMemory>
+    requires key { P.is_key found.key.now }
+    requires leaf { IsLeaf found.leaf }
+    ensures { OnOk result (given.new ≡ P.with given.old (found_member found.entry params)) }
+{
+    let bare = make(context, found.leaf)?;
+    P::add(
+        context,
+        given,
+        found.key,
+        Member::Item(Item { bare, params }),
+    )
 }
 
 /// Adds the member that a text begins with and that was found, with the parameters after it and the
@@ -487,11 +506,8 @@ fn add_with_params<'a, P: SeriesMember<G>, G>(
 ) -> Result<&'a [u8], OutOfMemory>
     // A member may begin.
     requires may_begin { MayBegin P.none phase.old given.old }
-    requires found { P.is_found found }
-    requires whole { (params : Pairs Bare) (rest : List ℕ)
-        → ReadsAs (SpellsParams context.now.dialect) after.now params rest
-        → IsWholeMember (P.first context.now.dialect) (P.next context.now.dialect) P.added
-        P.with_found text.now (found, params) rest }
+    requires begun { IsBegun P.is_key (P.first context.now.dialect) (P.next context.now.dialect)
+        P.added P.with context.now.dialect text.now (begun_is.Item found after) }
     // The bytes before the rest lead to the new phase and value, whatever member was read last; or
     // no byte is left of a whole text, and the value is that of the members.
     ensures goes { IfOk result (λ rest. (s : P) → TakesMembers
@@ -509,25 +525,28 @@ fn add_with_params<'a, P: SeriesMember<G>, G>(
     let Some((next, more)) = after_member(rest, is_whole) else {
         return Ok(text);
     };
-    P::add_found(context, given, found, params)?;
+    add_found::<P, G>(context, given, found, params)?;
     *phase = next;
     Ok(more)
 }
 
-/// Adds the whole member that a text begins with and that is an Inner List, with the comma or white
-/// space after it, and returns the rest. If the member is not whole, it returns all of the text. It
-/// is not inlined: a call clears its stack.
+/// Adds the member that a text begins with and that is an Inner List, of which this is left after its
+/// opening bracket, with the comma or white space after it, and returns the rest. If the member is
+/// not whole, it returns all of the text. It is not inlined: a call clears its stack.
 #[inline(never)]
 fn add_inner<'a, P: SeriesMember<G>, G>(
     context: &Context,
     text: &'a [u8],
+    key: &[u8],
+    inside: &'a [u8],
     is_whole: bool,
     phase: &mut SeriesPhase,
     given: &mut G,
 ) -> Result<&'a [u8], OutOfMemory>
     // A member may begin.
     requires may_begin { MayBegin P.none phase.old given.old }
-    requires begun { BeginsMember text.now }
+    requires begun { IsBegun P.is_key (P.first context.now.dialect) (P.next context.now.dialect)
+        P.added P.with context.now.dialect text.now (begun_is.Inner key inside) }
     // The bytes before the rest lead to the new phase and value, whatever member was read last; or
     // no byte is left of a whole text, and the value is that of the members.
     ensures goes { IfOk result (λ rest. (s : P) → TakesMembers
@@ -540,7 +559,7 @@ fn add_inner<'a, P: SeriesMember<G>, G>(
     ensures allocation_free { (s : P) → SeriesFree (series_of phase.old given.old s) text.now
         → IsOk result }
 {
-    let (member, after) = match P::read_inner(context, text) {
+    let (inner, after) = match read_inner(context, inside) {
         Ok(read) => read,
         Err(Unread::NotWhole) => return Ok(text),
         Err(Unread::OutOfMemory) => return Err(OutOfMemory),
@@ -548,7 +567,7 @@ fn add_inner<'a, P: SeriesMember<G>, G>(
     let Some((next, more)) = after_member(after, is_whole) else {
         return Ok(text);
     };
-    P::add(given, member)?;
+    P::add(context, given, key, Member::Inner(inner))?;
     *phase = next;
     Ok(more)
 }

@@ -1,50 +1,33 @@
 //! The members of a List and of a Dictionary (RFC 9651 sections 4.2.1 and 4.2.2).
-ghost use Rattle.std.specs.Prelude.{[], ◌∷◌, ◌++◌};
+ghost use Rattle.std.specs.Prelude.{[], ◌∷◌, ◌++◌, ⊤};
 ghost use Rattle.sf_value.specs.Grammar.Pairs.{put};
 ghost use Rattle.sf_value.specs.Grammar.Tokens.{IsKey};
-ghost use Rattle.sf_parse.specs.Leaves.{IsLeaf};
-ghost use Rattle.sf_parse.specs.WholeParts.{found_member};
 ghost use Rattle.sf_parse.specs.Machine.Members.{member_start, member_finish};
 ghost use Rattle.sf_parse.specs.Machine.Entries.{entry_start, entry_finish};
 ghost use Rattle.sf_parse.specs.MemberEnds.{with_member, with_entry, some_map};
 
 use crate::context::Context;
 use crate::entry::EntryReader;
-use crate::leaf::{find_leaf, make};
+use crate::leaf::find_leaf;
 use crate::level::Level;
 use crate::member::MemberReader;
 use crate::series::SeriesMember;
 use crate::sets::KEY_START;
-use crate::whole_parts::{
-    Found, Unread, find_named, may_begin_inner_entry, read_inner_entry, read_inner_member,
-};
+use crate::whole_parts::{Begun, Found, find_value};
+use sf_scan::param::find_key;
 use sf_value::classes::{split, strip_byte};
-use sf_value::{
-    Bare, Dialect, Entries, Item, Key, Member, OutOfMemory, Sequence, can_start_key,
-    can_start_token,
-};
-
-/// A whole member of a Dictionary.
-#[derive(Drop)]
-pub struct Entry {
-    key: Key,
-    member: Member,
-}
+use sf_value::{Dialect, Entries, Member, OutOfMemory, Sequence, can_start_key, can_start_token};
 
 impl SeriesMember<Sequence<Member>> for MemberReader {
-    type Whole = Member;
-
     ghost first = { member_start };
 
     ghost none = { [] };
 
     ghost added = { with_member };
 
-    ghost with = { λ given member. given ++ member ∷ [] };
+    ghost is_key = { λ key. ⊤ };
 
-    ghost is_found = { λ found. IsLeaf found.leaf };
-
-    ghost with_found = { λ given found. given ++ found_member found ∷ [] };
+    ghost with = { λ given keyed. given ++ keyed.1 ∷ [] };
 
     ghost adds = { λ s given. some_map _ (member_finish s) };
 
@@ -82,52 +65,35 @@ impl SeriesMember<Sequence<Member>> for MemberReader {
     }
 
     #[inline(always)]
-    fn find(dialect: Dialect, text: &[u8]) -> Option<(Found<'_>, &[u8])> {
+    fn begin(dialect: Dialect, text: &[u8]) -> Option<Begun<'_>> {
+        if let Some(inside) = strip_byte(text, b'(') {
+            return Some(Begun::Inner(&[], inside));
+        }
         let (leaf, rest) = find_leaf(dialect, text)?;
-        Some((Found { key: &[], leaf }, rest))
+        Some(Begun::Item(Found { key: &[], leaf }, rest))
     }
 
     #[inline(always)]
-    fn add_found(
-        context: &Context,
+    fn add(
+        _context: &Context,
         given: &mut Sequence<Member>,
-        found: Found<'_>,
-        params: Entries<Bare>,
+        _key: &[u8],
+        member: Member,
     ) -> Result<(), OutOfMemory> {
-        let bare = make(context, found.leaf)?;
-        given.push_or_drop(Member::Item(Item { bare, params }))
-    }
-
-    #[inline(always)]
-    fn may_begin_inner(text: &[u8]) -> bool {
-        strip_byte(text, b'(').is_some()
-    }
-
-    #[inline(always)]
-    fn read_inner<'a>(context: &Context, text: &'a [u8]) -> Result<(Member, &'a [u8]), Unread> {
-        read_inner_member(context, text)
-    }
-
-    #[inline(always)]
-    fn add(given: &mut Sequence<Member>, member: Member) -> Result<(), OutOfMemory> {
         given.push_or_drop(member)
     }
 }
 
 impl SeriesMember<Entries<Member>> for EntryReader {
-    type Whole = Entry;
-
     ghost first = { λ d. entry_start };
 
     ghost none = { [] };
 
     ghost added = { with_entry };
 
-    ghost with = { λ given entry. put given entry.key entry.member };
+    ghost is_key = { IsKey };
 
-    ghost is_found = { λ found. IsKey found.key.now × IsLeaf found.leaf };
-
-    ghost with_found = { λ given found. put given found.0.key.now (found_member found) };
+    ghost with = { λ given keyed. put given keyed.0 keyed.1 };
 
     ghost adds = { λ s given. some_map _ (entry_finish s) };
 
@@ -160,39 +126,24 @@ impl SeriesMember<Entries<Member>> for EntryReader {
     }
 
     #[inline(always)]
-    fn find(dialect: Dialect, text: &[u8]) -> Option<(Found<'_>, &[u8])> {
-        find_named(dialect, text)
+    fn begin(dialect: Dialect, text: &[u8]) -> Option<Begun<'_>> {
+        let (key, after) = find_key(text)?;
+        if let Some(value) = strip_byte(after, b'=') {
+            if let Some(inside) = strip_byte(value, b'(') {
+                return Some(Begun::Inner(key, inside));
+            }
+        }
+        let (found, rest) = find_value(dialect, key, after)?;
+        Some(Begun::Item(found, rest))
     }
 
     #[inline(always)]
-    fn add_found(
+    fn add(
         context: &Context,
         given: &mut Entries<Member>,
-        found: Found<'_>,
-        params: Entries<Bare>,
+        key: &[u8],
+        member: Member,
     ) -> Result<(), OutOfMemory> {
-        let bare = make(context, found.leaf)?;
-        given.set_named(
-            context.alloc,
-            found.key,
-            Member::Item(Item { bare, params }),
-        )
-    }
-
-    #[inline(always)]
-    fn may_begin_inner(text: &[u8]) -> bool {
-        may_begin_inner_entry(text)
-    }
-
-    #[inline(always)]
-    fn read_inner<'a>(context: &Context, text: &'a [u8]) -> Result<(Entry, &'a [u8]), Unread> {
-        let (key, member, rest) = read_inner_entry(context, text)?;
-        Ok((Entry { key, member }, rest))
-    }
-
-    #[inline(always)]
-    fn add(given: &mut Entries<Member>, entry: Entry) -> Result<(), OutOfMemory> {
-        let Entry { key, member } = entry;
-        given.set(key, member)
+        given.set_named(context.alloc, key, member)
     }
 }

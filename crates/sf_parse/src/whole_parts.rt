@@ -57,6 +57,15 @@ pub struct Found<'a> {
     pub leaf: Leaf<'a>,
 }
 
+/// How a member begins.
+#[derive(Clone, Copy)]
+pub enum Begun<'a> {
+    /// With an Item, up to its parameters, and the rest.
+    Item(Found<'a>, &'a [u8]),
+    /// With the key and the opening bracket of an Inner List: the key, and the rest.
+    Inner(&'a [u8], &'a [u8]),
+}
+
 /// Why a part was not read.
 #[derive(Clone, Copy)]
 pub enum Unread {
@@ -79,15 +88,32 @@ impl From<OutOfMemory> for Unread {
 pub fn find_named(dialect: Dialect, text: &[u8]) -> Option<(Found<'_>, &[u8])>
     ensures key { IfSome result (λ r. IsKey r.0.key.now) }
     ensures leaf { IfSome result (λ r. IsLeaf r.0.leaf) }
-    // They are a parameter and, with the parameters that the rest begins with, a member of a
-    // Dictionary.
     ensures param { IfSome result (λ r. ReadsParam dialect text.now r.0.key.now
         (leaf_bare r.0.leaf) r.1.now) }
-    ensures entry { IfSome result (λ r. (params : Pairs Bare) (rest : List ℕ)
-        → ReadsAs (SpellsParams dialect) r.1.now params rest
-        → ReadsAs (SpellsEntry dialect) text.now (r.0.key.now, found_member (r.0, params)) rest) }
 {
     let (key, after) = find_key(text)?;
+    find_value(dialect, key, after)
+}
+
+/// The value of a key, a bare item, given the text after the key, and the rest; None if it can't be
+/// read.
+#[inline(always)]
+pub fn find_value<'a>(
+    dialect: Dialect,
+    key: &'a [u8],
+    after: &'a [u8],
+) -> Option<(Found<'a>, &'a [u8])>
+    requires { IsKey key.now }
+    ensures key { IfSome result (λ r. IsKey r.0.key.now) }
+    ensures leaf { IfSome result (λ r. IsLeaf r.0.leaf) }
+    // They are a parameter and, with the parameters that the rest begins with, a member of a
+    // Dictionary.
+    ensures param { IfSome result (λ r. (text : List ℕ) → text ≡ key.now ++ after.now
+        → ReadsParam dialect text r.0.key.now (leaf_bare r.0.leaf) r.1.now) }
+    ensures entry { IfSome result (λ r. (text : List ℕ) (params : Pairs Bare) (rest : List ℕ)
+        → text ≡ key.now ++ after.now → ReadsAs (SpellsParams dialect) r.1.now params rest
+        → ReadsAs (SpellsEntry dialect) text (found_member r.0 params) rest) }
+{
     let Some(value) = strip_byte(after, b'=') else {
         let leaf = Leaf::Boolean(true);
         return Some((Found { key, leaf }, after));
@@ -158,17 +184,21 @@ fn put_each_param<'a>(
         let Some(more) = strip_byte(after, b';') else {
             return Ok(rest);
         };
-        put_leaf(context, found, params)?;
+        put_leaf(context, found, SEVERAL, params)?;
         rest = more;
     }
     Ok(rest)
 }
 
-/// Puts a parameter that was found.
+/// How many parameters get memory with the first one, if it isn't the last.
+const SEVERAL: usize = 4;
+
+/// Puts a parameter that was found. The first one gets memory for as many as are expected.
 #[inline(always)]
 fn put_leaf(
     context: &Context,
     found: Found<'_>,
+    expected: usize,
     params: &mut Entries<Bare>,
 ) -> Result<(), OutOfMemory>
     requires key { IsKey found.key.now }
@@ -179,7 +209,7 @@ fn put_leaf(
     ensures failed { OnErr result (params.new ≡ params.old) }
 {
     let value = make(context, found.leaf)?;
-    params.set_named(context.alloc, found.key, value)
+    params.set_named_of(expected, context.alloc, found.key, value)
 }
 
 /// Puts the whole parameters that a text begins with, and returns the rest, which begins with a
@@ -219,7 +249,12 @@ fn read_each_param<'a>(
         let Some((found, left)) = find_named(context.dialect, after_spaces(more)) else {
             return Ok(rest);
         };
-        put_leaf(context, found, params)?;
+        let expected = if strip_byte(left, b';').is_none() {
+            1
+        } else {
+            SEVERAL
+        };
+        put_leaf(context, found, expected, params)?;
         rest = left;
     }
     Ok(rest)
@@ -408,7 +443,7 @@ fn push_with_params<'a>(
 
 /// An Inner List after its opening bracket, and the rest.
 #[inline(never)]
-fn read_inner<'a>(context: &Context, inside: &'a [u8]) -> Result<(Inner, &'a [u8]), Unread>
+pub fn read_inner<'a>(context: &Context, inside: &'a [u8]) -> Result<(Inner, &'a [u8]), Unread>
     ensures { IfOk result (λ r. ReadsAs (SpellsInner context.now.dialect)
         (open_bracket ∷ inside.now) r.0 r.1.now) }
 {
@@ -417,50 +452,4 @@ fn read_inner<'a>(context: &Context, inside: &'a [u8]) -> Result<(Inner, &'a [u8
     let mut params = Entries::new(context.alloc, &context.seed);
     let rest = read_params(context, after, &mut params)?;
     Ok((Inner { items, params }, rest))
-}
-
-/// A member of a List that is an Inner List, and the rest.
-#[inline(always)]
-pub fn read_inner_member<'a>(
-    context: &Context,
-    text: &'a [u8],
-) -> Result<(Member, &'a [u8]), Unread>
-    ensures { IfOk result (λ r. ReadsAs (SpellsMember context.now.dialect) text.now r.0 r.1.now) }
-{
-    let Some(inside) = strip_byte(text, b'(') else {
-        return Err(Unread::NotWhole);
-    };
-    let (inner, rest) = read_inner(context, inside)?;
-    Ok((Member::Inner(inner), rest))
-}
-
-/// A member of a Dictionary that is an Inner List: its key, the Inner List, and the rest.
-#[inline(always)]
-pub fn read_inner_entry<'a>(
-    context: &Context,
-    text: &'a [u8],
-) -> Result<(Key, Member, &'a [u8]), Unread>
-    ensures { IfOk result (λ r. ReadsAs (SpellsEntry context.now.dialect) text.now (r.0, r.1)
-        r.2.now) }
-{
-    let Some((key, after)) = find_key(text) else {
-        return Err(Unread::NotWhole);
-    };
-    let Some(value) = strip_byte(after, b'=') else {
-        return Err(Unread::NotWhole);
-    };
-    let bytes = ShortBytes::from_slice(context.alloc, key)?;
-    let (member, rest) = read_inner_member(context, value)?;
-    Ok((Key::from_bytes(bytes), member, rest))
-}
-
-/// Whether the text begins with a key whose value may be an Inner List.
-#[inline(always)]
-pub fn may_begin_inner_entry(text: &[u8]) -> bool
-    ensures { result ≡ true → BeginsMember text.now }
-{
-    match find_key(text) {
-        Some((_, after)) => matches!(after, [b'=', b'(', ..]),
-        None => false,
-    }
 }

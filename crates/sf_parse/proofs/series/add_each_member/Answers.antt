@@ -3,13 +3,12 @@ use Rattle.sf_parse.specs.AllocationFree.{SeriesFree}
 use Rattle.sf_parse.specs.SeriesView.{series_next}
 use Rattle.sf_parse.specs.StaysFree.{series_keeps}
 use Rattle.sf_parse.proofs.Prefixes.{never, goes_more, free_goes}
-use Rattle.sf_parse.proofs.WholeMembers.{member_taken, taken_more, taken_so_far}
-use Rattle.sf_parse.proofs.WholeMembers.{comma_goes, comma_may_begin, after_open, not_free}
-use Rattle.sf_parse.proofs.WholeParts.{params_none}
+use Rattle.sf_parse.proofs.WholeMembers.{taken_more, taken_so_far}
+use Rattle.sf_parse.proofs.WholeMembers.{comma_goes, comma_may_begin}
 use Rattle.sf_parse.proofs.series.add_each_member.Goals as goal
 
-pub loop-found-init : goal.loop-found-init
-loop-found-init g c = record {
+pub loop-phase-init : goal.loop-phase-init
+loop-phase-init g c = record {
   may_begin = c.requires.may_begin;
   goes = λ s. record { taken = []; split = refl; leads = refl };
 }
@@ -22,42 +21,8 @@ returns-clause-goes g c =
     let added = g.P.SeriesMember.added in
     let none = g.P.SeriesMember.none in
     let with = g.P.SeriesMember.with in
-    let so_far = c.loop-found.invariant in
+    let so_far = c.loop-phase.invariant in
     λ s. taken_so_far first next added none with _ _ _ _ _ _ s (so_far.goes s)
-
-pub returns-then-not-may_begin_params-clause-goes : goal.returns-then-not-may_begin_params-clause-goes
-returns-then-not-may_begin_params-clause-goes g c =
-    let d = c.args.context.now.dialect in
-    let first = g.P.SeriesMember.first d in
-    let next = g.P.Level.next d in
-    let added = g.P.SeriesMember.added in
-    let none = g.P.SeriesMember.none in
-    let with = g.P.SeriesMember.with in
-    let so_far = c.loop-found.invariant in
-    λ s. taken_so_far first next added none with _ _ _ _ _ _ s (so_far.goes s)
-
-pub returns-then-not-may_begin_inner-clause-goes : goal.returns-then-not-may_begin_inner-clause-goes
-returns-then-not-may_begin_inner-clause-goes g c =
-    let d = c.args.context.now.dialect in
-    let first = g.P.SeriesMember.first d in
-    let next = g.P.Level.next d in
-    let added = g.P.SeriesMember.added in
-    let none = g.P.SeriesMember.none in
-    let with = g.P.SeriesMember.with in
-    let so_far = c.loop-found.invariant in
-    λ s. taken_so_far first next added none with _ _ _ _ _ _ s (so_far.goes s)
-
-pub returns-in_err-add_found-clause-allocation_free : goal.returns-in_err-add_found-clause-allocation_free
-returns-in_err-add_found-clause-allocation_free g c =
-    let d = c.args.context.now.dialect in
-    let first = g.P.SeriesMember.first d in
-    let next = g.P.Level.next d in
-    let added = g.P.SeriesMember.added in
-    let none = g.P.SeriesMember.none in
-    let with = g.P.SeriesMember.with_found in
-    let so_far = c.loop-found.invariant in
-    λ s h. never (absurd (not_free first next added none with _ _ _ s _ _ _ _ so_far.may_begin
-    (c.in-Some.ensures.whole _ _ (params_none d _ _ c.new-params.ensures)) (so_far.goes s) h))
 
 pub returns-in_err-left-clause-allocation_free : goal.returns-in_err-left-clause-allocation_free
 returns-in_err-left-clause-allocation_free g c =
@@ -67,21 +32,8 @@ returns-in_err-left-clause-allocation_free g c =
     let added = g.P.SeriesMember.added in
     let none = g.P.SeriesMember.none in
     let with = g.P.SeriesMember.with in
-    let so_far = c.loop-found.invariant in
+    let so_far = c.loop-phase.invariant in
     λ s h. never (c.in_err-left.ensures.allocation_free s
-    (free_goes (series_next first next added none) SeriesFree (series_keeps first next added none)
-    _ _ _ _ h (so_far.goes s)))
-
-pub returns-in_err-left-2-clause-allocation_free : goal.returns-in_err-left-2-clause-allocation_free
-returns-in_err-left-2-clause-allocation_free g c =
-    let d = c.args.context.now.dialect in
-    let first = g.P.SeriesMember.first d in
-    let next = g.P.Level.next d in
-    let added = g.P.SeriesMember.added in
-    let none = g.P.SeriesMember.none in
-    let with = g.P.SeriesMember.with in
-    let so_far = c.loop-found.invariant in
-    λ s h. never (c.in_err-left-2.ensures.allocation_free s
     (free_goes (series_next first next added none) SeriesFree (series_keeps first next added none)
     _ _ _ _ h (so_far.goes s)))
 
@@ -93,93 +45,22 @@ returns-then-not-goes_on-clause-goes g c =
     let added = g.P.SeriesMember.added in
     let none = g.P.SeriesMember.none in
     let with = g.P.SeriesMember.with in
-    let so_far = c.loop-found.invariant in
+    let so_far = c.loop-phase.invariant in
     λ s. taken_more first next added none with _ _ _ _ _ _ _ _ s (so_far.goes s)
     (c.in_ok-left.ensures.goes s)
 
-pub returns-then-not-goes_on-2-clause-goes : goal.returns-then-not-goes_on-2-clause-goes
-returns-then-not-goes_on-2-clause-goes g c =
+pub loop-phase-preserved : goal.loop-phase-preserved
+loop-phase-preserved g c =
     let d = c.args.context.now.dialect in
     let first = g.P.SeriesMember.first d in
     let next = g.P.Level.next d in
     let added = g.P.SeriesMember.added in
     let none = g.P.SeriesMember.none in
     let with = g.P.SeriesMember.with in
-    let so_far = c.loop-found.invariant in
-    λ s. taken_more first next added none with _ _ _ _ _ _ _ _ s (so_far.goes s)
-    (c.in_ok-left-2.ensures.goes s)
-
-pub returns-then-not-goes_on-3-clause-goes : goal.returns-then-not-goes_on-3-clause-goes
-returns-then-not-goes_on-3-clause-goes g c =
-    let d = c.args.context.now.dialect in
-    let first = g.P.SeriesMember.first d in
-    let next = g.P.Level.next d in
-    let added = g.P.SeriesMember.added in
-    let none = g.P.SeriesMember.none in
-    let with = g.P.SeriesMember.with_found in
-    let so_far = c.loop-found.invariant in
-    λ s. taken_more first next added none with _ _ _ _ _ _ _ _ s (so_far.goes s)
-    (member_taken first next added none with _ _ _ _ s _ _ _ _ _ so_far.may_begin
-    (c.in-Some.ensures.whole _ _ (params_none d _ _ c.new-params.ensures))
-    c.in_ok-add_found.ensures c.in-Some-after_member.ensures)
-
-pub returns-then-not-goes_on-3-clause-none_open : goal.returns-then-not-goes_on-3-clause-none_open
-returns-then-not-goes_on-3-clause-none_open g c =
-    let d = c.args.context.now.dialect in
-    let first = g.P.SeriesMember.first d in
-    let next = g.P.Level.next d in
-    let added = g.P.SeriesMember.added in
-    let none = g.P.SeriesMember.none in
-    let with = g.P.SeriesMember.with_found in
-    let so_far = c.loop-found.invariant in
-    after_open first next added none with _ _ _ _ _ c.in-Some-after_member.ensures
-
-pub loop-found-preserved-in_default : goal.loop-found-preserved-in_default
-loop-found-preserved-in_default g c =
-    let d = c.args.context.now.dialect in
-    let first = g.P.SeriesMember.first d in
-    let next = g.P.Level.next d in
-    let added = g.P.SeriesMember.added in
-    let none = g.P.SeriesMember.none in
-    let with = g.P.SeriesMember.with in
-    let so_far = c.loop-found.invariant in
+    let so_far = c.loop-phase.invariant in
     let comma = c.goes_on.ensures.comma c.if-not-goes_on.false in
     record {
       may_begin = comma_may_begin first next added none with _ _ comma;
       goes = λ s. goes_more (series_next first next added none) _ _ _ _ _ _ (so_far.goes s)
           (comma_goes first next added none with _ _ _ s _ _ _ comma (c.in_ok-left.ensures.goes s));
-    }
-
-pub loop-found-preserved-in_default-after_member : goal.loop-found-preserved-in_default-after_member
-loop-found-preserved-in_default-after_member g c =
-    let d = c.args.context.now.dialect in
-    let first = g.P.SeriesMember.first d in
-    let next = g.P.Level.next d in
-    let added = g.P.SeriesMember.added in
-    let none = g.P.SeriesMember.none in
-    let with = g.P.SeriesMember.with in
-    let so_far = c.loop-found.invariant in
-    let comma = c.goes_on-in_default-after_member.ensures.comma c.if-not-goes_on-2.false in
-    record {
-      may_begin = comma_may_begin first next added none with _ _ comma;
-      goes = λ s. goes_more (series_next first next added none) _ _ _ _ _ _ (so_far.goes s)
-          (comma_goes first next added none with _ _ _ s _ _ _ comma (c.in_ok-left-2.ensures.goes s));
-    }
-
-pub loop-found-preserved : goal.loop-found-preserved
-loop-found-preserved g c =
-    let d = c.args.context.now.dialect in
-    let first = g.P.SeriesMember.first d in
-    let next = g.P.Level.next d in
-    let added = g.P.SeriesMember.added in
-    let none = g.P.SeriesMember.none in
-    let with = g.P.SeriesMember.with_found in
-    let so_far = c.loop-found.invariant in
-    let comma = c.goes_on-in-loop-found.ensures.comma c.if-not-goes_on-3.false in
-    record {
-      may_begin = comma_may_begin first next added none with _ _ comma;
-      goes = λ s. goes_more (series_next first next added none) _ _ _ _ _ _ (so_far.goes s)
-          (comma_goes first next added none with _ _ _ s _ _ _ comma (member_taken first next added none with _ _ _ _ s _ _ _ _ _ so_far.may_begin
-          (c.in-Some.ensures.whole _ _ (params_none d _ _ c.new-params.ensures))
-          c.in_ok-add_found.ensures c.in-Some-after_member.ensures));
     }

@@ -4,8 +4,8 @@ use Rattle.sf_parse.specs.SeriesView.{series_next, series_of}
 use Rattle.sf_parse.specs.WholeMembers.{MayBegin}
 use Rattle.sf_parse.proofs.series.add_each_member.Given as goal
 
-abbrev pub invariant-loop-found : goal.invariant-loop-found
-invariant-loop-found g l =
+abbrev pub invariant-loop-phase : goal.invariant-loop-phase
+invariant-loop-phase g l =
     let d = l.context.dialect in record {
       may_begin : MayBegin g.P.SeriesMember.none l.phase l.given;
       goes : (s : g.row.P.Denot) → Goes
@@ -14,5 +14,5 @@ invariant-loop-found g l =
           (series_of l.initial.phase l.initial.given s) l.text l.rest (series_of l.phase l.given s);
     }
 
-abbrev pub decreases-loop-found : goal.decreases-loop-found
-decreases-loop-found g l = length l.rest
+abbrev pub decreases-loop-phase : goal.decreases-loop-phase
+decreases-loop-phase g l = length l.rest

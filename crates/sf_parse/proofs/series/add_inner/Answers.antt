@@ -33,5 +33,5 @@ returns-clause-goes g c =
     let added = g.P.SeriesMember.added in
     let none = g.P.SeriesMember.none in
     let with = g.P.SeriesMember.with in
-    λ s. member_taken first next added none with _ _ _ _ s _ _ _ _ _ c.requires.may_begin c.in-Ok.ensures
-    c.in_ok-add.ensures c.in-Some.ensures
+    λ s. member_taken first next added none with _ _ _ _ s _ _ _ _ _ c.requires.may_begin
+    (c.requires.begun.2 _ _ c.in-Ok.ensures) c.in_ok-add.ensures c.in-Some.ensures

@@ -12,7 +12,7 @@ returns-in_default-clause-goes g c =
     let next = g.P.Level.next d in
     let added = g.P.SeriesMember.added in
     let none = g.P.SeriesMember.none in
-    let with = g.P.SeriesMember.with_found in
+    let with = g.P.SeriesMember.with in
     λ s. taken_so_far first next added none with _ _ _ _ _ _ s
     (record { taken = []; split = refl; leads = refl })
 
@@ -23,9 +23,9 @@ returns-clause-goes g c =
     let next = g.P.Level.next d in
     let added = g.P.SeriesMember.added in
     let none = g.P.SeriesMember.none in
-    let with = g.P.SeriesMember.with_found in
+    let with = g.P.SeriesMember.with in
     λ s. member_taken first next added none with _ _ _ _ s _ _ _ _ _ c.requires.may_begin
-    (c.requires.whole _ _ c.in_ok-rest.ensures.reads) c.in_ok-add_found.ensures
+    (c.requires.begun.2 _ _ c.in_ok-rest.ensures.reads) c.in_ok-add_found.ensures
     c.in-Some.ensures
 
 pub returns-in_err-add_found-clause-allocation_free :
@@ -36,9 +36,9 @@ returns-in_err-add_found-clause-allocation_free g c =
     let next = g.P.Level.next d in
     let added = g.P.SeriesMember.added in
     let none = g.P.SeriesMember.none in
-    let with = g.P.SeriesMember.with_found in
+    let with = g.P.SeriesMember.with in
     λ s h. never (absurd (not_free first next added none with _ _ _ s _ _ _ _ c.requires.may_begin
-    (c.requires.whole _ _ c.in_ok-rest.ensures.reads)
+    (c.requires.begun.2 _ _ c.in_ok-rest.ensures.reads)
     (record { taken = []; split = refl; leads = refl }) h))
 
 pub returns-in_err-rest-clause-allocation_free : goal.returns-in_err-rest-clause-allocation_free
@@ -48,6 +48,6 @@ returns-in_err-rest-clause-allocation_free g c =
     let next = g.P.Level.next d in
     let added = g.P.SeriesMember.added in
     let none = g.P.SeriesMember.none in
-    let with = g.P.SeriesMember.with_found in
+    let with = g.P.SeriesMember.with in
     λ s h. never (absurd (not_free first next added none with _ _ _ s _ _ _ _ c.requires.may_begin
-    (c.requires.whole _ _ (params_none d _ _ refl)) (record { taken = []; split = refl; leads = refl }) h))
+    (c.requires.begun.2 _ _ (params_none d _ _ refl)) (record { taken = []; split = refl; leads = refl }) h))

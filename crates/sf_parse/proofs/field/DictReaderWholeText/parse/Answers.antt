@@ -1,5 +1,5 @@
 use Rattle.std.specs.Option.{option_map}
-use Rattle.std.proofs.Common.{refl, sym, ap, ◌∙◌, [], subst}
+use Rattle.std.proofs.Common.{ℕ, List, refl, sym, ap, ◌∙◌, [], subst}
 use Rattle.sf_value.specs.declared.value.Kind.TheVariants as kind_is
 use Rattle.sf_value.specs.Grammar.Classes.{is_sp}
 use Rattle.sf_value.specs.Grammar.Words.{Every}
@@ -8,7 +8,6 @@ use Rattle.sf_value.specs.declared.value.Member.{Member}
 use Rattle.sf_value.specs.Grammar.Pairs.{Pairs, put}
 use Rattle.sf_parse.specs.Machine.Entries.{InKey, entry_start, entry_step, entry_finish}
 use Rattle.sf_parse.specs.MemberEnds.{with_entry}
-use Rattle.sf_parse.specs.declared.series_members.Entry.{Entry}
 use Rattle.sf_parse.specs.Machine.States.{InDict}
 use Rattle.sf_parse.specs.FieldSteps.{dict_steps}
 use Rattle.sf_parse.proofs.Prefixes.{never, every_split}
@@ -19,7 +18,7 @@ use Rattle.sf_parse.proofs.field.DictReaderWholeText.parse.Goals as goal
 pub returns-then-are_all-clause-parses : goal.returns-then-are_all-clause-parses
 returns-then-are_all-clause-parses c =
     let d = c.args.context.now.dialect in
-    let with : Pairs Member → Entry → Pairs Member = λ ps e. put ps e.key e.member in
+    let with : Pairs Member → List ℕ × Member → Pairs Member = λ ps e. put ps e.0 e.1 in
     let all = c.are_all.ensures c.if-are_all.true in
     members_parsed entry_start (entry_step d) with_entry [] with d kind_is.Dict InDict refl
     (dict_steps d) _ _ _ _ _ (InKey []) _ c.after_spaces.ensures (c.in-Ok.ensures.goes _)
