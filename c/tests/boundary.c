@@ -2147,6 +2147,21 @@ static void changed_priorities(void) {
       {"x=%\"%c3%bc\", y=:YQ:", {1, 0, 1, 0}, "x=%\"%c3%bc\", y=:YQ==:, u=1", 0},
       {"a, b, c, d, e, f, g, h, j, k, l, m, n, o, p, q", {1, 0, 1, 0},
        "a, b, c, d, e, f, g, h, j, k, l, m, n, o, p, q, u=1", 0},
+      /* u and i alone: in both orders, with a new one, and with what is not read so */
+      {"u=5", {3, 1, 0, 1}, "u=5, i", 0},
+      {"i", {1, 0, 1, 0}, "i, u=1", 0},
+      {"i", {5, 0, 1, 1}, "i=?0, u=5", 0},
+      {"i=?0", {3, 0, 0, 0}, "i=?0", 0},
+      {"i, u=3", {1, 0, 1, 0}, "i, u=1", 0},
+      {"i=?0, u=7", {3, 1, 0, 1}, "i, u=7", 0},
+      {" i,u=07\t", {3, 0, 0, 0}, "i, u=7", 0},
+      {"u=9, i", {3, 0, 0, 1}, "u=9, i=?0", 0},
+      {"u=-1, i", {0, 0, 1, 0}, "u=0, i", 0},
+      {"u=1.5", {3, 1, 0, 1}, "u=1.5, i", 0},
+      {"i=?0;a", {1, 0, 1, 0}, "i=?0;a, u=1", 0},
+      {"i, i=?0", {1, 0, 1, 0}, "i=?0, u=1", 1},
+      {"u=1,           i", {2, 0, 1, 0}, "u=2, i", 0},
+      {"u=1,            i", {2, 0, 1, 0}, "u=2, i", 0},
   };
   uint32_t status;
   for (size_t i = 0; i < sizeof rows / sizeof *rows; ++i) {
@@ -3189,7 +3204,7 @@ static void memory(void) {
           continue;
         CALL(ask(asked, SF_RFC9651, rows[i].kind, text, length, &a));
         CHECK(status != SF_NO_MEMORY);
-        CHECK_MEMORY(texts_length(asked, status == SF_SHORT && asked == TO_ASK_PATH ? 2 * length : length));
+        CHECK_MEMORY(texts_length(asked, length));
       }
       CALL(sf_check(&seed, SF_RFC9651, rows[i].kind, text, length, &refusal));
       if (status == SF_REFUSED) {

@@ -13,9 +13,7 @@ use Rattle.std.proofs.lemmas.Bool.Decides.{nat_tests}
 use Rattle.sf_value.proofs.EntryMaps.{settle-push}
 use Rattle.sf_value.proofs.Settling.{distinct-settle, key_is}
 use Rattle.sf_value.proofs.Validity.{spelled_valid}
-use Rattle.sf_value.specs.declared.dialect.Dialect.{Dialect}
 use Rattle.sf_value.specs.declared.dialect.Dialect.TheVariants.{Rfc9651}
-use Rattle.sf_value.specs.declared.value.Bare.TheVariants.{Integer}
 use Rattle.sf_value.specs.declared.value.Dict.{Dict as Dictionary}
 use Rattle.sf_value.specs.declared.value.Field.{Field}
 use Rattle.sf_value.specs.declared.value.Field.TheVariants as field
@@ -50,7 +48,7 @@ use Rattle.sf_c.specs.PriorityChanges as change
 use Rattle.sf_c.specs.PriorityParts.{changed, incremental_member, inserted, inserted_at}
 use Rattle.sf_c.specs.PriorityParts.{separator, unless}
 use Rattle.sf_c.specs.PriorityParts.{series_text, urgency_member, with_i, with_u}
-use Rattle.sf_c.specs.TextBuffers.{TextBuffer, Writes}
+use Rattle.sf_c.specs.TextBuffers.{PutsText, Writes}
 use Rattle.sf_c.proofs.NodeTexts.{changes_priority}
 
 -- a key is not both u and i
@@ -332,3 +330,13 @@ puts_change old new t p v OutOfMemory h w e =
     let r = ap (λ x. x.required) w in
     λ i. record { buffer = b i; required = r i; refusal = e i }
 puts_change old new t p v s h w e = absurd w
+
+-- the text of a Dictionary with what is set
+pub puts_changed : (old new : TextOutput) (t : List ℕ) (p : PriorityFlags) (d : Dictionary)
+    (s : Status) → IsOnly Rfc9651 kind.Dict t (field.Dict d)
+    → PutsText (change.text_buffer old) (change.text_buffer new)
+    (canon (field.Dict (updated (params_of_flags p) d))) (Some s)
+    → new.refusal ≡ old.refusal → ChangesBy old new t p (Some s)
+puts_changed old new t p d s only w e =
+    changes_priority old new t p d s only
+    (valid_updated p d (spelled_valid Rfc9651 kind.Dict (field.Dict d) t only.spelled)) w e

@@ -1,5 +1,5 @@
 -- Whether a struct describes a hop, by its parts.
-use Rattle.std.proofs.Common.{◌≡◌, ◌≢◌, ℕ, zero, suc, ◌∷◌, Bool, true, false, List, []}
+use Rattle.std.proofs.Common.{◌≡◌, ◌≢◌, ℕ, zero, suc, ◌∷◌, Bool, true, false, List}
 use Rattle.std.proofs.Common.{Option, None, Some, refl, sym, subst, ◌∙◌}
 use Rattle.std.specs.Bool.{MatchBool}
 use Rattle.std.specs.Prelude.{◌&&◌, ◌==◌, is_none, not}
@@ -9,14 +9,9 @@ use Rattle.sf_value.specs.Faults.{bad_place}
 use Rattle.sf_value.specs.Grammar.Classes.{is_in_token, is_token_start, is_visible}
 use Rattle.sf_value.specs.Grammar.Tokens.{IsToken}
 use Rattle.sf_value.specs.Grammar.Words.{Every}
-use Rattle.sf_use.specs.declared.cache_status.hop.Forward.{Forward}
 use Rattle.sf_use.specs.declared.cache_status.hop.Forward.TheVariants.{Other}
-use Rattle.sf_use.specs.declared.cache_status.hop.Hop.{Hop}
-use Rattle.sf_use.specs.declared.cache_status.hop.Name.{Name}
 use Rattle.sf_use.specs.declared.cache_status.hop.Name.TheVariants as name
-use Rattle.sf_use.specs.declared.cache_status.hop.Outcome.{Outcome}
 use Rattle.sf_use.specs.declared.cache_status.hop.Outcome.TheVariants.{Forwarded, Conflict}
-use Rattle.sf_use.specs.declared.cache_status.hop.Passed.{Passed}
 use Rattle.sf_c.specs.declared.hops.HopNode.{HopNode}
 use Rattle.sf_c.specs.declared.span.Span.{Span}
 use Rattle.sf_c.specs.declared.status.Status.{Status}

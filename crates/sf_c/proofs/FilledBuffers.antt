@@ -3,12 +3,11 @@ use Rattle.std.proofs.Common.{◌≡◌, ℕ, ◌+◌, ◌≤◌, List, [], ◌�
 use Rattle.std.proofs.Common.{Result, Ok, Err, Option, None, Some, refl, sym, ap, ◌∙◌, subst, arith}
 use Rattle.std.proofs.Common.{append_assoc, append-nil, length-append}
 use Rattle.std.specs.Prelude.{◌-◌, ◌^◌, ◌<◌, MatchOption}
-use Rattle.std.specs.Fmt.{WritesInCalls}
 use Rattle.std.specs.List.{FoldsTo, concat}
 use Rattle.std.proofs.lemmas.List.{length-take-le, take-append-drop, take_at}
 use Rattle.std.proofs.lemmas.Slice.{drop-append-drop}
-use Rattle.sf_value.specs.Devices.{SinkState, RefusesOnce}
-use Rattle.sf_write.specs.Writing.{Follows, SendsPrefix, SendsText}
+use Rattle.sf_value.specs.Devices.{SinkState}
+use Rattle.sf_write.specs.Writing.{Follows}
 use Rattle.sf_write.specs.declared.sending.WriteFault.{WriteFault}
 use Rattle.sf_c.specs.declared.filling.Filling.{Filling as Filled}
 use Rattle.sf_c.specs.Filling.{Fills}

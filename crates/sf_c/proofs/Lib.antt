@@ -20,5 +20,6 @@ pub mod Canonicals
 pub mod NodeTexts
 pub mod SetValues
 pub mod ChangedMembers
+pub mod PlainPriorities
 pub mod OwnHops
 pub mod Fallbacks

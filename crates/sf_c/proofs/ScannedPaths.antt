@@ -1,9 +1,9 @@
 -- Hops that were read from a text into buffers, one after another.
-use Rattle.std.proofs.Common.{◌≡◌, ◌≢◌, ℕ, ◌+◌, ◌<◌, ◌≤◌, true, false, List as Seq, [], ◌∷◌}
+use Rattle.std.proofs.Common.{◌≡◌, ◌≢◌, ℕ, ◌+◌, ◌<◌, ◌≤◌, Bool, true, false, List as Seq, [], ◌∷◌}
 use Rattle.std.proofs.Common.{◌++◌, length, take, set, map, Option, Some, None, Ok, refl, sym, ap}
 use Rattle.std.proofs.Common.{◌∙◌, subst, arith, append_assoc}
 use Rattle.std.proofs.Common.{option_copied, length-append, ◌⊎◌, ⊎_elim, inl, inr}
-use Rattle.std.specs.Prelude.{position, is_none, is_some, unwrap_or}
+use Rattle.std.specs.Prelude.{position, is_none, is_some, unwrap_or, IfSome}
 use Rattle.std.specs.List.{filter_map, position_or_len}
 use Rattle.std.proofs.lemmas.Bool.Decides.{nat_tests}
 use Rattle.std.proofs.lemmas.List.{append-nil, length-map, length-set, length-take-le, map-append}
@@ -36,13 +36,16 @@ use Rattle.sf_c.specs.declared.hop_scan.PathSizes.{PathSizes}
 use Rattle.sf_c.specs.declared.hops.HopNode.{HopNode}
 use Rattle.sf_c.specs.declared.span.Span.{Span}
 use Rattle.sf_c.specs.Hops.{bytes_of, detail_bytes, end_of, hops_size, outcome_number, says_by}
-use Rattle.sf_c.specs.Hops.{hop_content, hop_content_by, hop_size, why_token, HopsHoldUp, PutsSpan}
+use Rattle.sf_c.specs.Hops.{hop_content, hop_content_by, hop_size, why_token, PutsSpan}
 use Rattle.sf_c.specs.Laws.{HopsAreFew, HopBytesAreFew}
 use Rattle.sf_c.specs.Paths.{IsShort, ReportsPath}
 use Rattle.sf_c.specs.declared.refusal.SyntaxRefusal.{SyntaxRefusal}
-use Rattle.sf_c.specs.declared.status.Status.TheVariants.{Short}
+use Rattle.sf_c.specs.declared.status.Status.TheVariants.{Answered, Short}
 use Rattle.sf_c.specs.Refusals.{flag_number}
-use Rattle.sf_c.specs.ScannedHops.{says_in, HasPathSizes, IsHopPut, IsPathOf, PutsBehind}
+use Rattle.sf_c.specs.declared.hop_scan.ScannedPath.{ScannedPath}
+use Rattle.sf_c.specs.ScannedHops.{says_in, CountedSoFar, HasPathSizes, IsCountedTo, IsHopPut}
+use Rattle.sf_c.specs.ScannedHops.{IsPathBy, IsPathOf, IsPutTo, IsReadBy, IsReadTo, IsScannedPath}
+use Rattle.sf_c.specs.ScannedHops.{PathSoFar, PutsBehind}
 use Rattle.sf_c.proofs.HopLemmas.{prefix_of, hop_held, hop_content_is, PutsHop, TextsOf}
 use Rattle.sf_c.proofs.ShownHops.{says_shown, token_shown}
 
@@ -60,21 +63,6 @@ put_after old new free t used count p fits e small is at long =
       omega arith,
       long ∙ sym (length-take-le count free small) ∙ ap length is,
     )
-
--- so many hops were read, with so many bytes and this last hit; whatever members remain, the text
--- spells those that were read and them
-pub record PathSoFar (k : Dialect) (text : Seq ℕ) (c : HopCursor) (nodes : Seq HopNode)
-    (bytes : Seq ℕ) (count used : ℕ) (last : Option ℕ) : Type 0 where
-  pub members : Seq Member
-  pub path : Seq Hop
-  pub means : map member_hop members ≡ map Some path
-  pub fits : count ≤ length nodes
-  pub within : used ≤ length bytes
-  pub describes : map (hop_content_by (take used bytes)) (take count nodes) ≡ map hop_content path
-  pub held : HopsHoldUp (take used bytes) (take count nodes)
-  pub place : last ≡ served path
-  pub reads : (ms : Seq Member) → RemainsInPath c ms
-      → SpellsWhole (SpellsMember k) text (members ++ ms)
 
 pub none_read : (k : Dialect) (text : Seq ℕ) (c : HopCursor) (nodes : Seq HopNode) (bytes : Seq ℕ)
     → ((ms : Seq Member) → RemainsInPath c ms → SpellsWhole (SpellsMember k) text ms)
@@ -337,17 +325,6 @@ hops_size_push : (hs : Seq Hop) (h : Hop)
 hops_size_push [] h = omega arith
 hops_size_push (g ∷ hs) h = let i = hops_size_push hs h in omega arith
 
--- hops that were counted, as PathSoFar
-pub record CountedSoFar (k : Dialect) (text : Seq ℕ) (c : HopCursor) (z : PathSizes) : Type 0 where
-  pub members : Seq Member
-  pub path : Seq Hop
-  pub means : map member_hop members ≡ map Some path
-  pub count : z.hops ≡ length path
-  pub size : z.bytes ≡ hops_size (map hop_content path)
-  pub place : z.served ≡ served path
-  pub reads : (ms : Seq Member) → RemainsInPath c ms
-      → SpellsWhole (SpellsMember k) text (members ++ ms)
-
 pub none_counted : (k : Dialect) (text : Seq ℕ) (c : HopCursor) (z : PathSizes)
     → ((ms : Seq Member) → RemainsInPath c ms → SpellsWhole (SpellsMember k) text ms)
     → z.hops ≡ 0 → z.bytes ≡ 0 → z.served ≡ None → CountedSoFar k text c z
@@ -391,6 +368,40 @@ hop_counted k text c e v old new s (m, h, means, shown, remains) more bytes hit 
           (s.reads (m ∷ ms) (remains ms r));
     }
 
+-- what was put is counted
+pub put_counted : (k : Dialect) (text : Seq ℕ) (c : HopCursor) (nodes : Seq HopNode)
+    (bytes : Seq ℕ) (z : PathSizes) → IsPutTo k text c nodes bytes z → IsCountedTo k text c z
+put_counted k text c nodes bytes z s = record {
+  members = s.members;
+  path = s.path;
+  means = s.means;
+  count =
+      sym (length-take-le z.hops nodes s.fits)
+      ∙ sym (length-map (take z.hops nodes) (hop_content_by (take z.bytes bytes)))
+      ∙ ap length s.describes ∙ length-map s.path hop_content;
+  size =
+      sym (length-take-le z.bytes bytes s.within) ∙ s.held.1 ∙ ap hops_size s.describes;
+  place = s.place;
+  reads = s.reads;
+}
+
+-- whatever was put or counted is counted
+pub read_counted : (k : Dialect) (text : Seq ℕ) (c : HopCursor) (nodes : Seq HopNode)
+    (bytes : Seq ℕ) (s : ScannedPath) → IsReadTo k text c nodes bytes s
+    → IsCountedTo k text c s.sizes
+read_counted k text c nodes bytes s r = by s.is_put r
+  where
+    by : (b : Bool) → IsReadBy b k text c nodes bytes s.sizes → IsCountedTo k text c s.sizes
+    by true r = put_counted k text c nodes bytes s.sizes r
+    by false r = r
+
+-- there is room for more bytes only where those before are put
+pub room_left : (k : Dialect) (text : Seq ℕ) (c : HopCursor) (nodes : Seq HopNode)
+    (bytes : Seq ℕ) (s : ScannedPath) → IsReadTo k text c nodes bytes s → s.is_put ≡ true
+    → s.sizes.bytes ≤ length bytes
+room_left k text c nodes bytes s r e =
+    (subst (λ b. IsReadBy b k text c nodes bytes s.sizes) e r).within
+
 pub path_counted : (k : Dialect) (text : Seq ℕ) (c e : HopCursor) (o : Option HopView)
     (z : PathSizes) → CountedSoFar k text c z → ReadsNextHop c e o → o ≡ None
     → HasPathSizes k text z
@@ -413,6 +424,26 @@ path_counted k text c e o z s r none =
       place = s.place;
     }
 
+pub path_scanned : (k : Dialect) (text : Seq ℕ) (c e : HopCursor) (o : Option HopView)
+    (nodes : Seq HopNode) (bytes : Seq ℕ) (s : ScannedPath) → IsReadTo k text c nodes bytes s
+    → ReadsNextHop c e o → o ≡ None → IsScannedPath k text nodes bytes s
+path_scanned k text c e o nodes bytes s r n none = by s.is_put r
+  where
+    by : (b : Bool) → IsReadBy b k text c nodes bytes s.sizes
+        → IsPathBy b k text nodes bytes s.sizes
+    by true r = path_read k text c e o nodes bytes s.sizes r n none
+    by false r = path_counted k text c e o s.sizes r n none
+
+-- one more hop was counted
+pub counted_more : (o : Option ScannedPath) (v : HopView) (old : ScannedPath)
+    (nodes nodes' : Seq HopNode) (bytes bytes' : Seq ℕ) → IfSome o (λ s. (d : Dialect) (t : Seq ℕ) (c e : HopCursor) (ns : Seq HopNode) (bs : Seq ℕ)
+    → IsCountedTo d t c old.sizes → ReadsNextHop c e (Some v) → IsReadTo d t e ns bs s)
+    → IfSome o (λ s. (d : Dialect) (t : Seq ℕ) (c e : HopCursor)
+    → IsReadTo d t c nodes bytes old → ReadsNextHop c e (Some v) → IsReadTo d t e nodes' bytes' s)
+counted_more None v old nodes nodes' bytes bytes' m = tt
+counted_more (Some s) v old nodes nodes' bytes bytes' m = λ d t c e r n.
+    m d t c e nodes' bytes' (read_counted d t c nodes bytes old r) n
+
 pub counted_few : (k : Dialect) (t : Seq ℕ) (s : PathSizes) (p : Path) (nameless : ℕ)
     → HopsAreFew → HopBytesAreFew → HasPathSizes k t s → p ≡ path_by nameless s → IsShort t p
 counted_few k t s p nameless few small r e =
@@ -423,13 +454,14 @@ counted_few k t s p nameless few small r e =
     (omega arith, omega arith)
 
 -- a path that is too long for the buffers
-pub counted_short : (k : Dialect) (t : Seq ℕ) (s : PathSizes) (nodes : Seq HopNode)
-    (bytes : Seq ℕ) (old new : Path) (refusal : SyntaxRefusal)
+pub counted_short : (k : Dialect) (t : Seq ℕ) (s : PathSizes) (nodes nodes' : Seq HopNode)
+    (bytes bytes' : Seq ℕ) (old new : Path) (refusal : SyntaxRefusal)
+    → length nodes' ≡ length nodes → length bytes' ≡ length bytes
     → HasPathSizes k t s → new ≡ path_by old.nameless s
-    → (length nodes < s.hops) ⊎ (length bytes < s.bytes)
+    → (length nodes' < s.hops) ⊎ (length bytes' < s.bytes)
     → ReportsPath (record { hops = nodes; bytes = bytes; path = old; refusal = refusal })
-    (record { hops = nodes; bytes = bytes; path = new; refusal = refusal }) t k Short
-counted_short k t s nodes bytes old new refusal r e short = (
+    (record { hops = nodes'; bytes = bytes'; path = new; refusal = refusal }) t k Short
+counted_short k t s nodes nodes' bytes bytes' old new refusal f g r e short = (
   r.value,
   r.path,
   r.only,
@@ -441,8 +473,32 @@ counted_short k t s nodes bytes old new refusal r e short = (
     ap (λ y. y.is_served) e ∙ ap (λ o. flag_number (is_some o)) r.place,
   ),
   ap (λ y. y.nameless) e,
-  ⊎_elim (λ h. inl (subst (λ y. length nodes < y) (sym (ap (λ y. y.hops) e)) h))
-      (λ h. inr (subst (λ y. length bytes < y) (sym (ap (λ y. y.bytes) e)) h)) short,
-  (refl, refl),
+  ⊎_elim (λ h. inl (let many = ap (λ y. y.hops) e in omega (arith, h, f)))
+      (λ h. inr (let long = ap (λ y. y.bytes) e in omega (arith, h, g))) short,
+  (f, g),
+  refl,
+)
+
+-- a path that the buffers hold
+pub put_answered : (k : Dialect) (t : Seq ℕ) (s : PathSizes) (nodes nodes' : Seq HopNode)
+    (bytes bytes' : Seq ℕ) (old new : Path) (refusal : SyntaxRefusal)
+    → length nodes' ≡ length nodes → length bytes' ≡ length bytes
+    → IsPathOf k t nodes' bytes' s → new ≡ path_by old.nameless s
+    → ReportsPath (record { hops = nodes; bytes = bytes; path = old; refusal = refusal })
+    (record { hops = nodes'; bytes = bytes'; path = new; refusal = refusal }) t k Answered
+put_answered k t s nodes nodes' bytes bytes' old new refusal f g r e = (
+  r.value,
+  r.path,
+  r.only,
+  r.means,
+  (
+    ap (λ y. y.hops) e ∙ r.count,
+    ap (λ y. y.bytes) e ∙ r.size,
+    ap (λ y. y.served) e ∙ ap (λ o. unwrap_or o 0) r.place,
+    ap (λ y. y.is_served) e ∙ ap (λ o. flag_number (is_some o)) r.place,
+  ),
+  ap (λ y. y.nameless) e,
+  r.hops,
+  (f, g),
   refl,
 )

@@ -1,7 +1,6 @@
 -- What the struct of a priority sets is written.
-use Rattle.std.proofs.Common.{◌≡◌, ℕ, List, Bool, true, false, Option, Some, None, refl, sym, ap}
+use Rattle.std.proofs.Common.{◌≡◌, ℕ, List, Bool, false, Option, Some, None, refl}
 use Rattle.std.proofs.Common.{subst}
-use Rattle.sf_value.specs.declared.value.Dict.{Dict as Dictionary}
 use Rattle.sf_value.specs.declared.value.Field.TheVariants as field
 use Rattle.sf_value.specs.Grammar.Canonical.{canon}
 use Rattle.sf_use.specs.declared.priority.Asked.{Asked}

@@ -1,5 +1,5 @@
 -- The text of a hop, part by part, and that it spells the hop.
-use Rattle.std.proofs.Common.{◌≡◌, ◌≢◌, ℕ, zero, suc, ℤ, pos, ◌<◌, ◌∷◌, ◌++◌, Bool, true, false, List, []}
+use Rattle.std.proofs.Common.{◌≡◌, ◌≢◌, ℕ, ℤ, pos, ◌<◌, ◌∷◌, ◌++◌, Bool, true, false, List, []}
 use Rattle.std.proofs.Common.{Option, None, Some, refl, sym, ap, subst, ◌∙◌, append_assoc, append-nil, rules, arith}
 use Rattle.std.specs.Prelude.{codes, nat_abs, ◌^◌}
 use Rattle.std.specs.Int.RustNames.{FitsSigned}
@@ -8,7 +8,6 @@ use Rattle.std.proofs.lemmas.Bool.Decides.{nat_tests}
 use Rattle.std.proofs.lemmas.Int.{fits_signed_from_abs}
 use Rattle.std.specs.List.{IsDistinct}
 use Rattle.std.specs.Option.{option_map}
-use Rattle.std.specs.Fmt.{signed_decimal}
 use Rattle.sf_value.proofs.EntryMaps.{IsAbsent}
 use Rattle.sf_value.specs.declared.dialect.Dialect.TheVariants.{Rfc9651}
 use Rattle.sf_value.specs.declared.value.Bare.{Bare}
@@ -16,7 +15,7 @@ use Rattle.sf_value.specs.declared.value.Bare.TheVariants.{Integer, Text, Token,
 use Rattle.sf_value.specs.declared.value.Kind.TheVariants as kind
 use Rattle.sf_value.specs.Grammar.Canonical.{canon_bare, canon_params, canon_value}
 use Rattle.sf_value.specs.Grammar.Fields.{list_of}
-use Rattle.sf_value.specs.Grammar.Pairs.{Pairs, HasDistinctKeys}
+use Rattle.sf_value.specs.Grammar.Pairs.{HasDistinctKeys}
 use Rattle.sf_value.specs.Grammar.Strings.{escaped}
 use Rattle.sf_value.specs.Grammar.Tokens.{IsKey}
 use Rattle.sf_value.specs.Grammar.Valid.{Valid, ValidBare, ValidParams}
@@ -43,9 +42,9 @@ use Rattle.sf_c.specs.declared.status.Status.{Status}
 use Rattle.sf_c.specs.declared.status.Status.TheVariants.{Answered, Short, OutOfMemory}
 use Rattle.sf_c.specs.GivenHops.{AreBytes, GivesFlag, GivesHop, GivesInteger, GivesMaybe}
 use Rattle.sf_c.specs.GivenHops.{GivesName, GivesOutcome, GivesPassed, GivesStatus, GivesString}
-use Rattle.sf_c.specs.GivenHops.{GivesToken, GivesWhy, WritesHop, hop_text}
+use Rattle.sf_c.specs.GivenHops.{GivesWhy, WritesHop, hop_text}
 use Rattle.sf_c.specs.HopParts.{Decides, param_text}
-use Rattle.sf_c.specs.TextBuffers.{PutsText, TextBuffer, Writes}
+use Rattle.sf_c.specs.TextBuffers.{TextBuffer, Writes}
 use Rattle.sf_c.proofs.GivenHops.{read_as, writes_hop}
 
 -- names

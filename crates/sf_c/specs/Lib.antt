@@ -12,6 +12,7 @@ pub mod Priorities
 pub mod ResponsePriorities
 pub mod PriorityChanges
 pub mod PriorityParts
+pub mod PlainPriorities
 pub mod Policies
 pub mod Rules
 pub mod Decisions

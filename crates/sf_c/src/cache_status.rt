@@ -8,9 +8,8 @@ ghost use Rattle.sf_c.specs.Paths.{NamesCaches, SaysFew, ReportsPath};
 ghost use Rattle.sf_c.specs.Refusals.{flag_number};
 ghost use Rattle.sf_c.specs.Statuses.{status_at};
 
-use crate::buffer::are_large;
 use crate::call::{Scan, dialect_of, parse};
-use crate::hop_scan::{count_hops, scan_hops};
+use crate::hop_scan::scan_hops;
 use crate::hops::{HopNode, flatten_hops};
 use crate::laws::hops_are_few;
 use crate::refusal::SyntaxRefusal;
@@ -142,47 +141,26 @@ fn path_of(
     // nearest number, and the bytes at most eight fifths.
     ensures few { SaysFew text.now path.new (Some result) }
 {
-    if let Some(found) = scan_hops(dialect, text, hops, bytes) {
-        hops_are_few();
-        path.set(found.hops, found.bytes, found.served);
-        return Status::Answered;
-    }
-    path_unscanned(alloc, seed, dialect, text, hops, bytes, path, refusal)
-}
-
-/// The result of [`sf_cache_status`] for a text that was declined, or more than the buffers hold.
-/// It is not inlined, so that an accepted text doesn't pay for its stack.
-#[inline(never)]
-fn path_unscanned(
-    alloc: Global,
-    seed: &Seed,
-    dialect: Dialect,
-    text: &[u8],
-    hops: &mut [HopNode],
-    bytes: &mut [u8],
-    path: &mut Path,
-    refusal: &mut SyntaxRefusal,
-) -> Status
-    ensures reports { ReportsPath
-        (record { hops = hops.old; bytes = bytes.old; path = path.old; refusal = refusal.old })
-        (record { hops = hops.new; bytes = bytes.new; path = path.new; refusal = refusal.new })
-        text.now dialect result }
-    ensures few { SaysFew text.now path.new (Some result) }
-{
-    if are_large(text, hops.len(), bytes.len()) {
-        return path_by_tree(alloc, seed, dialect, text, hops, bytes, path, refusal);
-    }
-    if let Some(found) = count_hops(dialect, text) {
-        if found.exceeds(hops.len(), bytes.len()) {
+    match scan_hops(dialect, text, hops, bytes) {
+        Some(found) => {
             hops_are_few();
-            path.set(found.hops, found.bytes, found.served);
-            return Status::Short;
+            let sizes = found.sizes;
+            if found.is_put {
+                path.set(sizes.hops, sizes.bytes, sizes.served);
+                return Status::Answered;
+            }
+            if sizes.exceeds(hops.len(), bytes.len()) {
+                path.set(sizes.hops, sizes.bytes, sizes.served);
+                return Status::Short;
+            }
+            return path_by_tree(alloc, seed, dialect, text, hops, bytes, path, refusal);
         }
+        None => return path_by_tree(alloc, seed, dialect, text, hops, bytes, path, refusal),
     }
-    path_by_tree(alloc, seed, dialect, text, hops, bytes, path, refusal)
 }
 
-/// The result of [`sf_cache_status`], by the tree of the value.
+/// The result of [`sf_cache_status`] for a text that was declined, by the tree of the value. It is
+/// not inlined, so that an accepted text doesn't pay for its stack.
 #[inline(never)]
 fn path_by_tree(
     alloc: Global,

@@ -1,5 +1,8 @@
-//! The hops of a Cache-Status field, read from its text in one pass into the caller's buffers.
+//! The hops of a Cache-Status field, read from its text in one pass into the caller's buffers. There
+//! is one loop for hops that are put and for hops that are counted: where the cursor is called once,
+//! it is inlined, so that a hop is not copied.
 ghost use Rattle.std.specs.Prelude.{◌≡◌, ◌≢◌, ◌+◌, ◌<◌, ◌≤◌, ◌⊎◌, ℕ, List, [], length, unwrap_or};
+ghost use Rattle.std.specs.Prelude.{true};
 ghost use Rattle.std.specs.Prelude.{Option as Maybe, Some, IfSome, IsTrue};
 ghost use Rattle.std.specs.Option.{option_copied, option_map};
 ghost use Rattle.sf_value.specs.declared.dialect.Dialect.{Dialect as Which};
@@ -8,10 +11,13 @@ ghost use Rattle.sf_view.specs.Reads.{ShowsText};
 ghost use Rattle.sf_use.specs.declared.cache_status.hop.Hop.{Hop};
 ghost use Rattle.sf_use.specs.declared.cache_status.hop.Name.{Name};
 ghost use Rattle.sf_use.specs.CacheStatus.Hops.{status_of as status_in};
-ghost use Rattle.sf_use.specs.CacheStatus.Views.{BorrowsName, ShowsHop, ShowsName};
+ghost use Rattle.sf_use.specs.CacheStatus.Views.{BorrowsName, ReadsNextHop, ShowsHop, ShowsName};
+ghost use Rattle.sf_use.specs.declared.cache_status.view.HopCursor.{HopCursor as HopsLeft};
 ghost use Rattle.sf_c.specs.Hops.{bytes_of, detail_bytes, end_of, hop_content, hop_size};
 ghost use Rattle.sf_c.specs.Hops.{outcome_number, says_by};
-ghost use Rattle.sf_c.specs.ScannedHops.{HasPathSizes, IsHopPut, IsPathOf, PutsBehind};
+ghost use Rattle.sf_c.specs.declared.hops.HopNode.{HopNode as HopStruct};
+ghost use Rattle.sf_c.specs.ScannedHops.{IsCountedTo, IsHopPut, IsPutTo, IsReadTo, IsScannedPath};
+ghost use Rattle.sf_c.specs.ScannedHops.{PutsBehind};
 ghost use Rattle.sf_c.specs.ScannedHops.{is_token_view, says_in, token_number};
 
 use crate::buffer::put;
@@ -41,60 +47,117 @@ impl PathSizes {
     }
 }
 
+/// How much was read of a path, and whether the buffers hold it.
+#[derive(Clone, Copy, Debug, Drop)]
+pub(crate) struct ScannedPath {
+    /// How much was read.
+    pub(crate) sizes: PathSizes,
+    /// Whether all of it is in the buffers; otherwise it was only counted from some hop on.
+    pub(crate) is_put: bool,
+}
+
 /// The bytes of a part that is absent.
 const NO_BYTES: Slice = Slice {
     bytes: b"",
     coded: false,
 };
 
-/// Reads the hops of a text into the buffers; `None` says nothing.
+impl ScannedPath {
+    /// Nothing was read.
+    const NONE: ScannedPath = ScannedPath {
+        sizes: PathSizes {
+            hops: 0,
+            bytes: 0,
+            served: None,
+        },
+        is_put: true,
+    };
+
+    /// What was read after one more hop. It is put into the buffers if those before it are there,
+    /// and if it fits; otherwise it is counted.
+    #[inline(always)]
+    fn with(self, hop: HopView, hops: &mut [HopNode], bytes: &mut [u8]) -> Option<ScannedPath>
+        requires within { self.is_put ≡ true → self.sizes.bytes ≤ length bytes.old }
+        ensures same_hops { length hops.new ≡ length hops.old }
+        ensures same_bytes { length bytes.new ≡ length bytes.old }
+        ensures read { IfSome result (λ s. (d : Which) (t : List ℕ) (c e : HopsLeft)
+            → IsReadTo d t c hops.old bytes.old self → ReadsNextHop c e (Some hop.entry)
+            → IsReadTo d t e hops.new bytes.new s) }
+    {
+        if self.is_put {
+            if let Some(sizes) = put_next(self.sizes, hop, hops, bytes) {
+                return Some(ScannedPath {
+                    sizes,
+                    is_put: true,
+                });
+            }
+        }
+        count_next(self.sizes, hop)
+    }
+}
+
+/// Reads the hops of a text in one pass, and puts them into the buffers until one doesn't fit; that
+/// one and those after it are only counted. `None` says nothing.
 pub(crate) fn scan_hops(
     dialect: Dialect,
     text: &[u8],
     hops: &mut [HopNode],
     bytes: &mut [u8],
-) -> Option<PathSizes>
+) -> Option<ScannedPath>
     ensures same_hops { length hops.new ≡ length hops.old }
     ensures same_bytes { length bytes.new ≡ length bytes.old }
-    // In the dialect the text spells a List, and the starts of the buffers describe its hops.
-    ensures read { IfSome result (IsPathOf dialect text.now hops.new bytes.new) }
+    // In the dialect the text spells a List, and the starts of the buffers describe its hops, or
+    // these are their sizes.
+    ensures read { IfSome result (IsScannedPath dialect text.now hops.new bytes.new) }
 {
     let mut cursor = HopCursor::new_in(dialect, text);
-    let mut count = 0;
-    let mut used = 0;
-    let mut served = None;
+    let mut read = ScannedPath::NONE;
     while let Some(hop) = cursor.next()? {
-        if count >= hops.len() {
-            return None;
-        }
-        let node = put_hop(hop, bytes, used)?;
-        served = last_hit(served, count, node.outcome);
-        hops[count] = node;
-        used = node.detail.end();
-        count += 1;
+        read = read.with(hop, hops, bytes)?;
     }
+    Some(read)
+}
+
+/// Puts one more hop after those in the buffers, and returns the sizes then; `None` if it doesn't
+/// fit.
+#[inline(always)]
+fn put_next(
+    sizes: PathSizes,
+    hop: HopView,
+    hops: &mut [HopNode],
+    bytes: &mut [u8],
+) -> Option<PathSizes>
+    requires within { sizes.bytes ≤ length bytes.old }
+    ensures same_hops { length hops.new ≡ length hops.old }
+    ensures same_bytes { length bytes.new ≡ length bytes.old }
+    ensures put { IfSome result (λ s. (d : Which) (t : List ℕ) (c e : HopsLeft)
+        → IsPutTo d t c hops.old bytes.old sizes → ReadsNextHop c e (Some hop.entry)
+        → IsPutTo d t e hops.new bytes.new s) }
+{
+    if sizes.hops >= hops.len() {
+        return None;
+    }
+    let node = put_hop(hop, bytes, sizes.bytes)?;
+    hops[sizes.hops] = node;
     Some(PathSizes {
-        hops: count,
-        bytes: used,
-        served,
+        hops: sizes.hops + 1,
+        bytes: node.detail.end(),
+        served: last_hit(sizes.served, sizes.hops, node.outcome),
     })
 }
 
-/// Reads the hops of a text, and counts them and their bytes; `None` says nothing.
-pub(crate) fn count_hops(dialect: Dialect, text: &[u8]) -> Option<PathSizes>
-    // In the dialect the text spells a List, of whose hops these are the sizes.
-    ensures { IfSome result (HasPathSizes dialect text.now) }
+/// Counts one more hop. It is not inlined, so that a path that fits doesn't pay for it.
+#[inline(never)]
+fn count_next(sizes: PathSizes, hop: HopView) -> Option<ScannedPath>
+    // Whatever the buffers hold.
+    ensures { IfSome result (λ s. (d : Which) (t : List ℕ) (c e : HopsLeft)
+        (nodes : List HopStruct) (bytes : List ℕ) → IsCountedTo d t c sizes
+        → ReadsNextHop c e (Some hop.entry) → IsReadTo d t e nodes bytes s) }
 {
-    let mut cursor = HopCursor::new_in(dialect, text);
-    let mut sizes = PathSizes {
-        hops: 0,
-        bytes: 0,
-        served: None,
-    };
-    while let Some(hop) = cursor.next()? {
-        sizes = with_hop(sizes, hop)?;
-    }
-    Some(sizes)
+    Some(ScannedPath {
+        sizes: with_hop(sizes, hop)?,
+        is_put: false,
+    })
 }
 
 /// The sizes with those of one more hop.

@@ -28,6 +28,7 @@ mod join;
 pub mod laws;
 mod normalise;
 mod parse;
+mod plain_priority;
 mod priority;
 mod priority_change;
 mod priority_parts;

@@ -12,6 +12,7 @@ ghost use Rattle.sf_c.specs.Statuses.{status_at};
 use crate::buffer::put_text;
 use crate::call::{Scan, parse_dict};
 use crate::filling::put_parts;
+use crate::plain_priority::PlainPriority;
 use crate::priority::PriorityFlags;
 use crate::priority_parts::ChangedPriority;
 use crate::refusal::SyntaxRefusal;
@@ -74,9 +75,31 @@ fn change_valid(
     change(alloc, seed, text, priority, buffer, required, refusal)
 }
 
-/// As [`sf_priority_change`], for a struct whose values are all set. The text is written from its
-/// nodes, without an allocation, if there are few and no key is repeated.
+/// As [`sf_priority_change`], for a struct whose values are all set.
 fn change(
+    alloc: Global,
+    seed: &Seed,
+    text: &[u8],
+    priority: &PriorityFlags,
+    buffer: &mut [u8],
+    required: &mut usize,
+    refusal: &mut SyntaxRefusal,
+) -> Status
+    ensures { ChangesBy
+        (record { buffer = buffer.old; required = required.old; refusal = refusal.old })
+        (record { buffer = buffer.new; required = required.new; refusal = refusal.new })
+        text.now priority.now (Some result) }
+{
+    match PlainPriority::scan(text) {
+        Some(plain) => return plain.changed(priority.asked()).put(buffer, required),
+        None => return change_nodes(alloc, seed, text, priority, buffer, required, refusal),
+    }
+}
+
+/// As [`change`], from the nodes of the text, without an allocation, if there are few and no key is
+/// repeated. It is not inlined, so that a text of `u` and `i` alone doesn't pay for its stack.
+#[inline(never)]
+fn change_nodes(
     alloc: Global,
     seed: &Seed,
     text: &[u8],

@@ -63,16 +63,30 @@ fn put_members<W: Sink>(view: View, asked: &Asked, out: &mut W) -> Sent
         };
         let new_urgency = urgency_left(has_urgency, asked);
         let new_incremental = incremental_left(has_incremental, asked);
-        sent = put_separator(first, sent, out);
-        sent = put_member(member, new_urgency, new_incremental, sent, out);
+        // The key is compared before anything is sent: after that it would be read again.
         let key = member.key();
         let is_urgency = is_named(b"u", key);
         let is_incremental = is_named(b"i", key);
+        let keys = KeyTests {
+            is_urgency,
+            is_incremental,
+        };
+        sent = put_separator(first, sent, out);
+        sent = put_member(member, keys, new_urgency, new_incremental, sent, out);
         has_urgency = is_urgency | has_urgency;
         has_incremental = is_incremental | has_incremental;
         first = false;
         rest = others;
     }
+}
+
+/// Which of the two keys a member has, if it has one of them.
+#[derive(Clone, Copy, Drop)]
+struct KeyTests {
+    /// Whether its key is `u`.
+    is_urgency: bool,
+    /// Whether its key is `i`.
+    is_incremental: bool,
 }
 
 /// The urgency that is set, unless a member took it.
@@ -116,6 +130,7 @@ fn put_separator<W: Sink>(first: bool, before: Sent, out: &mut W) -> Sent
 /// Writes a member, or what is set at its key.
 fn put_member<W: Sink>(
     member: View,
+    key: KeyTests,
     urgency: Option<Urgency>,
     incremental: Option<bool>,
     before: Sent,
@@ -123,14 +138,14 @@ fn put_member<W: Sink>(
 ) -> Sent
     ensures { (k : List ℕ) (m : Member)
         → DescribesMember Rfc9651 member.entry.text.now k member.entry.nodes.now m
+        → key.is_urgency ≡ bytes_eq (codes "u") k → key.is_incremental ≡ bytes_eq (codes "i") k
         → Follows W.state W.send_gives out.old out.new before result
         (canon_entry (changed urgency incremental (k, m))) }
 {
-    let key = member.key();
-    if is_named(b"u", key) {
+    if key.is_urgency {
         return put_at_u(member, urgency, before, out);
     }
-    if is_named(b"i", key) {
+    if key.is_incremental {
         return put_at_i(member, incremental, before, out);
     }
     put_entry(member, before, out)

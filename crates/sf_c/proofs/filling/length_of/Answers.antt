@@ -1,5 +1,3 @@
-use Rattle.std.proofs.Common.{◌≡◌, Ok, Err, arith}
-use Rattle.std.specs.Prelude.{◌+◌, ◌≤◌, ◌^◌, length, MatchOption}
 use Rattle.sf_c.proofs.FilledBuffers.{count_is, never_fails, unsaturated_length}
 use Rattle.sf_c.proofs.filling.length_of.Goals as goal
 

@@ -1,5 +1,4 @@
-use Rattle.std.proofs.Common.{◌≡◌, None, Some, sym}
-use Rattle.sf_value.specs.Faults.{bad_place}
+use Rattle.std.proofs.Common.{sym}
 use Rattle.sf_value.proofs.Faults.{every_place}
 use Rattle.sf_value.proofs.Words.{every_from_place}
 use Rattle.sf_c.proofs.hop_parts.are_all.Goals as goal

@@ -1,6 +1,5 @@
 use Rattle.sf_write.proofs.Following.{then, nothing}
 use Rattle.sf_c.proofs.WrittenHops.{absent_value, given_value}
-use Rattle.std.proofs.Common.{◌≡◌}
 use Rattle.sf_c.proofs.WrittenHops.{detail_value}
 use Rattle.sf_c.proofs.hop_parts.put_detail.Goals as goal
 

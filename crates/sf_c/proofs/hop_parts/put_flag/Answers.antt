@@ -1,6 +1,5 @@
 use Rattle.sf_write.proofs.Following.{then, nothing}
 use Rattle.sf_c.proofs.WrittenHops.{absent_value, given_value, false_flag, true_flag}
-use Rattle.std.proofs.Common.{◌≡◌}
 use Rattle.sf_c.proofs.hop_parts.put_flag.Goals as goal
 
 pub returns-then-has_flag-eq0 : goal.returns-then-has_flag-eq0

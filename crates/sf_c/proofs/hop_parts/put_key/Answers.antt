@@ -1,6 +1,5 @@
 use Rattle.sf_write.proofs.Following.{then, nothing}
 use Rattle.sf_c.proofs.WrittenHops.{absent_value, given_value}
-use Rattle.sf_value.specs.Ascii.{quote}
 use Rattle.sf_c.proofs.hop_parts.put_key.Goals as goal
 
 pub returns-then-hop-eq0 : goal.returns-then-hop-eq0

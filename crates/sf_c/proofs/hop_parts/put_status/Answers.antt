@@ -1,5 +1,4 @@
 use Rattle.std.proofs.lemmas.Bool.{MatchBool-at_true, MatchBool-at_false}
-use Rattle.std.proofs.Common.{◌≡◌, refl}
 use Rattle.sf_write.proofs.Following.{nothing}
 use Rattle.sf_c.proofs.hop_parts.put_status.Goals as goal
 

@@ -1,4 +1,4 @@
-use Rattle.std.proofs.Common.{◌≡◌, w64, pos, ◌∙◌}
+use Rattle.std.proofs.Common.{w64}
 use Rattle.std.proofs.lemmas.Int.{to_z-of_z}
 use Rattle.sf_write.proofs.Following.{then, nothing}
 use Rattle.sf_c.proofs.WrittenHops.{absent_value, given_value, small_fits}

@@ -1,4 +1,4 @@
-use Rattle.std.proofs.Common.{◌≡◌, true, refl, subst}
+use Rattle.std.proofs.Common.{refl, subst}
 use Rattle.sf_c.specs.GivenHops.{GivesHop}
 use Rattle.sf_c.specs.HopParts.{Decides}
 use Rattle.sf_c.specs.TextBuffers.{TextBuffer}

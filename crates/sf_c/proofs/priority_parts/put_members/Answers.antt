@@ -1,4 +1,5 @@
-use Rattle.std.proofs.Common.{◌||◌, ap}
+use Rattle.std.proofs.Common.{◌||◌, ◌∙◌, ap, codes}
+use Rattle.std.specs.Str.{bytes_eq}
 use Rattle.sf_value.specs.declared.dialect.Dialect.TheVariants.{Rfc9651}
 use Rattle.sf_write.proofs.Following.{remains_all}
 use Rattle.sf_c.proofs.ChangedMembers.{still, unput_at, unput_less, unput_none}
@@ -22,7 +23,11 @@ loop-member-preserved g c = λ ps t.
     (unput_at c.loop-member.rest c.loop-member.first _ _ _ _ c.urgency_left-new_urgency.ensures
     c.incremental_left-new_incremental.ensures (c.loop-member.invariant ps t))
     c.in-Some.ensures.text (c.in-Some.ensures.entries Rfc9651) c.put_separator-sent.ensures
-    c.put_member-sent.ensures (c.key-key.ensures.member Rfc9651)
+    (λ k m d. let same = c.key-key.ensures.member Rfc9651 k m d in
+    c.put_member-sent.ensures k m d
+    (c.is_named-is_urgency.ensures ∙ ap (bytes_eq (codes "u")) same)
+    (c.is_named-is_incremental.ensures ∙ ap (bytes_eq (codes "i")) same))
+    (c.key-key.ensures.member Rfc9651)
     (still _ c.loop-member.has_urgency _ c.args.asked.now.urgency c.urgency_left-new_urgency.result
     (ap (λ b. b || c.loop-member.has_urgency) c.is_named-is_urgency.ensures)
     c.urgency_left-new_urgency.ensures)
