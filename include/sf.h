@@ -34,8 +34,8 @@
  *
  * The caller provides the buffer for each result, and never owns or frees memory of the library. If
  * a buffer is too small, the call returns SF_SHORT (SF_TOO_MANY for the nodes of sf_read_tree) and
- * stores the required length. What a call allocates with malloc it frees before it returns; it
- * allocates what the function of the library does that its comment names.
+ * stores the required length. A call allocates only what the function named in its comment
+ * allocates, and frees it before it returns.
  *
  * Pointers must be valid as usual in C: a pointer with a length points to that many bytes or
  * elements, and may be NULL if the length is 0; any other pointer is aligned and not NULL; and the
@@ -46,10 +46,8 @@
  * is aligned as C requires.
  *
  * Bytes are octets, and texts are not NUL-terminated, except those that a comment says are. White
- * space around the value of a field line is no part of the value (RFC 9110 section 5.5), but the
- * calls that read a structured field refuse a tab at the beginning, and one after an Item (RFC 9651
- * section 4.2): pass sf_add_line, or the call itself if there is one line, what sf_trim returns.
- * Offsets are in bytes and begin at 0. The library requires a size_t of 64 bits.
+ * space around the value of a field line is no part of it, and a tab there may be refused: see
+ * sf_trim. Offsets are in bytes and begin at 0. The library requires a size_t of 64 bits.
  */
 #ifndef SF_H
 #define SF_H
@@ -75,8 +73,7 @@
 /*
  * A bound on the bytes that a call has allocated at any one time; it is tested, not proved. The
  * length is that of the texts and bytes that the call reads, together, and for sf_write one more
- * for each node. For sf_cache_status with a buffer that is too small, the length counts twice.
- * The comment of a call says if it does not allocate, or when.
+ * for each node. The comment of a call says if it does not allocate, or when.
  */
 #define SF_MEMORY_SIZE(length) (sizeof(char[200]) * (length) + 2048)
 
@@ -202,8 +199,10 @@ typedef struct sf_refusal {
 typedef struct sf_context {
   sf_seed seed;       /* for the hashes of keys */
   uint32_t dialect;   /* the sf_dialect in which texts are read and written */
-  sf_refusal refusal; /* where and why the last text was refused: written with SF_REFUSED and
-                         SF_SECOND_REFUSED alone, and by sf_read_hops with SF_NOT_A_CACHE */
+  sf_refusal refusal; /* where and why a text was refused last: written with SF_REFUSED and
+                         SF_SECOND_REFUSED, and by sf_read_hops with SF_NOT_A_CACHE;
+                         sf_append_or_write_hop, sf_choose_rules and sf_decide_response may write it
+                         and succeed */
   size_t invalid;     /* index of the first node that is wrong: written with SF_INVALID by
                          sf_write_tree and sf_write_built */
 } sf_context;
@@ -604,6 +603,16 @@ static inline sf_status sf_set_text(sf_tree *tree, sf_node *node, sf_type type, 
  * of SF_WRITTEN_SIZE(tree->nodes.length, tree->text.length + tree->bytes.length) bytes is large
  * enough for a tree whose nodes share no bytes, as those of sf_read_tree do not.
  *
+ *   sf_node nodes[8];
+ *   char bytes[64], changed[64];
+ *   sf_buffer out = SF_BUFFER(changed);
+ *   sf_tree tree = sf_tree_in(SF_NODES(nodes), SF_BUFFER(bytes));
+ *   if (sf_read_tree(&context, SF_DICT, sf_cstr("a=1;q=x, b"), &tree) != SF_OK ||
+ *       sf_set_text(&tree, sf_find_member(&tree, "a"), SF_STRING, sf_cstr("y")) != SF_OK ||
+ *       sf_write_tree(&context, &tree, &out) != SF_OK)
+ *     return EXIT_FAILURE;
+ *   printf("%.*s\n", SF_ARGS(out)); // a="y";q=x, b
+ *
  *   SF_OK        the first out->length bytes of out are the text
  *   SF_SHORT     it has out->required bytes, more than the capacity
  *   SF_INVALID   the nodes do not describe a valid field; context->invalid is the index of the
@@ -799,8 +808,17 @@ SF_USE_RESULT
 static inline sf_status sf_read_response_priority(sf_context *context, sf_text text,
                                                  sf_response_priority_flags *server);
 
-/* Merges what the client asks for and what the server sets (RFC 9218 section 8), by
- * sf_priority_merge. Swapped arguments do not compile. */
+/*
+ * Merges what the client asks for and what the server sets (RFC 9218 section 8), by
+ * sf_priority_merge. Swapped arguments do not compile.
+ *
+ *   sf_priority_flags client = SF_PRIORITY_UNSET;
+ *   sf_response_priority_flags server = {0, 0, 0, 0};
+ *   if (sf_read_priority(&context, sf_cstr("u=5, i"), &client) == SF_NO_MEMORY ||
+ *       sf_read_response_priority(&context, sf_cstr("u=1"), &server) == SF_NO_MEMORY)
+ *     return EXIT_FAILURE;
+ *   printf("%d\n", sf_merge_priority(client, server).urgency); // 1
+ */
 static inline sf_priority_flags sf_merge_priority(sf_priority_flags client,
                                                   sf_response_priority_flags server);
 
@@ -820,8 +838,9 @@ static inline sf_priority_flags sf_merge_priority(sf_priority_flags client,
 SF_USE_RESULT
 static inline sf_status sf_write_priority(sf_priority_flags client, sf_buffer *out);
 
-/* Writes the text of the Priority field of a response (RFC 9218 section 8), likewise, by
- * sf_response_priority_text. */
+/* Writes the text of the Priority field of a response (RFC 9218 section 8), by
+ * sf_response_priority_text. The buffer and the results are those of sf_write_priority; SF_INVALID
+ * also if urgency is SF_URGENCY_DEFAULT and has_urgency is 0. */
 SF_USE_RESULT
 static inline sf_status sf_write_response_priority(sf_response_priority_flags server,
                                                   sf_buffer *out);
@@ -831,15 +850,23 @@ static inline sf_status sf_write_response_priority(sf_response_priority_flags se
 #define SF_PRIORITY_CHANGE_SIZE(length) (SF_CANONICAL_SIZE(length) + 2 + SF_PRIORITY_SIZE)
 
 /*
- * Writes the Priority field of a request with what *client sets, and keeps its other members (RFC
+ * Writes the Priority field of a request with what client sets, and keeps its other members (RFC
  * 9218 section 4), by sf_priority_change. What is set is written also if it is the default, so this
  * changes the field of a response (section 8), too: set what the server sets. A buffer of
  * SF_PRIORITY_CHANGE_SIZE(text.length) bytes is always large enough.
  *
- *   SF_REFUSED  the text is not a well-formed Dictionary; context->refusal says where and why
- *   SF_NO_MEMORY, SF_BAD_CALL
+ *   sf_priority_flags priority = {.urgency = 1, .has_urgency = 1};
+ *   char text[SF_PRIORITY_CHANGE_SIZE(6)];
+ *   sf_buffer out = SF_BUFFER(text);
+ *   if (sf_change_priority(&context, sf_cstr("x, u=5"), priority, &out) == SF_OK)
+ *     printf("%.*s\n", SF_ARGS(out)); // x, u=1
  *
- * The other results are those of sf_write_priority.
+ *   SF_OK       the first out->length bytes of out are the text. If it is empty, the field is not
+ *               to be sent
+ *   SF_SHORT    it has out->required bytes, more than the capacity
+ *   SF_REFUSED  the text is not a well-formed Dictionary; context->refusal says where and why
+ *   SF_INVALID  client is not valid, as for sf_write_priority, also if the text is malformed
+ *   SF_NO_MEMORY, SF_BAD_CALL
  */
 SF_USE_RESULT
 static inline sf_status sf_change_priority(sf_context *context, sf_text text,
@@ -1032,6 +1059,15 @@ static inline sf_status sf_append_hop(sf_context *context, sf_text text, const s
  * hop as its last member, as sf_append_hop does; or, if what was received is malformed, this hop
  * alone, as sf_write_hop does.
  *
+ *   sf_own_hop own = sf_hop_named("edge", SF_TOKEN);
+ *   own.hop.outcome = SF_HIT;
+ *   char text[SF_APPENDED_SIZE(16, 4)];
+ *   sf_buffer out = SF_BUFFER(text);
+ *   uint32_t is_appended;
+ *   if (sf_append_or_write_hop(&context, sf_cstr("origin; fwd=miss"), &own, &out, &is_appended) ==
+ *       SF_OK)
+ *     printf("%.*s\n", SF_ARGS(out)); // origin;fwd=miss, edge;hit
+ *
  *   SF_OK       the first out->length bytes of out are the text. *is_appended is 1 if it has what
  *               was received; 0 if that is malformed: context->refusal says where and why
  *   SF_SHORT    it has out->required bytes, more than the capacity
@@ -1079,11 +1115,20 @@ typedef struct sf_head {
  * once. */
 static inline sf_head sf_head_in(sf_head_lines lines, sf_buffer joined);
 
-/* Returns the first line of a text, with its LF if it has one, and takes it off the text. */
+/*
+ * Returns the first line of a text, with its LF if it has one, and takes it off the text. The empty
+ * text is returned if nothing is left.
+ *
+ *   sf_text rest = sf_cstr("Age: 20\nDate: 0\n"), line;
+ *   while ((line = sf_take_line(&rest)).length > 0) {
+ *     printf("%.*s", SF_ARGS(line)); // Age: 20
+ *   } // Date: 0
+ */
 static inline sf_text sf_take_line(sf_text *rest);
 
 /*
- * Adds a field line as it was received (RFC 9112 section 5), with or without its CR and LF.
+ * Adds a field line as it was received (RFC 9112 section 5), with or without its CR and LF. It is
+ * not copied: it must be valid as long as the head is used.
  *
  *   SF_OK       the line is added
  *   SF_EMPTY    it is empty: the head ends
@@ -1262,7 +1307,7 @@ typedef struct sf_verdict {
   sf_decision decision; /* how it may be used, for how long it is fresh, and the directive that is
                            the cause; of a response that may not be stored, what the directives
                            alone say */
-  uint64_t age;         /* its age in seconds: that of the Age field when it is used (4) */
+  uint64_t age;         /* its age in seconds, to be sent as Age when it is used (4) */
   int64_t ttl;          /* the lifetime that decided, less the age, both at most 2^31, for
                            sf_hop.ttl: if negative, for how long the response has been stale; 0 if
                            has_ttl is 0 */
@@ -1315,7 +1360,7 @@ typedef struct sf_verdict {
  *
  * Unless SF_OK is returned, *verdict is unchanged. The heuristics of section 4.2.2 are the
  * caller's, and so are the method, directives of the request and Vary (sections 3, 4 and 4.1). The
- * fields that it joins are not kept in head->joined. Allocates only for a target that is malformed.
+ * fields that it joins are not kept in head->joined. Does not allocate.
  */
 SF_USE_RESULT
 static inline sf_status sf_decide_response(sf_context *context, sf_head *head, sf_target *targets,

@@ -2,12 +2,15 @@
  * The functions of the library, a part of sf.h, which has the types and the macros. A program in C
  * or C++ best calls the inline functions of sf.h, which are over these: with pointers and lengths,
  * arguments can be swapped unnoticed. sf.h has no inline function for sf_decide,
- * sf_fallback_lifetime, sf_lifetime and sf_version.
+ * sf_fallback_lifetime, sf_lifetime and sf_version. Its sf_read_priority, sf_read_rules,
+ * sf_choose_rules and sf_read_hops take the place of sf_priority, sf_cache_control, sf_select,
+ * sf_select_rules and sf_cache_status.
  *
  * Each accepts any numbers and any bytes; what sf.h requires of pointers is required here. Each
  * returns an sf_status, except sf_priority_merge, sf_lifetime and sf_version; a dialect is an
  * sf_dialect, and a kind is an sf_kind. All are passed as integers of a fixed width, since the
- * width of an enum is not fixed, and since any number may be passed.
+ * width of an enum is not fixed, and since any number may be passed. A call that does not allocate
+ * lists SF_NO_MEMORY if its contract permits it; that it is not returned is tested.
  */
 
 #ifndef SF_FUNCTIONS_H
@@ -343,7 +346,7 @@ uint32_t sf_cache_rules(const sf_seed *seed, uint32_t dialect, const void *text,
  *
  * After SF_OK, the fields after fields[*index] and their ranges have no effect. Unless SF_OK is
  * returned, *index and *policy are unchanged. Call sf_check to learn which of the ignored fields
- * are malformed, and where. Allocates only for fields that are malformed.
+ * are malformed, and where. Does not allocate.
  */
 uint32_t sf_select(const sf_seed *seed, const void *texts, size_t texts_length,
                    const sf_span *fields, size_t fields_length, size_t *index, sf_policy *policy)

@@ -76,7 +76,8 @@ impl<'a> ItemCursor<'a> {
     }
 
     /// Reads the bare item of the next member: `Some(None)` after the last one, and `None` if the
-    /// cursor declines the text, of which nothing is then known.
+    /// cursor declines the text, of which nothing is then known. It declines a member that does not
+    /// begin with a bare item, such as an Inner List.
     #[inline(always)]
     pub fn next(&self) -> Option<Option<ItemView<'a>>>
         // An Item with this bare item and the parameters that remain comes before the members that
@@ -100,7 +101,8 @@ impl<'a> ItemCursor<'a> {
 
 impl<'a> ParamCursor<'a> {
     /// Reads the next parameter: `Some(None)` after the last one, and `None` if the cursor declines
-    /// the text.
+    /// the text, of which nothing is then known. It declines a semicolon without a parameter after
+    /// it (RFC 9651 section 4.2.3.2).
     #[inline(always)]
     pub fn next(&mut self) -> Option<Option<ParamView<'a>>>
         ensures dialect { self.new.dialect ≡ self.old.dialect }

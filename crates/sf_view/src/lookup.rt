@@ -32,7 +32,12 @@ pub(crate) fn hop<'a>(
 }
 
 /// The nodes of the part with this key, if there is one, among the nodes of a Dictionary or of
-/// parameters.
+/// parameters. The source is what the nodes point into, such as the text that was scanned. It does
+/// not allocate.
+///
+/// ```
+/// entry(view.text, view.nodes, b"i") // of u=1, i: Some, the node of the Boolean true
+/// ```
 pub fn entry<'a>(source: &'a [u8], nodes: &'a [Node], key: &[u8]) -> Option<&'a [Node]>
     // Whatever members the nodes describe, the nodes found describe the one with this key.
     ensures found { (d : Which) (ps : Pairs Member) → DescribesEntries d source.now nodes.now ps

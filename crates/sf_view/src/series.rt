@@ -111,8 +111,15 @@ pub(crate) fn scan_parts(
     }
 }
 
-/// Writes the nodes of the text to the buffer, and returns their number; `None` says nothing about
-/// the text.
+/// Writes the nodes of the text to the beginning of the buffer, and returns their number. `None`
+/// says nothing about the text: it may be malformed, repeat a key or, rarely, have many keys, have
+/// 4 GiB or more, or need more nodes than the buffer has. `View::scan` does the same, but returns a
+/// view, or a reason instead of `None`. It does not allocate.
+///
+/// ```
+/// let mut nodes = [Node::NONE; 16];
+/// scan_text(Dialect::Rfc9651, Kind::Dict, b"u=1, i", &mut nodes) // Some(2)
+/// ```
 #[inline]
 pub fn scan_text(dialect: Dialect, kind: Kind, text: &[u8], nodes: &mut [Node]) -> Option<usize>
     ensures same { length nodes.new ≡ length nodes.old }

@@ -88,6 +88,13 @@ pub fn age(text: impl AsRef<[u8]>) -> Option<u64> {
 }
 
 /// How a cache may use a response (RFC 9111 sections 3 and 4).
+///
+/// ```
+/// use sf::{Cache, CacheRules, Response, Reuse};
+/// let rules = CacheRules::parse("max-age=60").unwrap().unwrap();
+/// let decision = rules.decide(Cache::Shared, Response::default());
+/// assert_eq!(decision.reuse, Reuse::Fresh { seconds: 60 });
+/// ```
 #[derive(Clone, Copy, Debug, PartialEq, Eq, Hash)]
 pub enum Reuse {
     /// It is not stored, so it is never used again.
@@ -135,6 +142,13 @@ impl fmt::Display for Reuse {
 }
 
 /// The directive that decided (RFC 9111 section 5.2.2). Its `Display` is its name.
+///
+/// ```
+/// use sf::{Cache, CacheRules, Cause, Response};
+/// let rules = CacheRules::parse("max-age=60, private").unwrap().unwrap();
+/// let decision = rules.decide(Cache::Shared, Response::default());
+/// assert_eq!(decision.cause, Some(Cause::Private));
+/// ```
 #[derive(Clone, Copy, Debug, PartialEq, Eq, Hash)]
 pub enum Cause {
     /// `no-store`.
@@ -192,6 +206,14 @@ impl fmt::Display for Cause {
 }
 
 /// What a cache decides about a response.
+///
+/// ```
+/// use sf::{Cache, CacheRules, Response};
+/// let rules = CacheRules::parse("max-age=60").unwrap().unwrap();
+/// let decision = rules.decide(Cache::Shared, Response::default());
+/// assert!(decision.may_store());
+/// assert_eq!(decision.fresh_for().map(u64::from), Some(60));
+/// ```
 #[derive(Clone, Copy, Debug, PartialEq, Eq, Hash)]
 pub struct Decision {
     /// How the response may be used.
@@ -449,6 +471,13 @@ impl fmt::Display for CacheRules {
 }
 
 /// Which field of a target list a cache obeys (RFC 9213 section 2.2), with what decides.
+///
+/// ```
+/// use sf::{select_rules, RulesChoice};
+/// let choice = select_rules(["a,", "no-store"]).unwrap();
+/// assert!(matches!(choice, RulesChoice::Field { index: 1, .. }));
+/// assert_eq!(select_rules(["a,"]).unwrap(), RulesChoice::Fallback);
+/// ```
 #[derive(Clone, Copy, Debug, PartialEq, Eq, Hash)]
 pub enum RulesChoice {
     /// This field; those before it are ignored.

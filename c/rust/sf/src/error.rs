@@ -109,6 +109,12 @@ impl fmt::Debug for Set {
 
 /// The line that a refusal is in, of lines that were joined, and the place in it: see
 /// [`Refusal::line`]. Both are counted from 0; in messages, lines are counted from 1.
+///
+/// ```
+/// let refusal = sf::check(sf::Kind::List, "a, b,").unwrap_err().refusal().unwrap();
+/// let place = refusal.line(["a", "b,"]);
+/// assert_eq!((place.line, place.offset), (1, 2));
+/// ```
 #[derive(Clone, Copy, Debug, Default, PartialEq, Eq, Hash)]
 pub struct LinePlace {
     /// The index of the line.

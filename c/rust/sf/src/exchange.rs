@@ -317,6 +317,13 @@ pub struct Verdict<'a> {
 }
 
 /// Why a response may not be stored (RFC 9111 section 3).
+///
+/// ```
+/// use sf::{Cache, Exchange, Obstacle};
+/// let head = [("Cache-Control", "no-store")];
+/// let verdict = Exchange::at(Cache::Shared, 784_111_777).decide(&[], &head).unwrap();
+/// assert_eq!(verdict.obstacle, Some(Obstacle::Directive));
+/// ```
 #[derive(Clone, Copy, Debug, PartialEq, Eq, Hash)]
 #[non_exhaustive]
 pub enum Obstacle {

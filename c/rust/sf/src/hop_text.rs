@@ -159,6 +159,13 @@ impl Parser {
 
 /// The text of Cache-Status that a cache sends on, in the place of the lines that it received: see
 /// [`Hop::append_or_replace`]. Its `Display` is the text.
+///
+/// ```
+/// let hop = sf::Hop::new(sf::TokenRef::constant("edge")).with_outcome(sf::Outcome::Hit);
+/// let sent = hop.append_or_replace(["origin"]).unwrap();
+/// assert!(matches!(sent, sf::Appended::Joined(_)));
+/// assert_eq!(sent.to_string(), "origin, edge;hit");
+/// ```
 #[derive(Clone, Debug, PartialEq, Eq)]
 pub enum Appended {
     /// The hops of the lines, and this cache's after them.
