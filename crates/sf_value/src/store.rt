@@ -397,9 +397,9 @@ impl<V: Drop> Store<V> {
         }
     }
 
-    /// Makes an empty vector with capacity for as many entries as are expected, and at least one.
-    /// The vector is stored first and grows there: if it were moved right after growing, it would be
-    /// loaded while it is still being stored.
+    /// Makes an empty vector with capacity for as many entries as are expected, but for one at least,
+    /// and for no more than it ever has. The vector is stored first and grows there: if it were moved
+    /// right after growing, it would be loaded while it is still being stored.
     #[inline(always)]
     fn reserve_first(
         &mut self,
@@ -416,7 +416,7 @@ impl<V: Drop> Store<V> {
         let Store::Few(slots) = self else {
             unreachable!()
         };
-        if slots.reserve_exact(expected.max(1)).is_err() {
+        if slots.reserve_exact(expected.min(MAX_SLOTS).max(1)).is_err() {
             *self = Store::Fresh(alloc, seed);
             return Err(OutOfMemory);
         }
