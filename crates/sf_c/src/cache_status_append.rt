@@ -16,7 +16,7 @@ ghost use Rattle.std.specs.Result.{result_map_both};
 
 use crate::buffer::put_text;
 use crate::call::{Scan, dialect_of, parse};
-use crate::hop_text::hop_of;
+use crate::hop_value::hop_of;
 use crate::hops::HopNode;
 use crate::refusal::SyntaxRefusal;
 use crate::seed::Seed;

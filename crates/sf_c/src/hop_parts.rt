@@ -23,7 +23,7 @@ ghost use Rattle.sf_c.specs.GivenHops.{GivesToken, GivesWhy, hop_text};
 ghost use Rattle.sf_c.specs.HopParts.{Decides, SpellsHop, param_text};
 
 use crate::filling::Parts;
-use crate::hop_text::{status_of, ttl_of};
+use crate::hop_value::{status_of, ttl_of};
 use crate::hops::HopNode;
 use crate::span::Span;
 use sf_value::Sink;

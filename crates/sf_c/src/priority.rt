@@ -1,20 +1,16 @@
 //! Priorities (RFC 9218).
 ghost use Rattle.std.specs.Prelude.{◌≡◌, Some};
 ghost use Rattle.sf_value.specs.declared.dialect.Dialect.TheVariants.{Rfc9651};
-ghost use Rattle.sf_use.specs.Priority.{merge_params};
-ghost use Rattle.sf_use.specs.ResponsePriority.{asked_of};
 ghost use Rattle.sf_c.specs.Calls.{ChecksDialect, dialect_at};
 ghost use Rattle.sf_c.specs.Priorities.{AsksFor, SaysAsked, params_of_flags, flag_at, urgency_at};
 ghost use Rattle.sf_c.specs.Priorities.{has_unset_value as is_unset};
-ghost use Rattle.sf_c.specs.ResponsePriorities.{response_of_flags};
 ghost use Rattle.sf_c.specs.Statuses.{status_at};
 
 use crate::call::{Scan, dialect_of, parse_dict};
 use crate::refusal::SyntaxRefusal;
-use crate::response_priority::ResponsePriorityFlags;
 use crate::seed::Seed;
 use crate::status::Status;
-use sf_use::{Asked, Priority, PriorityField, Urgency, merge};
+use sf_use::{Asked, Priority, PriorityField, Urgency};
 use sf_value::Dialect;
 use std::alloc::Global;
 
@@ -35,7 +31,7 @@ pub struct PriorityFlags {
 
 impl PriorityFlags {
     /// The struct of the parameters.
-    fn of(asked: Asked) -> PriorityFlags
+    pub(crate) fn of(asked: Asked) -> PriorityFlags
         // The struct has the parameters, and the defaults for absent ones.
         ensures { SaysAsked result asked }
     {
@@ -111,22 +107,6 @@ pub extern "C" fn sf_priority_in(
         return Status::BadCall.code();
     };
     read_params(alloc, seed, dialect, text, priority, refusal).code()
-}
-
-/// Merges the priority of a request and that of its response (RFC 9218 section 8): each parameter
-/// is the server's if the server sets it, otherwise the client's; defaults are filled in. A flag
-/// counts as 1 if it is not 0, and an urgency above 7 as not set.
-#[unsafe(no_mangle)]
-pub extern "C" fn sf_priority_merge(
-    request: &PriorityFlags,
-    response: &ResponsePriorityFlags,
-) -> PriorityFlags
-    // Each parameter is the server's if the server sets it, otherwise the client's if the client
-    // sets it, otherwise the default.
-    ensures { SaysAsked result
-        (merge_params (params_of_flags request.now) (asked_of (response_of_flags response.now))) }
-{
-    PriorityFlags::of(merge(request.asked(), response.priority().as_asked()))
 }
 
 /// The urgency, if it is set and in range.

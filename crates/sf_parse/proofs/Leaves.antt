@@ -8,7 +8,8 @@ use Rattle.sf_value.specs.Grammar.Strings.{is_escaped, escaped}
 use Rattle.sf_value.specs.Grammar.Tokens.{IsToken}
 use Rattle.sf_value.specs.Grammar.Words.{Every}
 use Rattle.sf_parse.specs.AllocationFree.{scalar_byte, short_byte, IsShortText, TakesNoMemory}
-use Rattle.sf_parse.specs.WholeParts.{Behind, ReadsAs}
+use Rattle.sf_parse.specs.WholeParts.{ReadsAs}
+use Rattle.sf_value.specs.Runs.{Skips}
 use Rattle.sf_parse.proofs.Prefixes.{every_split}
 use Rattle.std.proofs.lemmas.Int.{to_z-of_z}
 use Rattle.sf_value.specs.declared.dialect.Dialect.{Dialect}
@@ -121,13 +122,13 @@ leaf_fits d t (leaf.Display s) h w = ⊎_elim
     (λ k. no_first scalar_byte 37 t _ h.1.1 k refl)
     (λ k. no_first short_byte 37 t _ h.1.1 k.1 refl) w
 
-parts : (q : ℕ → Bool) (text inside front rest : List ℕ) → Behind is_sp text inside
+parts : (q : ℕ → Bool) (text inside front rest : List ℕ) → Skips is_sp text inside
     → inside ≡ front ++ rest → Every q text → Every q front × Every q rest
 parts q text inside front rest b e h =
     every_split q front rest (subst (Every q) e
     (every_split q b.prefix inside (subst (Every q) b.split h)).1)
 
-part_fits : (text inside front rest : List ℕ) → Behind is_sp text inside → inside ≡ front ++ rest
+part_fits : (text inside front rest : List ℕ) → Skips is_sp text inside → inside ≡ front ++ rest
     → FitsInPlace text → FitsInPlace front
 part_fits text inside front rest b e h =
     let n = length-append b.prefix inside in
@@ -138,7 +139,7 @@ part_fits text inside front rest b e h =
 
 -- it has no parameters, and its bare item is built in place
 pub no_params : (d : Dialect) (text inside after more : List ℕ) (x : Bare)
-    → Behind is_sp text inside → ReadsAs (SpellsBare d) inside x after → after ≡ 59 ∷ more
+    → Skips is_sp text inside → ReadsAs (SpellsBare d) inside x after → after ≡ 59 ∷ more
     → TakesNoMemory kind.Item text → ⊥
 no_params d text inside after more x b r e w = ⊎_elim
     (λ k. no_first scalar_byte 59 after more e (parts scalar_byte text inside _ after b r.split k).1
@@ -146,7 +147,7 @@ no_params d text inside after more x b r e w = ⊎_elim
     (λ k. no_first short_byte 59 after more e (parts short_byte text inside _ after b r.split k.1).1
     refl) w
 
-pub item_fits : (d : Dialect) (text inside after : List ℕ) (l : Leaf) → Behind is_sp text inside
+pub item_fits : (d : Dialect) (text inside after : List ℕ) (l : Leaf) → Skips is_sp text inside
     → ReadsAs (SpellsBare d) inside (leaf_bare l) after → TakesNoMemory kind.Item text → FitsLeaf l
 item_fits d text inside after l b r w =
     leaf_fits d r.prefix l r.spelled (⊎_elim

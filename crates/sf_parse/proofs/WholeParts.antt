@@ -27,7 +27,8 @@ use Rattle.sf_parse.specs.Machine.Bares.{bare_step, bare_finish}
 use Rattle.sf_parse.specs.Machine.Params.{MoreParams}
 use Rattle.sf_parse.specs.declared.whole_parts.BehindItem.{BehindItem}
 use Rattle.sf_parse.specs.declared.whole_parts.Unread.{Unread}
-use Rattle.sf_parse.specs.WholeParts.{ReadsAs, ReadsParam, ReadsItems, AddsItem, Behind}
+use Rattle.sf_parse.specs.WholeParts.{ReadsAs, ReadsParam, ReadsItems, AddsItem}
+use Rattle.sf_value.specs.Runs.{Skips}
 use Rattle.sf_parse.specs.WholeParts.{BeginsMember}
 use Rattle.sf_parse.proofs.Machine.Language.{and_then_cases}
 use Rattle.sf_parse.proofs.Machine.Bares.{bare_reads, bare_lives}
@@ -76,7 +77,7 @@ pub bare_machine : Machine BareState Bare GoodBare ResidualBare bare_step bare_f
 bare_machine = record { reads = bare_reads; lives = bare_lives }
 
 -- a parameter
-pub param_after : (d : Dialect) (text inside key rest : List ℕ) (x : Bare) → Behind is_sp text inside
+pub param_after : (d : Dialect) (text inside key rest : List ℕ) (x : Bare) → Skips is_sp text inside
     → ReadsParam d inside key x rest → ReadsParam d text key x rest
 param_after d text inside key rest x b p = by p.spelled
   where
@@ -201,7 +202,7 @@ spaces_before d least low gap suffix (i ∷ is) h k (g, f, b, e, sp, l, x, r) = 
 )
 
 pub items_after : (d : Dialect) (text inside rest : List ℕ) (old new : List Item)
-    → Behind is_sp text inside → ReadsItems d 0 inside old new rest
+    → Skips is_sp text inside → ReadsItems d 0 inside old new rest
     → ReadsItems d 0 text old new rest
 items_after d text inside rest old new b i = record {
   prefix = b.prefix ++ i.prefix;
@@ -215,7 +216,7 @@ items_after d text inside rest old new b i = record {
 }
 
 pub items_apart : (d : Dialect) (text more inside rest : List ℕ) (old new : List Item)
-    → text ≡ 32 ∷ more → Behind is_sp more inside → ReadsItems d 0 inside old new rest
+    → text ≡ 32 ∷ more → Skips is_sp more inside → ReadsItems d 0 inside old new rest
     → ReadsItems d 1 text old new rest
 items_apart d text more inside rest old new e b i = record {
   prefix = (32 ∷ b.prefix) ++ i.prefix;
@@ -349,7 +350,7 @@ param_shorter d text key rest more x p e =
     omega arith
 
 pub item_shorter : (d : Dialect) (text rest more inside : List ℕ) (i : Item)
-    → ReadsAs (SpellsItem d) text i rest → rest ≡ 32 ∷ more → Behind is_sp more inside
+    → ReadsAs (SpellsItem d) text i rest → rest ≡ 32 ∷ more → Skips is_sp more inside
     → length inside < length text
 item_shorter d text rest more inside i r e s =
     let a : length text ≡ length (r.prefix ++ rest) = ap length r.split in

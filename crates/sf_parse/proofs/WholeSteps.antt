@@ -23,7 +23,8 @@ use Rattle.sf_parse.specs.Machine.Items.{item_finish}
 use Rattle.sf_parse.specs.Machine.Inners.{BetweenItems, InItem}
 use Rattle.sf_parse.specs.Machine.Members.{InMany, member_step}
 use Rattle.sf_parse.specs.Prefixes.{Goes}
-use Rattle.sf_parse.specs.WholeParts.{ReadsAs, ReadsParam, Behind}
+use Rattle.sf_parse.specs.WholeParts.{ReadsAs, ReadsParam}
+use Rattle.sf_value.specs.Runs.{Skips}
 use Rattle.sf_parse.proofs.Machine.Language.{is_none}
 use Rattle.sf_parse.proofs.Machine.Bares.{bare_starts, bare_apart}
 use Rattle.sf_parse.proofs.Machine.Items.{item_reads, item_starts, item_lives, item_apart, no_item, item_not}
@@ -128,7 +129,7 @@ module _ (d : Dialect) where
       by false f false g = rw (f, g, e) refl
 
   pub item_goes : (is new : List Item) (text rest more inside : List ℕ) (i : Item)
-      → ReadsAs (SpellsItem d) text i rest → rest ≡ 32 ∷ more → Behind is_sp more inside
+      → ReadsAs (SpellsItem d) text i rest → rest ≡ 32 ∷ more → Skips is_sp more inside
       → new ≡ is ++ i ∷ []
       → Goes (member_step d) (InMany (BetweenItems is)) text inside (InMany (BetweenItems new))
   item_goes is new text rest more inside i r e b f =

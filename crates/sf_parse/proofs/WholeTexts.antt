@@ -19,7 +19,8 @@ use Rattle.sf_value.specs.Grammar.Fields.{SpellsField}
 use Rattle.sf_parse.specs.Machine.Series.{SeriesState, Begin}
 use Rattle.sf_parse.specs.SeriesView.{series_next, series_end}
 use Rattle.sf_parse.specs.declared.series.SeriesPhase.{SeriesPhase}
-use Rattle.sf_parse.specs.WholeParts.{ReadsAs, Behind}
+use Rattle.sf_parse.specs.WholeParts.{ReadsAs}
+use Rattle.sf_value.specs.Runs.{Skips}
 use Rattle.sf_parse.specs.WholeMembers.{TakesMembers, NoneOpen, MayEnd}
 use Rattle.sf_parse.proofs.GrammarLaws.{one_value}
 use Rattle.sf_parse.proofs.ByteRuns.{stay_goes}
@@ -155,8 +156,8 @@ whole_free d kind s t text (b ∷ rest) found e h a f n =
     absurd (let k : true ≡ false = sym (ap is_some f) ∙ n in cc)
 
 -- an Item between spaces that are all of the text
-pub item_parsed : (d : Dialect) (text inside after end : List ℕ) (i : Item) → Behind is_sp text inside
-    → ReadsAs (SpellsItem d) inside i after → Behind is_sp after end → end ≡ []
+pub item_parsed : (d : Dialect) (text inside after end : List ℕ) (i : Item) → Skips is_sp text inside
+    → ReadsAs (SpellsItem d) inside i after → Skips is_sp after end → end ≡ []
     → IsOnly d kind_is.Item text (field_is.Item i)
 item_parsed d text inside after end i a r b e =
     let spelled : SpellsField d kind_is.Item text (field_is.Item i) = (
@@ -197,7 +198,7 @@ module _ {S X V : Type 0} (first : ℕ → Option S) (next : S → ℕ → Optio
   above = goes_above (series_next first next added none) (step d) into
       (λ s t b e. steps s b ∙ ap (option_map into) e)
 
-  spaces_go : (text inside : List ℕ) → Behind is_sp text inside
+  spaces_go : (text inside : List ℕ) → Skips is_sp text inside
       → Goes (series_next first next added none) Begin text inside Begin
   spaces_go text inside b =
       stay_goes (series_next first next added none) is_sp Begin b.prefix inside text
@@ -205,7 +206,7 @@ module _ {S X V : Type 0} (first : ℕ → Option S) (next : S → ℕ → Optio
 
   -- whole members, and nothing else
   pub members_parsed : (text inside rest : List ℕ) (p : SeriesPhase) (given : V) (s : S)
-      (v : Field) → Behind is_sp text inside
+      (v : Field) → Skips is_sp text inside
       → TakesMembers (series_next first next added none) (series_end added none) true Begin inside
       rest p given s
       → NoneOpen none p given → MayEnd p → rest ≡ []

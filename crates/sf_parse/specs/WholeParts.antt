@@ -13,6 +13,7 @@ use Rattle.sf_value.specs.Grammar.Pairs.{Pairs}
 use Rattle.sf_value.specs.Grammar.Parameters.{SpellsParam}
 use Rattle.sf_value.specs.Grammar.InnerLists.{SpellsItems}
 use Rattle.sf_scan.specs.Leaves.{leaf_bare}
+use Rattle.sf_value.specs.Runs.{Skips}
 use Rattle.sf_parse.specs.declared.whole_parts.BehindItem.{BehindItem}
 use Rattle.sf_parse.specs.declared.whole_parts.BehindItem.TheVariants as behind
 use Rattle.sf_parse.specs.declared.whole_parts.Found.{Found}
@@ -24,12 +25,6 @@ pub record ReadsAs {X : Type 0} (P : List ℕ → X → Type 0) (text : List ℕ
   pub split : text ≡ prefix ++ rest
   pub spelled : P prefix x
 
--- bytes that pass the test are before the rest
-pub record Behind (p : ℕ → Bool) (text rest : List ℕ) : Type 0 where
-  pub prefix : List ℕ
-  pub split : text ≡ prefix ++ rest
-  pub each : Every p prefix
-
 -- the start of the text spells a parameter after its semicolon
 pub record ReadsParam (d : Dialect) (text key : List ℕ) (x : Bare) (rest : List ℕ)
     : Type 0 where
@@ -40,7 +35,7 @@ pub record ReadsParam (d : Dialect) (text key : List ℕ) (x : Bare) (rest : Lis
 -- after an Item of an Inner List come one or more spaces, or the closing bracket
 abbrev pub IsBehindItem : List ℕ → BehindItem → Type 0
 IsBehindItem text (behind.Open rest) =
-    (more : List ℕ) × (text ≡ space ∷ more) × Behind is_sp more rest.now
+    (more : List ℕ) × (text ≡ space ∷ more) × Skips is_sp more rest.now
 IsBehindItem text (behind.Closed rest) = text ≡ close_bracket ∷ rest.now
 
 -- the start of the text spells an Item, which is added to the old ones

@@ -25,8 +25,8 @@ use crate::member::MemberReader;
 use crate::refusal::Refusal;
 use crate::refusing::refuse_text;
 use crate::series::{SeriesPhase, SeriesReader, add_members, are_all};
-use crate::whole_parts::{after_spaces, read_params};
-use sf_value::classes::ends;
+use crate::whole_parts::read_params;
+use sf_value::classes::{after_spaces, ends};
 use sf_value::{Dict, Entries, Item, Kind, List, Member, OutOfMemory, Sequence};
 
 /// The members of a List that are being read.

@@ -5,7 +5,6 @@ ghost use Rattle.std.specs.Prelude.{◌≡◌, ◌++◌, ◌∷◌, ℕ, List, [
 ghost use Rattle.std.specs.Prelude.{IfSome, IfOk, OnOk, OnErr};
 ghost use Rattle.sf_value.specs.Ascii.{open_bracket, semicolon};
 ghost use Rattle.sf_value.specs.Grammar.BareItems.{SpellsBare};
-ghost use Rattle.sf_value.specs.Grammar.Classes.{is_sp};
 ghost use Rattle.sf_value.specs.Grammar.Fields.{SpellsEntry};
 ghost use Rattle.sf_value.specs.Grammar.InnerLists.{SpellsInner, SpellsMember};
 ghost use Rattle.sf_value.specs.Grammar.Items.{item as item_of};
@@ -18,7 +17,7 @@ ghost use Rattle.sf_parse.specs.Machine.Inners.{BetweenItems};
 ghost use Rattle.sf_parse.specs.Machine.Members.{InMany, member_step};
 ghost use Rattle.sf_parse.specs.Machine.Params.{Opened, params_step};
 ghost use Rattle.sf_parse.specs.Prefixes.{Goes};
-ghost use Rattle.sf_parse.specs.WholeParts.{ReadsAs, ReadsParam, Behind, BeginsMember};
+ghost use Rattle.sf_parse.specs.WholeParts.{ReadsAs, ReadsParam, BeginsMember};
 ghost use Rattle.sf_parse.specs.WholeParts.{ReadsItems, IsBehindItem, AddsItem};
 ghost use Rattle.sf_parse.specs.WholeParts.{found_member};
 ghost use Rattle.sf_parse.specs.declared.whole_parts.Unread.TheVariants as unread_is;
@@ -28,7 +27,7 @@ use crate::context::Context;
 use crate::leaf::{find_leaf, make};
 use sf_scan::leaf::Leaf;
 use sf_scan::param::find_key;
-use sf_value::classes::{Space, few_prefix, split, strip_byte};
+use sf_value::classes::{after_spaces, split, strip_byte};
 use sf_value::{
     Bare, Dialect, Entries, Inner, Item, Key, Member, OutOfMemory, Sequence, ShortBytes,
     can_start_key,
@@ -37,15 +36,6 @@ use sf_value::{
 /// Whole parts are looked for only in chunks of at least this many bytes. A smaller chunk seldom
 /// has a whole part and what follows it, and would take more time.
 pub const WHOLE_PARTS: usize = 64;
-
-/// The rest after spaces.
-#[inline(always)]
-pub fn after_spaces(text: &[u8]) -> &[u8]
-    ensures { Behind is_sp text.now result.now }
-{
-    let (_, rest) = few_prefix::<Space>(text);
-    rest
-}
 
 /// What was found of a parameter or of a member that is an Item: its key and its bare item. A member
 /// of a List has no key.

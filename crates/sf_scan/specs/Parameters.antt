@@ -7,7 +7,7 @@ use Rattle.sf_value.specs.Grammar.Parameters.{SpellsParam}
 use Rattle.sf_scan.specs.Leaves.{leaf_bare}
 use Rattle.sf_scan.specs.Places.{in_param, ends_params}
 use Rattle.sf_scan.specs.Stops.{Reads, Refuses}
-use Rattle.sf_scan.specs.declared.param.Param.{Param}
+use Rattle.sf_scan.specs.declared.leaf.Param.{Param}
 use Rattle.sf_scan.specs.declared.place.Stop.{Stop}
 use Rattle.sf_scan.specs.declared.place.ParamPlace.{ParamPlace}
 

@@ -20,7 +20,7 @@ pub enum FieldPlace {
     Start,
     /// In the Item, or after it.
     InItem(ItemPlace),
-    /// After a space behind the Item.
+    /// After a space that follows the Item.
     Spaces,
 }
 

@@ -1,4 +1,4 @@
-//! Bare items that point into the text.
+//! Bare items and parameters that point into the text.
 
 /// A bare item of a text.
 #[derive(Clone, Copy)]
@@ -23,4 +23,13 @@ pub enum Leaf<'a> {
     Display(&'a [u8]),
     /// A Boolean.
     Boolean(bool),
+}
+
+/// A parameter of a text.
+#[derive(Clone, Copy)]
+pub struct Param<'a> {
+    /// The bytes of its key.
+    pub key: &'a [u8],
+    /// Its value.
+    pub leaf: Leaf<'a>,
 }

@@ -6,8 +6,7 @@ ghost use Rattle.sf_scan.specs.Parameters.{pair_of};
 ghost use Rattle.std.specs.Option.{option_map};
 ghost use Rattle.sf_scan.specs.Makers.{found_or};
 
-use crate::leaf::Leaf;
-use crate::param::Param;
+use crate::leaf::{Leaf, Param};
 use std::alloc::{AllocError, Global};
 use std::convert::Infallible;
 use std::marker::Model;

@@ -90,7 +90,7 @@ fn fraction(
     Ok((stop, decimal))
 }
 
-/// How many thousandths one unit of the last digit is, with this many digits behind the point.
+/// How many thousandths one unit of the last digit is, with this many digits after the point.
 #[inline(always)]
 fn scale(count: u8) -> u64
     requires { count ≤ 3 }

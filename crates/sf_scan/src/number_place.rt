@@ -15,7 +15,7 @@ pub enum NumberPlace {
     /// After this many digits of an Integer or, before its point, of a Decimal. If there are none,
     /// after the minus sign.
     Whole(u8),
-    /// After this many digits of a Decimal behind its point. If there are none, after the point.
+    /// After this many digits of a Decimal's fraction. If there are none, after the point.
     Fraction(u8),
     /// After the `@` of a Date.
     At,

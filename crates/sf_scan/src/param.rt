@@ -7,20 +7,11 @@ ghost use Rattle.sf_scan.specs.Makers.{ScansParams};
 ghost use Rattle.sf_value.specs.Runs.{Lacks};
 
 use crate::bare::{AsLeaf, bare};
-use crate::leaf::Leaf;
+use crate::leaf::{Leaf, Param};
 use crate::maker::Maker;
 use crate::place::{Halt, ParamPlace, Stop};
 use sf_value::classes::{InKey, Space, any_prefix, few_prefix, split, strip_byte};
 use sf_value::{Dialect, can_start_key};
-
-/// A parameter of a text.
-#[derive(Clone, Copy)]
-pub struct Param<'a> {
-    /// The bytes of its key.
-    pub key: &'a [u8],
-    /// Its value.
-    pub leaf: Leaf<'a>,
-}
 
 /// Gives the maker each parameter that the text begins with, repeated keys included, and returns
 /// where they stop. A fault of the maker is returned at once.

@@ -63,7 +63,7 @@ pub enum SeriesPlace<P> {
     Start,
     /// In a member, or after it.
     InMember(P),
-    /// After a space or tab behind a member.
+    /// After a space or tab that follows a member.
     Spaces,
     /// After a comma, and spaces and tabs: before a member.
     Comma,

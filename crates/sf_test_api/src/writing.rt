@@ -356,7 +356,7 @@ fn counts_of_bare_items_go_on(rt: HostRuntime) {
     check_text(&rt, out.into_inner(), "end..7\"a\\\"\"");
 }
 
-/// Behind a fault nothing is sent, and the fault stays.
+/// After a fault nothing is sent, and the fault stays.
 #[test]
 fn faults_go_on(rt: HostRuntime) {
     let mut out = Trickle::new(rt.alloc(), 2);

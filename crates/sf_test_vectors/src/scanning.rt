@@ -2,9 +2,9 @@
 use sf_scan::dict::dict;
 use sf_scan::inner::inner_list;
 use sf_scan::item::item;
-use sf_scan::leaf::Leaf;
+use sf_scan::leaf::{Leaf, Param};
 use sf_scan::maker::{Collect, Find, Nothing};
-use sf_scan::param::{Param, params};
+use sf_scan::param::params;
 use sf_scan::place::Halt;
 use sf_value::Dialect;
 use std::process::Abort;

@@ -1,5 +1,6 @@
 -- What a text begins with.
-use Rattle.std.specs.Prelude.{◌≡◌, ℕ, Bool, false, List, [], ◌∷◌, ⊤}
+use Rattle.std.specs.Prelude.{◌≡◌, ℕ, Bool, false, List, [], ◌∷◌, ◌++◌, ⊤}
+use Rattle.sf_value.specs.Grammar.Words.{Every}
 
 -- P holds for the first byte, if there is one
 abbrev pub FirstIs : (ℕ → Type 0) → List ℕ → Type 0
@@ -9,3 +10,9 @@ FirstIs P (b ∷ more) = P b
 -- the first byte, if there is one, fails the test
 abbrev pub Lacks : (ℕ → Bool) → List ℕ → Type 0
 Lacks p = FirstIs (λ b. p b ≡ false)
+
+-- the rest comes after bytes that pass the test; there may be none of them, and more may follow
+pub record Skips (p : ℕ → Bool) (text rest : List ℕ) : Type 0 where
+  pub prefix : List ℕ
+  pub split : text ≡ prefix ++ rest
+  pub each : Every p prefix

@@ -1,11 +1,12 @@
 //! Classes of bytes (RFC 9651 section 3), and what a text begins with: runs of them, and single
 //! bytes. A class is a type; each is tested here, once, for values, parsers and writers.
 ghost use Rattle.std.specs.Prelude.{◌≡◌, ◌≢◌, ◌≤◌, ◌<◌, ◌*◌, ◌++◌, [], ◌∷◌, ℕ, Bool, true, false};
-ghost use Rattle.std.specs.Prelude.{◌==◌, length, take, drop, not, MatchOption};
+ghost use Rattle.std.specs.Prelude.{◌==◌, length, take, drop, map, not, MatchOption};
 ghost use Rattle.sf_value.specs.Ascii.{percent};
 ghost use Rattle.std.specs.List.{prefix_len};
+ghost use Rattle.std.specs.Simd.Lanes.{mask_l};
 ghost use Rattle.sf_value.specs.Grammar.Words.{Every};
-ghost use Rattle.sf_value.specs.Runs.{FirstIs, Lacks};
+ghost use Rattle.sf_value.specs.Runs.{FirstIs, Lacks, Skips};
 ghost use Rattle.sf_value.specs.Grammar.Classes.{is_in_key, is_in_token, is_key_start, is_sp};
 ghost use Rattle.sf_value.specs.Grammar.Classes.{is_ows as is_ows_byte, is_token_start};
 ghost use Rattle.sf_value.specs.Grammar.Classes.{is_visible as is_visible_byte};
@@ -13,7 +14,6 @@ ghost use Rattle.sf_value.specs.Grammar.Strings.{is_unescaped, is_escaped};
 ghost use Rattle.sf_value.specs.Grammar.ByteSequences.{is_base64};
 ghost use Rattle.sf_value.specs.Grammar.DisplayStrings.{is_unencoded};
 
-use crate::lanes::{LANES, LaneClass};
 use std::simd::prelude::*;
 
 /// The flag of the bytes of a key after its first.
@@ -36,6 +36,9 @@ const BASE64: u8 = 32;
 
 /// The flag of the bytes of a display string that are written without an escape.
 const UNENCODED: u8 = 64;
+
+/// The number of bytes that are tested at a time.
+const LANES: usize = 16;
 
 /// After the first 16 bytes and this many more, 32 bytes are tested at a time instead of 16.
 const NEAR: usize = 48;
@@ -69,6 +72,14 @@ pub trait ByteClass {
     /// Whether the byte is of the class. It does not allocate.
     fn has(byte: u8) -> bool
         ensures { result ≡ test byte };
+}
+
+/// A class of bytes whose runs may be long.
+pub trait LaneClass: ByteClass {
+    /// The bytes that are not of the class, as bits of a number, the first as the lowest. It does
+    /// not allocate.
+    fn outside(bytes: u8x16) -> u64
+        ensures { result ≡ mask_l (map (λ b. not (Self.test b)) bytes) };
 }
 
 /// The first byte of a key (section 3.1.2).
@@ -422,6 +433,24 @@ fn many<C: ByteClass>(text: &[u8]) -> usize
 {
     let (run, _) = short_prefix::<C>(text);
     run.len()
+}
+
+/// The rest after spaces, of which there is mostly one or none. It does not allocate.
+#[inline(always)]
+pub fn after_spaces(text: &[u8]) -> &[u8]
+    ensures { Skips is_sp text.now result.now }
+{
+    let (_, rest) = few_prefix::<Space>(text);
+    rest
+}
+
+/// The rest after spaces and tabs. It does not allocate.
+#[inline(always)]
+pub fn after_ows(text: &[u8]) -> &[u8]
+    ensures { Skips is_ows_byte text.now result.now }
+{
+    let (_, rest) = few_prefix::<Ows>(text);
+    rest
 }
 
 /// The first byte, and the rest; `None` if there is none. It does not allocate.

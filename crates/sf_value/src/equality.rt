@@ -12,10 +12,11 @@ use crate::blob::Blob;
 use crate::display_string::Shown;
 use crate::entries::Entries;
 use crate::key::Key;
-use crate::part::{Part, same};
+use crate::part::Part;
 use crate::sequence::Sequence;
 use crate::text::Text;
 use crate::token::Token;
+use crate::tree::same;
 use crate::value::{Bare, Dict, Field, Inner, Item, List, Member};
 
 impl PartialEq for Key {

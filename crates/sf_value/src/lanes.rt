@@ -3,20 +3,9 @@ ghost use Rattle.std.specs.Prelude.{◌≡◌, map, not};
 ghost use Rattle.std.specs.Simd.Lanes.{mask_l};
 
 use crate::classes::{
-    Base64, ByteClass, InKey, InToken, NoBackslash, NoPercent, UnencodedByte, Unescaped, Visible,
+    Base64, InKey, InToken, LaneClass, NoBackslash, NoPercent, UnencodedByte, Unescaped, Visible,
 };
 use std::simd::prelude::*;
-
-/// The number of bytes that are tested at a time.
-pub(crate) const LANES: usize = 16;
-
-/// A class of bytes whose runs may be long.
-pub trait LaneClass: ByteClass {
-    /// The bytes that are not of the class, as bits of a number, the first as the lowest. It does
-    /// not allocate.
-    fn outside(bytes: u8x16) -> u64
-        ensures { result ≡ mask_l (map (λ b. not (Self.test b)) bytes) };
-}
 
 impl LaneClass for InKey {
     #[inline(always)]

@@ -5,9 +5,8 @@ ghost use Rattle.sf_value.specs.Faults.{bad_place, bad_word_place, IsWordFault, 
 ghost use Rattle.sf_value.specs.InPlace.{FitsInPlace};
 
 use crate::bytes::ShortBytes;
-use crate::classes::{ByteClass, long_prefix};
+use crate::classes::{ByteClass, LaneClass, long_prefix};
 use crate::fault::TextFault;
-use crate::lanes::LaneClass;
 use std::alloc::Global;
 
 /// The bytes of a word, which has a first byte of the class `S` and then bytes of `C`. Fails with

@@ -24,7 +24,7 @@ use Rattle.sf_value.proofs.Settling.{settle-distinct, settle_settle}
 use Rattle.sf_view.specs.declared.counting.Counts.{Counts}
 use Rattle.sf_view.specs.declared.counting.Uncounted.{Uncounted}
 use Rattle.sf_view.specs.declared.view.BareView.{BareView}
-use Rattle.sf_view.specs.Scans.{Behind}
+use Rattle.sf_value.specs.Runs.{Skips}
 use Rattle.sf_view.specs.Views.{IsBorrowed}
 use Rattle.sf_view.specs.View.{text_of}
 use Rattle.sf_view.specs.Reads.{ReadsBare, ReadsParam}
@@ -331,7 +331,7 @@ item_counts d text mid rest x n b n' b' m c r p one size e f =
     }
 
 -- the Items of an Inner List
-pub items_after : (d : Dialect) (text inside rest : List ℕ) (n b : ℕ) → Behind is_sp text inside
+pub items_after : (d : Dialect) (text inside rest : List ℕ) (n b : ℕ) → Skips is_sp text inside
     → CountsItems d 0 inside rest n b → CountsItems d 0 text rest n b
 items_after d text inside rest n b s i = record {
   prefix = s.prefix ++ i.prefix;
@@ -346,7 +346,7 @@ items_after d text inside rest n b s i = record {
 }
 
 pub items_apart : (d : Dialect) (text more inside rest : List ℕ) (n b : ℕ) → text ≡ 32 ∷ more
-    → Behind is_sp more inside → CountsItems d 0 inside rest n b → CountsItems d 1 text rest n b
+    → Skips is_sp more inside → CountsItems d 0 inside rest n b → CountsItems d 1 text rest n b
 items_apart d text more inside rest n b e s i = record {
   prefix = (32 ∷ s.prefix) ++ i.prefix;
   items = i.items;
@@ -405,7 +405,7 @@ ItemsSoFar d text rest n b =
     (s : List ℕ) (m c : ℕ) → CountsItems d 0 rest s m c
     → CountsItems d 0 text s (n + m) (b + c)
 
-pub items_first : (d : Dialect) (text inside : List ℕ) → Behind is_sp text inside
+pub items_first : (d : Dialect) (text inside : List ℕ) → Skips is_sp text inside
     → ItemsSoFar d text inside 0 0
 items_first d text inside e s m c i =
     items_are d text s m c (0 + m) (0 + c) (items_after d text inside s m c e i) (omega arith)
@@ -427,7 +427,7 @@ items_last d text rest after left n b m c n' b' far i e f g =
 
 pub items_next : (d : Dialect) (text rest after more inside : List ℕ) (n b m c n' b' : ℕ)
     → ItemsSoFar d text rest n b → CountsItem d rest after m c → after ≡ 32 ∷ more
-    → Behind is_sp more inside → n' ≡ n + m → b' ≡ b + c → ItemsSoFar d text inside n' b'
+    → Skips is_sp more inside → n' ≡ n + m → b' ≡ b + c → ItemsSoFar d text inside n' b'
 items_next d text rest after more inside n b m c n' b' far i e s f g = λ t k l r.
     items_are d text t (n + (m + k)) (b + (c + l)) (n' + k) (b' + l)
     (far t (m + k) (c + l)
@@ -676,8 +676,8 @@ dict_map_ok d text kept (Err w) s e f = tt
 
 -- an Item and the spaces around it
 pub item_field : (d : Dialect) (text start rest left : List ℕ) (c : Counts)
-    → Behind is_sp text start → CountsItem d start rest c.nodes c.bytes
-    → Behind is_sp rest left → left ≡ [] → HasCounts d kind.Item text c
+    → Skips is_sp text start → CountsItem d start rest c.nodes c.bytes
+    → Skips is_sp rest left → left ≡ [] → HasCounts d kind.Item text c
 item_field d text start rest left c b r a n = record {
   value = field.Item r.value;
   only =

@@ -14,20 +14,20 @@ use Rattle.sf_value.specs.Grammar.InnerLists.{SpellsMember}
 use Rattle.sf_value.specs.Grammar.Series.{SpellsWhole}
 use Rattle.sf_value.specs.Grammar.Fields.{SpellsEntry, list_of, dict_of}
 use Rattle.sf_parse.specs.Parsers.{IsOnly}
-use Rattle.sf_view.specs.Scans.{Behind}
+use Rattle.sf_value.specs.Runs.{Skips}
 use Rattle.sf_view.specs.Reads.{Reads}
 use Rattle.sf_view.specs.Cursors.{IsFirst, IsNext, Separates, Remains, left_in}
 use Rattle.sf_view.proofs.Members.{only_of}
 
 -- spaces to the end
-pub all_prefix : (p : ℕ → Bool) (text rest : List ℕ) → Behind p text rest → rest ≡ []
+pub all_prefix : (p : ℕ → Bool) (text rest : List ℕ) → Skips p text rest → rest ≡ []
     → Every p text
 all_prefix p text rest b n =
     subst (Every p) (sym (b.split ∙ ap (λ y. b.prefix ++ y) n ∙ append-nil b.prefix)) b.each
 
 -- a comma with OWS around it
-pub separates : (text white more rest : List ℕ) → Behind is_ows text white → white ≡ 44 ∷ more
-    → Behind is_ows more rest → Separates text rest
+pub separates : (text white more rest : List ℕ) → Skips is_ows text white → white ≡ 44 ∷ more
+    → Skips is_ows more rest → Separates text rest
 separates text white more rest a e b = record {
   before = a.prefix;
   behind = b.prefix;
@@ -112,8 +112,8 @@ module _ {X : Type 0} (P : List ℕ → X → Type 0) where
   reached_end text g = g [] refl
 
 -- fields
-pub item_only : (d : Dialect) (text start rest left : List ℕ) → Behind is_sp text start
-    → Reads (SpellsItem d) start rest → Behind is_sp rest left → left ≡ []
+pub item_only : (d : Dialect) (text start rest left : List ℕ) → Skips is_sp text start
+    → Reads (SpellsItem d) start rest → Skips is_sp rest left → left ≡ []
     → (v : Field) × IsOnly d kind.Item text v
 item_only d text start rest left b r a n = (
   field.Item r.value,

@@ -18,7 +18,8 @@ use Rattle.sf_view.specs.declared.node.Node.{Node}
 use Rattle.sf_view.specs.declared.node_types.NodeType.TheVariants as type_is
 use Rattle.sf_view.specs.declared.node_types.Role.TheVariants as role_is
 use Rattle.sf_view.specs.View.{slice_at, DescribesBare, DescribesItem, DescribesItems, DescribesMember}
-use Rattle.sf_view.specs.Scans.{Behind, ScansKey, ScansItem, ScansItems, ItemsSoFar}
+use Rattle.sf_view.specs.Scans.{ScansKey, ScansItem, ScansItems, ItemsSoFar}
+use Rattle.sf_value.specs.Runs.{Skips}
 use Rattle.sf_view.specs.Scans.{ScansParams, ScansRest, ScansMember, ScansEntry}
 use Rattle.sf_view.specs.Scans.{node_from, sized, opening_of}
 use Rattle.sf_view.proofs.Ends.{end_further, end_slice, end_within}
@@ -61,7 +62,7 @@ describes_more d source ns ms (j ∷ is) i (prefix, suffix, e, h, r) t = (
 )
 
 pub items_none : (d : Dialect) (source text rest : List ℕ) (old : List Node) (at : ℕ)
-    → Behind is_sp text rest → at ≤ length old → ItemsSoFar d source text rest old old at at
+    → Skips is_sp text rest → at ≤ length old → ItemsSoFar d source text rest old old at at
 items_none d source text rest old at b h = record {
   prefix = b.prefix;
   values = [];
@@ -76,7 +77,7 @@ pub items_more : (d : Dialect) (source text rest after more left : List ℕ) (pl
     (old mid new : List Node) (at between count : ℕ)
     → ItemsSoFar d source text rest old mid at between
     → ScansItem d source rest after role_is.InnerItem place mid new between count
-    → place.at ≡ 0 → place.length ≡ 0 → after ≡ 32 ∷ more → Behind is_sp more left
+    → place.at ≡ 0 → place.length ≡ 0 → after ≡ 32 ∷ more → Skips is_sp more left
     → ItemsSoFar d source text left old new at count
 items_more d source text rest after more left place old mid new at between count s x zero none e b =
     let gap = 32 ∷ b.prefix in

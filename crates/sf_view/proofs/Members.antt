@@ -27,7 +27,8 @@ use Rattle.sf_view.specs.declared.item.KeyPlace.{KeyPlace}
 use Rattle.sf_view.specs.declared.node.Node.{Node}
 use Rattle.sf_view.specs.declared.node_types.Role.TheVariants as role_is
 use Rattle.sf_view.specs.View.{slice_at, DescribesItem, DescribesMember, DescribesMembers, DescribesEntries}
-use Rattle.sf_view.specs.Scans.{Behind, IsEnd, ScansItem, ScansMember, ScansEntry, Puts}
+use Rattle.sf_view.specs.Scans.{IsEnd, ScansItem, ScansMember, ScansEntry, Puts}
+use Rattle.sf_value.specs.Runs.{Skips}
 use Rattle.sf_view.specs.Scans.{keys_from, DistinguishKeys}
 use Rattle.sf_view.specs.declared.keys.Marks.{Marks}
 use Rattle.sf_view.specs.Marks.{mark_of, HaveMarks}
@@ -91,7 +92,7 @@ module _ {X : Type 0} (P : List ℕ → X → Type 0) where
   some_last xs x = omega (arith, length-append xs (x ∷ []))
 
   module _ (T : List Node → List X → Type 0) where
-    pub so_far_none : (text rest : List ℕ) (old : List Node) → Behind is_sp text rest → T [] []
+    pub so_far_none : (text rest : List ℕ) (old : List Node) → Skips is_sp text rest → T [] []
         → SoFar X P T text rest old old 0
     so_far_none text rest old b t = record {
       gap = b.prefix;
@@ -110,7 +111,7 @@ module _ {X : Type 0} (P : List ℕ → X → Type 0) where
         (U : List Node → List X → Type 0)
         → (s : SoFar X P T text rest old mid between) → rest ≡ f ++ after → P f x
         → Puts mid new between count ms → U (s.nodes ++ ms) (s.values ++ x ∷ [])
-        → Behind is_ows after white → white ≡ 44 ∷ more → Behind is_ows more left
+        → Skips is_ows after white → white ≡ 44 ∷ more → Skips is_ows more left
         → SoFar X P U text left old new count
     so_far_more text rest f after white more left x old mid new between count ms U s e h p t a c b =
         let step = f ++ (a.prefix ++ 44 ∷ b.prefix) in
@@ -148,7 +149,7 @@ module _ {X : Type 0} (P : List ℕ → X → Type 0) where
 
     pub so_far_last : (text rest f after white : List ℕ) (x : X) (old mid : List Node)
         (between : ℕ) → (s : SoFar X P T text rest old mid between) → rest ≡ f ++ after → P f x
-        → Behind is_ows after white → white ≡ [] → SpellsWhole P text (s.values ++ x ∷ [])
+        → Skips is_ows after white → white ≡ [] → SpellsWhole P text (s.values ++ x ∷ [])
     so_far_last text rest f after white x old mid between s e h a n =
         let tail : after ≡ a.prefix = a.split ∙ ap (λ y. a.prefix ++ y) n ∙ append-nil a.prefix in
         whole_of text s.gap (s.prefix ++ f) after (s.values ++ x ∷ []) (some_last s.values x)
@@ -259,9 +260,9 @@ only_of d k t v h = record { spelled = h; only = λ w i. one_value d k t w v i h
 
 -- an Item
 pub item_accepts : (d : Dialect) (text start rest left : List ℕ) (place : KeyPlace)
-    (old new : List Node) (count : ℕ) → Behind is_sp text start
+    (old new : List Node) (count : ℕ) → Skips is_sp text start
     → ScansItem d text start rest role_is.Member place old new 0 count → place.at ≡ 0 → place.length ≡ 0
-    → Behind is_sp rest left → left ≡ [] → Accepts d kind.Item text new count
+    → Skips is_sp rest left → left ≡ [] → Accepts d kind.Item text new count
 item_accepts d text start rest left place old new count b s zero none a n =
     let i : IsEnd text start = record { before = b.prefix; whole = b.split } in
     let tail : rest ≡ a.prefix = a.split ∙ ap (λ y. a.prefix ++ y) n ∙ append-nil a.prefix in
@@ -283,7 +284,7 @@ item_accepts d text start rest left place old new count b s zero none a n =
           (ap (λ y. slice_at place.at y text) none) (s.describes i (omega arith)));
     }
 
-pub empty_list : (d : Dialect) (text rest : List ℕ) (new : List Node) → Behind is_sp text rest
+pub empty_list : (d : Dialect) (text rest : List ℕ) (new : List Node) → Skips is_sp text rest
     → rest ≡ [] → Accepts d kind.List text new 0
 empty_list d text rest new b n =
     let all : text ≡ b.prefix = b.split ∙ ap (λ y. b.prefix ++ y) n ∙ append-nil b.prefix in
@@ -294,7 +295,7 @@ empty_list d text rest new b n =
       describes = refl;
     }
 
-pub empty_dict : (d : Dialect) (text rest : List ℕ) (new : List Node) → Behind is_sp text rest
+pub empty_dict : (d : Dialect) (text rest : List ℕ) (new : List Node) → Skips is_sp text rest
     → rest ≡ [] → Accepts d kind.Dict text new 0
 empty_dict d text rest new b n =
     let all : text ≡ b.prefix = b.split ∙ ap (λ y. b.prefix ++ y) n ∙ append-nil b.prefix in
@@ -309,7 +310,7 @@ pub list_more : (d : Dialect) (text rest after white more left : List ℕ) (plac
     (old mid new : List Node) (between count : ℕ)
     → SoFar Member (SpellsMember d) (DescribesMembers d text) text rest old mid between
     → ScansMember d text rest after place mid new between count → place.at ≡ 0
-    → place.length ≡ 0 → Behind is_ows after white → white ≡ 44 ∷ more → Behind is_ows more left
+    → place.length ≡ 0 → Skips is_ows after white → white ≡ 44 ∷ more → Skips is_ows more left
     → SoFar Member (SpellsMember d) (DescribesMembers d text) text left old new count
 list_more d text rest after white more left place old mid new between count s m zero none a c b =
     let i = rest_ends text rest old mid between s in
@@ -323,7 +324,7 @@ pub list_last : (d : Dialect) (text rest after white : List ℕ) (place : KeyPla
     (old mid new : List Node) (between count : ℕ)
     → SoFar Member (SpellsMember d) (DescribesMembers d text) text rest old mid between
     → ScansMember d text rest after place mid new between count → place.at ≡ 0
-    → place.length ≡ 0 → Behind is_ows after white → white ≡ []
+    → place.length ≡ 0 → Skips is_ows after white → white ≡ []
     → Accepts d kind.List text new count
 list_last d text rest after white place old mid new between count s m zero none a n =
     let i = rest_ends text rest old mid between s in
@@ -373,7 +374,7 @@ pub dict_more : (d : Dialect) (text rest after white more left : List ℕ)
     → ScansEntry d text rest after mark mid new between count
     → ((ks : List (List ℕ)) (k : List ℕ) → mark ≡ mark_of k → HaveMarks marks ks
     → HaveMarks marks_2 (ks ++ k ∷ []))
-    → Behind is_ows after white → white ≡ 44 ∷ more → Behind is_ows more left
+    → Skips is_ows after white → white ≡ 44 ∷ more → Skips is_ows more left
     → SoFar (List ℕ × Member) (SpellsEntry d) (DescribesMarked d text marks_2) text left old new count
 dict_more d text rest after white more left old mid new between count mark marks marks_2 s m w a c b =
     let i = rest_ends text rest old mid between s in
@@ -429,7 +430,7 @@ read_all : (d : Dialect) (text rest after white : List ℕ)
     → ScansEntry d text rest after mark mid new between count
     → ((ks : List (List ℕ)) (k : List ℕ) → mark ≡ mark_of k → HaveMarks marks ks
     → HaveMarks marks_2 (ks ++ k ∷ []))
-    → Behind is_ows after white → white ≡ [] → Read d text marks_2 new count
+    → Skips is_ows after white → white ≡ [] → Read d text marks_2 new count
 read_all d text rest after white old mid new between count mark marks marks_2 s m w a n =
     let i = rest_ends text rest old mid between s in
     let p = puts_then old mid new 0 between count s.nodes m.nodes s.puts m.puts in
@@ -452,7 +453,7 @@ pub dict_last : (d : Dialect) (text rest after white : List ℕ)
     → ScansEntry d text rest after mark mid new between count
     → ((ks : List (List ℕ)) (k : List ℕ) → mark ≡ mark_of k → HaveMarks marks ks
     → HaveMarks marks_2 (ks ++ k ∷ []))
-    → Behind is_ows after white
+    → Skips is_ows after white
     → white ≡ [] → DistinguishKeys marks_2 text (take count new) → Accepts d kind.Dict text new count
 dict_last d text rest after white old mid new between count mark marks marks_2 s m w a n apart =
     let r = read_all d text rest after white old mid new between count mark marks marks_2 s m w a n in
@@ -475,7 +476,7 @@ pub dict_raw : (d : Dialect) (text rest after white : List ℕ)
     → ScansEntry d text rest after mark mid new between count
     → ((ks : List (List ℕ)) (k : List ℕ) → mark ≡ mark_of k → HaveMarks marks ks
     → HaveMarks marks_2 (ks ++ k ∷ []))
-    → Behind is_ows after white
+    → Skips is_ows after white
     → white ≡ [] → IsRaw d kind.Dict text (take count new)
 dict_raw d text rest after white old mid new between count mark marks marks_2 s m w a n =
     let r = read_all d text rest after white old mid new between count mark marks marks_2 s m w a n in

@@ -22,7 +22,8 @@ use Rattle.sf_view.specs.declared.node_types.Role.{Role}
 use Rattle.sf_view.specs.declared.node_types.Role.TheVariants as role_is
 use Rattle.sf_view.specs.NodeTypes.{type_number, is_coded, coded_number}
 use Rattle.sf_view.specs.View.{slice_at, DescribesText, DescribesBare, DescribesParams}
-use Rattle.sf_view.specs.Scans.{Behind, IsEnd, ScansKey, ScansBare, ScansParam, ScansRaw}
+use Rattle.sf_view.specs.Scans.{IsEnd, ScansKey, ScansBare, ScansParam, ScansRaw}
+use Rattle.sf_value.specs.Runs.{Skips}
 use Rattle.sf_view.specs.Scans.{ScansParams, ScansRest, PartDescribes, Puts, node_from, sized}
 use Rattle.sf_view.specs.Scans.{keys_from, DistinguishKeys}
 use Rattle.sf_view.specs.declared.keys.Marks.{Marks}
@@ -34,7 +35,7 @@ use Rattle.sf_view.proofs.Putting.{puts_none, puts_then, puts_one, puts_first}
 
 -- where the key of a parameter is
 key_there : (whole : ℕ) (text named after : List ℕ) (place : KeyPlace)
-    → Behind is_sp text named → (k : ScansKey whole named place after)
+    → Skips is_sp text named → (k : ScansKey whole named place after)
     → (source : List ℕ) → IsEnd source (59 ∷ text) → length source ≡ whole
     → (place.at + place.length ≤ length source) × (slice_at place.at place.length source ≡ k.prefix)
 key_there whole text named after place b k source e w =
@@ -48,7 +49,7 @@ key_there whole text named after place b k source e w =
     )
 
 pub flag_scans : (d : Dialect) (whole : ℕ) (text named after : List ℕ) (place : KeyPlace)
-    (p : Part) → Behind is_sp text named → ScansKey whole named place after → p.node_type ≡ type_is.Boolean
+    (p : Part) → Skips is_sp text named → ScansKey whole named place after → p.node_type ≡ type_is.Boolean
     → p.number ≡ pos 1 → p.at ≡ 0 → p.length ≡ 0 → p.coded ≡ false
     → ScansParam d whole (59 ∷ text) place p after
 flag_scans d whole text named after place p b k node_type number at size coded = record {
@@ -75,7 +76,7 @@ flag_scans d whole text named after place p b k node_type number at size coded =
 }
 
 pub value_scans : (d : Dialect) (whole : ℕ) (text named after behind rest : List ℕ)
-    (place : KeyPlace) (p : Part) → Behind is_sp text named → ScansKey whole named place after
+    (place : KeyPlace) (p : Part) → Skips is_sp text named → ScansKey whole named place after
     → after ≡ 61 ∷ behind → ScansBare d whole behind p rest
     → ScansParam d whole (59 ∷ text) place p rest
 value_scans d whole text named after behind rest place p b k e x =

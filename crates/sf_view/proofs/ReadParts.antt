@@ -19,7 +19,7 @@ use Rattle.sf_scan.specs.declared.place.Stop.{Stop}
 use Rattle.sf_scan.specs.Leaves.{leaf_bare}
 use Rattle.sf_view.specs.declared.view.BareView.{BareView}
 use Rattle.sf_view.specs.declared.view.BareView.TheVariants as view_is
-use Rattle.sf_view.specs.Scans.{Behind}
+use Rattle.sf_value.specs.Runs.{Skips}
 use Rattle.sf_view.specs.Views.{IsBorrowed}
 use Rattle.sf_view.specs.Reads.{Reads, ReadsBare, ReadsParam, ReadsItems, ReadsMember, ReadsEntry}
 use Rattle.sf_view.proofs.Inners.{spaces_before, item_before}
@@ -40,7 +40,7 @@ bare_reads d text stop b m =
     }
 
 -- a parameter
-pub flag_reads : (d : Dialect) (text named key after : List ℕ) → Behind is_sp text named
+pub flag_reads : (d : Dialect) (text named key after : List ℕ) → Skips is_sp text named
     → named ≡ key ++ after → IsKey key
     → ReadsParam d (59 ∷ text) key (view_is.Boolean true) after
 flag_reads d text named key after b e k = record {
@@ -56,7 +56,7 @@ flag_reads d text named key after b e k = record {
 }
 
 pub value_reads : (d : Dialect) (text named key after inside rest : List ℕ) (x : BareView)
-    → Behind is_sp text named → named ≡ key ++ after → IsKey key → after ≡ 61 ∷ inside
+    → Skips is_sp text named → named ≡ key ++ after → IsKey key → after ≡ 61 ∷ inside
     → ReadsBare d inside x rest → ReadsParam d (59 ∷ text) key x rest
 value_reads d text named key after inside rest x b e k f r = record {
   prefix = 59 ∷ (b.prefix ++ (key ++ 61 ∷ r.prefix));
@@ -100,7 +100,7 @@ item_reads d text mid rest x b r = record {
 }
 
 -- the Items of an Inner List: those after spaces, none, or one before others
-pub items_after : (d : Dialect) (text inside rest : List ℕ) → Behind is_sp text inside
+pub items_after : (d : Dialect) (text inside rest : List ℕ) → Skips is_sp text inside
     → ReadsItems d 0 inside rest → ReadsItems d 0 text rest
 items_after d text inside rest b i = record {
   prefix = b.prefix ++ i.prefix;
@@ -113,7 +113,7 @@ items_after d text inside rest b i = record {
 }
 
 pub items_apart : (d : Dialect) (text more inside rest : List ℕ) → text ≡ 32 ∷ more
-    → Behind is_sp more inside → ReadsItems d 0 inside rest → ReadsItems d 1 text rest
+    → Skips is_sp more inside → ReadsItems d 0 inside rest → ReadsItems d 1 text rest
 items_apart d text more inside rest e b i = record {
   prefix = (32 ∷ b.prefix) ++ i.prefix;
   items = i.items;

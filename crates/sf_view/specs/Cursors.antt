@@ -12,13 +12,13 @@ use Rattle.sf_value.specs.Grammar.Series.{SpellsSeries}
 use Rattle.sf_value.specs.Grammar.Fields.{SpellsEntry}
 use Rattle.sf_view.specs.declared.cursor.DictCursor.{DictCursor}
 use Rattle.sf_view.specs.declared.cursor.EntryView.{EntryView}
-use Rattle.sf_view.specs.Scans.{Behind}
+use Rattle.sf_value.specs.Runs.{Skips}
 use Rattle.sf_view.specs.Reads.{ShowsMember}
 
 -- the text from the first member on, after spaces; none if there are only spaces
 abbrev pub IsFirst : List ℕ → Option (List ℕ) → Type 0
 IsFirst text None = Every is_sp text
-IsFirst text (Some rest) = Behind is_sp text rest
+IsFirst text (Some rest) = Skips is_sp text rest
 
 -- the rest is after OWS, a comma and OWS
 pub record Separates (text rest : List ℕ) : Type 0 where

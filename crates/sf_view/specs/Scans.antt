@@ -30,12 +30,6 @@ use Rattle.sf_view.specs.View.{DescribesMember}
 use Rattle.sf_view.specs.Marks.{mark_of, HaveMarks}
 use Rattle.std.specs.Map.{keys_of}
 
--- bytes that pass the test are before the rest
-pub record Behind (p : ℕ → Bool) (text rest : List ℕ) : Type 0 where
-  pub prefix : List ℕ
-  pub split : text ≡ prefix ++ rest
-  pub each : Every p prefix
-
 -- the source ends in this text
 pub record IsEnd (source text : List ℕ) : Type 0 where
   pub before : List ℕ

@@ -8,8 +8,8 @@ ghost use Rattle.sf_value.specs.Grammar.DisplayStrings.{hex};
 ghost use Rattle.sf_view.specs.Decoding.{HasBytes, Remains, TakesByte, TakesRun, GivesByte};
 ghost use Rattle.sf_view.specs.Decoding.{NoLetter};
 
-use crate::classes::{UnencodedByte, Unescaped, long_prefix};
 use crate::view::Slice;
+use sf_value::classes::{UnencodedByte, Unescaped, long_prefix};
 use sf_value::{sextet, unhex};
 
 /// How the rest of a text spells bytes.

@@ -9,12 +9,12 @@ ghost use Rattle.sf_view.specs.Marks.{mark_of};
 ghost use Rattle.sf_view.specs.View.{text_of};
 ghost use Rattle.sf_view.specs.Views.{IsBorrowed};
 
-use crate::classes::{after_spaces, ends, strip_byte};
 use crate::cursor::{first_start, next_start};
 use crate::keys::{Marks, PROBES, enter, tag};
 use crate::text_parts::{read_bare, read_param};
 use crate::view::BareView;
 use sf_scan::param::find_key;
+use sf_value::classes::{after_spaces, ends, strip_byte};
 use sf_value::{Dialect, Entries, Kind};
 use std::alloc::Global;
 use std::hash::RandomState;

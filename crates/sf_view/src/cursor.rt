@@ -13,9 +13,9 @@ ghost use Rattle.sf_view.specs.Cursors.{IsFirst, IsNext, RemainsInDict, ReadsNex
 ghost use Rattle.sf_view.specs.Cursors.{integer_in, boolean_in, left_in};
 ghost use Rattle.sf_view.specs.Reads.{ShowsMember};
 
-use crate::classes::{after_spaces, after_white, ends, strip_byte};
 use crate::text_parts::{after_item, read_entry, read_member};
 use crate::view::BareView;
+use sf_value::classes::{after_ows, after_spaces, ends, strip_byte};
 use sf_value::{Dialect, Kind};
 
 /// The members of a Dictionary, read from its text one after another. It does not allocate.
@@ -178,9 +178,9 @@ pub(crate) fn first_start(text: &[u8]) -> Option<&[u8]>
 pub(crate) fn next_start(text: &[u8]) -> Option<Option<&[u8]>>
     ensures { IfSome result (λ start. IsNext text.now (option_copied start)) }
 {
-    let white = after_white(text);
+    let white = after_ows(text);
     if ends(white) {
         return Some(None);
     }
-    Some(Some(after_white(strip_byte(white, b',')?)))
+    Some(Some(after_ows(strip_byte(white, b',')?)))
 }

@@ -10,13 +10,13 @@ ghost use Rattle.sf_view.specs.Settling.{HasParts};
 ghost use Rattle.sf_view.specs.Views.{IsViewed};
 
 use crate::buffer::most_nodes;
-use crate::classes::{after_spaces, after_white, ends, strip_byte};
 use crate::item::{KeyPlace, NO_KEY, Scan, scan_entry, scan_member};
 use crate::keys::Marks;
 use crate::node::Node;
 use crate::series::{scan_parts, whole_item};
 use crate::settling::{settle_into, settled_nodes};
 use crate::view::View;
+use sf_value::classes::{after_ows, after_spaces, ends, strip_byte};
 use sf_value::{Dialect, Kind, OutOfMemory};
 use std::alloc::Global;
 
@@ -157,14 +157,14 @@ fn list_from<'a>(
         let Some(scan) = member_after(dialect, text, rest, NO_KEY, nodes, count) else {
             return Err(Scan { rest, count });
         };
-        let white = after_white(scan.rest);
+        let white = after_ows(scan.rest);
         if ends(white) {
             return Ok(scan.count);
         }
         let Some(more) = strip_byte(white, b',') else {
             return Err(Scan { rest, count });
         };
-        rest = after_white(more);
+        rest = after_ows(more);
         count = scan.count;
     }
 }
@@ -258,7 +258,7 @@ fn dict_from<'a>(
             });
         };
         let later_marks = marks.with(mark);
-        let white = after_white(scan.rest);
+        let white = after_ows(scan.rest);
         if ends(white) {
             if are_apart(from.settled, later_marks, text, &nodes[..scan.count]) {
                 return Ok(scan.count);
@@ -274,7 +274,7 @@ fn dict_from<'a>(
                 settled: from.settled,
             });
         };
-        rest = after_white(more);
+        rest = after_ows(more);
         count = scan.count;
         marks = later_marks;
     }

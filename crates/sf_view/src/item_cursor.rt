@@ -7,11 +7,11 @@ ghost use Rattle.sf_value.specs.Grammar.Series.{SpellsWhole};
 ghost use Rattle.sf_view.specs.Cursors.{left_in};
 ghost use Rattle.sf_view.specs.ItemCursors.{RemainsInList, RemainsInItem, ReadsNextItem, ReadsNextParam};
 
-use crate::classes::strip_byte;
 use crate::cursor::{first_start, next_start};
 use crate::text_parts::{read_bare, read_param};
 use crate::view::BareView;
 use sf_value::Dialect;
+use sf_value::classes::strip_byte;
 
 /// The members of a List of Items, read from its text one after another. It does not allocate, and
 /// declines a List with an Inner List.

@@ -8,7 +8,6 @@ mod bare_view;
 mod buffer;
 mod building;
 mod bytes;
-mod classes;
 mod copies;
 mod counting;
 mod cursor;

@@ -4,11 +4,11 @@ ghost use Rattle.sf_value.specs.declared.value.Kind.TheVariants as kind_is;
 ghost use Rattle.sf_view.specs.Accepts.{Accepts};
 ghost use Rattle.sf_view.specs.Settling.{HasParts};
 
-use crate::classes::{after_spaces, after_white, ends, strip_byte};
 use crate::item::{NO_KEY, scan_entry, scan_item, scan_member};
 use crate::keys::Marks;
 use crate::node::Node;
 use crate::node_types::Role;
+use sf_value::classes::{after_ows, after_spaces, ends, strip_byte};
 use sf_value::{Dialect, Kind};
 
 /// An Item.
@@ -40,11 +40,11 @@ fn whole_list(dialect: Dialect, text: &[u8], nodes: &mut [Node]) -> Option<usize
     }
     loop {
         let scan = scan_member(dialect, text, rest, NO_KEY, nodes, count)?;
-        let white = after_white(scan.rest);
+        let white = after_ows(scan.rest);
         if ends(white) {
             return Some(scan.count);
         }
-        rest = after_white(strip_byte(white, b',')?);
+        rest = after_ows(strip_byte(white, b',')?);
         count = scan.count;
     }
 }
@@ -73,7 +73,7 @@ fn whole_dict(
     loop {
         let (scan, mark) = scan_entry(dialect, text, rest, nodes, count)?;
         marks = marks.with(mark);
-        let white = after_white(scan.rest);
+        let white = after_ows(scan.rest);
         if ends(white) {
             if marks.differ(text, &nodes[..scan.count]) {
                 return Some(scan.count);
@@ -81,7 +81,7 @@ fn whole_dict(
             *repeated = true;
             return Some(scan.count);
         }
-        rest = after_white(strip_byte(white, b',')?);
+        rest = after_ows(strip_byte(white, b',')?);
         count = scan.count;
     }
 }

@@ -10,12 +10,12 @@ ghost use Rattle.sf_scan.specs.Leaves.{leaf_bare};
 ghost use Rattle.sf_view.specs.Views.{IsBorrowed};
 ghost use Rattle.sf_view.specs.Reads.{Reads, ReadsBare, ReadsParam, ReadsItems, ReadsMember, ReadsEntry};
 
-use crate::classes::{after_spaces, strip_byte};
 use crate::view::{BareView, Slice};
 use sf_scan::bare::{Take, bare};
 use sf_scan::leaf::Leaf;
 use sf_scan::param::find_key;
 use sf_value::Dialect;
+use sf_value::classes::{after_spaces, strip_byte};
 
 /// The bare item of a key without a value.
 const TRUE: BareView = BareView::Boolean(true);

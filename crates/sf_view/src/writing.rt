@@ -26,8 +26,8 @@ ghost use Rattle.sf_view.specs.CanonicalParts.{canon_param, encoding, is_flag, C
 ghost use Rattle.sf_view.specs.Views.{IsBorrowed};
 
 use crate::bytes::{Coding, fill, first_of, unencoded};
-use crate::classes::{UnencodedByte, Unescaped, ends, long_prefix};
 use crate::view::{BareView, Slice, View};
+use sf_value::classes::{UnencodedByte, Unescaped, ends, long_prefix};
 use sf_value::{Kind, Sink, stands_for_itself};
 use sf_write::{
     Sent, WriteFault, percent_escape, put, put_base64, put_blob, put_boolean, put_display_string,

@@ -1,7 +1,7 @@
 //! The lengths of canonical texts, so that one allocation suffices for a text. The text itself does
 //! not depend on them: with a wrong length, the buffer would only grow, or be too large.
 
-use crate::params::is_true;
+use crate::flag::is_true;
 use crate::{display_string, strings};
 use sf_value::{Bare, Entries, Field, Inner, Item, Member};
 

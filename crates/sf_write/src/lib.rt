@@ -12,6 +12,7 @@ mod blobs;
 mod dicts;
 mod display_string;
 mod field;
+mod flag;
 mod formats;
 mod gathered;
 mod items;

@@ -1,21 +1,13 @@
 //! Parameters (RFC 9651 section 4.1.1.2).
-ghost use Rattle.std.specs.Prelude.{◌≡◌, ◌↔◌, IsTrue, true};
 ghost use Rattle.sf_value.specs.declared.dialect.Dialect.TheVariants.{Rfc9651};
-ghost use Rattle.sf_value.specs.declared.value.Bare.TheVariants.{Boolean};
 ghost use Rattle.sf_value.specs.Grammar.Valid.{ValidBare, ValidParams};
 ghost use Rattle.sf_value.specs.Grammar.Canonical.{canon_params, canon_value};
 ghost use Rattle.sf_write.specs.Writing.{Follows};
 
 use crate::bare::put_bare;
+use crate::flag::is_true;
 use crate::sending::{Sent, put};
 use sf_value::{Bare, Entries, Sink};
-
-/// Returns whether a value is Boolean true, which is written as its key alone.
-pub(crate) fn is_true(bare: &Bare) -> bool
-    ensures { IsTrue result ↔ (bare.now ≡ Boolean true) }
-{
-    matches!(bare, Bare::Boolean(true))
-}
 
 /// Writes what follows a key: nothing for Boolean true, otherwise `=` and the bare item.
 pub(crate) fn put_value<W: Sink>(value: &Bare, before: Sent, out: &mut W) -> Sent

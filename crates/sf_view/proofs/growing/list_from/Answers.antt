@@ -10,7 +10,7 @@ returns-in_default-clause-stopped c =
 pub returns-then-ends-clause-accepts : goal.returns-then-ends-clause-accepts
 returns-then-ends-clause-accepts c =
     list_last _ _ _ _ _ _ _ _ _ _ _ c.loop-scan.invariant c.in-Some.ensures.scans refl refl
-    c.after_white-white.ensures (c.ends.ensures.all c.if-ends.true)
+    c.after_ows-white.ensures (c.ends.ensures.all c.if-ends.true)
 
 pub returns-in_default-strip_byte-clause-stopped : goal.returns-in_default-strip_byte-clause-stopped
 returns-in_default-strip_byte-clause-stopped c =
@@ -21,4 +21,4 @@ pub loop-scan-preserved : goal.loop-scan-preserved
 loop-scan-preserved c =
     so_far_same _ _ _ _ _
     (list_more _ _ _ _ _ _ _ _ _ _ _ _ _ c.loop-scan.invariant c.in-Some.ensures.scans refl refl
-    c.after_white-white.ensures c.in-Some-strip_byte.ensures c.after_white-rest.ensures)
+    c.after_ows-white.ensures c.in-Some-strip_byte.ensures c.after_ows-rest.ensures)

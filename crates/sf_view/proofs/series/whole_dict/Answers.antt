@@ -22,20 +22,20 @@ pub returns-then-differ-clause-parts : goal.returns-then-differ-clause-parts
 returns-then-differ-clause-parts c =
     parts_whole _ _ _ _ _ _ c.loop-scan.invariant.unset
     (dict_last _ _ _ _ _ _ _ _ _ _ _ _ _ c.loop-scan.invariant.so_far c.in_ok-scan.ensures.scans
-    c.with-marks.ensures c.after_white-white.ensures
+    c.with-marks.ensures c.after_ows-white.ensures
     (c.ends-in-loop-scan.ensures.all c.if-ends-2.true) (c.differ.ensures c.if-differ.true))
 
 pub returns-then-ends-2-clause-parts : goal.returns-then-ends-2-clause-parts
 returns-then-ends-2-clause-parts c =
     parts_raw _ _ _ _ _ refl c.in_ok-scan.ensures.scans.puts.within
     (dict_raw _ _ _ _ _ _ _ _ _ _ _ _ _ c.loop-scan.invariant.so_far c.in_ok-scan.ensures.scans
-    c.with-marks.ensures c.after_white-white.ensures (c.ends-in-loop-scan.ensures.all c.if-ends-2.true))
+    c.with-marks.ensures c.after_ows-white.ensures (c.ends-in-loop-scan.ensures.all c.if-ends-2.true))
 
 pub loop-scan-preserved : goal.loop-scan-preserved
 loop-scan-preserved c = record {
   so_far =
       dict_more _ _ _ _ _ _ _ _ _ _ _ _ _ _ _ c.loop-scan.invariant.so_far c.in_ok-scan.ensures.scans
-      c.with-marks.ensures c.after_white-white.ensures c.in_ok-strip_byte.ensures
-      c.after_white-rest.ensures;
+      c.with-marks.ensures c.after_ows-white.ensures c.in_ok-strip_byte.ensures
+      c.after_ows-rest.ensures;
   unset = c.loop-scan.invariant.unset;
 }

@@ -16,9 +16,9 @@ loop-scan-init c =
 pub returns-then-ends-2-clause-accepts : goal.returns-then-ends-2-clause-accepts
 returns-then-ends-2-clause-accepts c =
     list_last _ _ _ _ _ _ _ _ _ _ _ c.loop-scan.invariant c.in_ok-scan.ensures.scans refl refl
-    c.after_white-white.ensures (c.ends-in-loop-scan.ensures.all c.if-ends-2.true)
+    c.after_ows-white.ensures (c.ends-in-loop-scan.ensures.all c.if-ends-2.true)
 
 pub loop-scan-preserved : goal.loop-scan-preserved
 loop-scan-preserved c =
     list_more _ _ _ _ _ _ _ _ _ _ _ _ _ c.loop-scan.invariant c.in_ok-scan.ensures.scans refl
-    refl c.after_white-white.ensures c.in_ok-strip_byte.ensures c.after_white-rest.ensures
+    refl c.after_ows-white.ensures c.in_ok-strip_byte.ensures c.after_ows-rest.ensures

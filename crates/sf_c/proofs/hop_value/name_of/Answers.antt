@@ -1,5 +1,5 @@
 use Rattle.sf_c.proofs.GivenHops.{no_text_name, no_token_name}
-use Rattle.sf_c.proofs.hop_text.name_of.Goals as goal
+use Rattle.sf_c.proofs.hop_value.name_of.Goals as goal
 
 pub returns-in-Err : goal.returns-in-Err
 returns-in-Err c =

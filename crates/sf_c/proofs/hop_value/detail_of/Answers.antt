@@ -1,6 +1,6 @@
 use Rattle.sf_c.specs.GivenHops.{GivesName}
 use Rattle.sf_c.proofs.GivenHops.{no_some}
-use Rattle.sf_c.proofs.hop_text.detail_of.Goals as goal
+use Rattle.sf_c.proofs.hop_value.detail_of.Goals as goal
 
 pub returns-in-Err : goal.returns-in-Err
 returns-in-Err c =

@@ -1,5 +1,5 @@
 use Rattle.sf_c.proofs.GivenHops.{no_conflict, no_forwarded}
-use Rattle.sf_c.proofs.hop_text.outcome_of.Goals as goal
+use Rattle.sf_c.proofs.hop_value.outcome_of.Goals as goal
 
 pub returns-in-Err : goal.returns-in-Err
 returns-in-Err c =

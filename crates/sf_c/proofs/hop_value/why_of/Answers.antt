@@ -1,5 +1,5 @@
 use Rattle.sf_c.proofs.GivenHops.{no_other}
-use Rattle.sf_c.proofs.hop_text.why_of.Goals as goal
+use Rattle.sf_c.proofs.hop_value.why_of.Goals as goal
 
 pub returns-in-Err : goal.returns-in-Err
 returns-in-Err c =

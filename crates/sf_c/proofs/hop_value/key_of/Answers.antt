@@ -1,6 +1,6 @@
 use Rattle.sf_c.specs.GivenHops.{GivesString}
 use Rattle.sf_c.proofs.GivenHops.{no_some}
-use Rattle.sf_c.proofs.hop_text.key_of.Goals as goal
+use Rattle.sf_c.proofs.hop_value.key_of.Goals as goal
 
 pub returns-in-Err : goal.returns-in-Err
 returns-in-Err c =

@@ -2,7 +2,7 @@ use Rattle.std.proofs.lemmas.Result.{err_from_is_err_and}
 use Rattle.sf_c.specs.GivenHops.{AreBytes, GivesToken}
 use Rattle.sf_c.proofs.GivenHops.{no_whole}
 use Rattle.sf_c.proofs.GivenTexts.{no_token}
-use Rattle.sf_c.proofs.hop_text.token_of.Goals as goal
+use Rattle.sf_c.proofs.hop_value.token_of.Goals as goal
 
 pub returns-in-Err : goal.returns-in-Err
 returns-in-Err c =

@@ -1,6 +1,6 @@
 use Rattle.std.proofs.lemmas.Result.{err_from_is_err_and}
 use Rattle.sf_c.proofs.GivenHops.{no_passed}
-use Rattle.sf_c.proofs.hop_text.passed_of.Goals as goal
+use Rattle.sf_c.proofs.hop_value.passed_of.Goals as goal
 
 pub returns-in_err-why_of : goal.returns-in_err-why_of
 returns-in_err-why_of c =

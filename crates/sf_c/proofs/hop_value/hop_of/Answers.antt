@@ -1,8 +1,8 @@
 use Rattle.std.proofs.Common.{◌≡◌, ◌||◌, false}
 use Rattle.std.proofs.lemmas.Result.{err_from_is_err_and}
 use Rattle.sf_c.proofs.GivenHops.{Made, Unmade, no_hop, unmade}
-use Rattle.sf_c.proofs.hop_text.hop_of.Goals.{After-is_invalid-4}
-use Rattle.sf_c.proofs.hop_text.hop_of.Goals as goal
+use Rattle.sf_c.proofs.hop_value.hop_of.Goals.{After-is_invalid-4}
+use Rattle.sf_c.proofs.hop_value.hop_of.Goals as goal
 
 made : (c : After-is_invalid-4) → Made c.args.bytes.now c.args.hop.now c.name_of-name.result
     c.outcome_of-outcome.result c.key_of-key.result c.detail_of-detail.result
