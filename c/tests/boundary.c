@@ -560,7 +560,7 @@ static void refused(uint32_t dialect, uint32_t kind, const char *from, size_t le
   CALL(sf_equal(&seed, dialect, kind, text, length, text, length, &equal, &same));
   CHECK(status == SF_REFUSED && memcmp(&same, &refusal, sizeof same) == 0 && equal == 4711);
 
-  /* behind one that is accepted it is the second */
+  /* after one that is accepted it is the second */
   same = untouched;
   CALL(sf_equal(&seed, dialect, kind, "a", 1, text, length, &equal, &same));
   CHECK(status == SF_SECOND_REFUSED && memcmp(&same, &refusal, sizeof same) == 0 && equal == 4711);

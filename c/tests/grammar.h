@@ -545,7 +545,7 @@ static void put_held(rng *r, made *m) {
   m->held.length = 0;
 }
 
-/* One member of a List or a Dictionary. One whose key is overwritten is put again behind some of
+/* One member of a List or a Dictionary. One whose key is overwritten is put again after some of
  * those that follow. */
 static void make_one(rng *r, made *m, keys *k) {
   char buffer[LONGEST_KEY];

@@ -45,14 +45,14 @@ use Rattle.sf_c.specs.Refusals.{flag_number}
 use Rattle.sf_c.specs.declared.hop_scan.ScannedPath.{ScannedPath}
 use Rattle.sf_c.specs.ScannedHops.{says_in, CountedSoFar, HasPathSizes, IsCountedTo, IsHopPut}
 use Rattle.sf_c.specs.ScannedHops.{IsPathBy, IsPathOf, IsPutTo, IsReadBy, IsReadTo, IsScannedPath}
-use Rattle.sf_c.specs.ScannedHops.{PathSoFar, PutsBehind}
+use Rattle.sf_c.specs.ScannedHops.{PathSoFar, PutsAfter}
 use Rattle.sf_c.proofs.HopLemmas.{prefix_of, hop_held, hop_content_is, PutsHop, TextsOf}
 use Rattle.sf_c.proofs.ShownHops.{says_shown, token_shown}
 
 -- bytes that were put after those that were used
 pub put_after : (old new free t : Seq ℕ) (used count : ℕ) (p : Span) → used ≤ length old
     → new ≡ take used old ++ free → count ≤ length free → take count free ≡ t → p.at ≡ used
-    → p.length ≡ count → PutsBehind old new used t p
+    → p.length ≡ count → PutsAfter old new used t p
 put_after old new free t used count p fits e small is at long =
     let prefix : length (take used old) ≡ used = length-take-le used old fits in
     let end : end_of p ≡ length (take used old) + count = omega arith in (
@@ -224,26 +224,26 @@ pub hop_is_put : (v : HopView) (h : Hop) (b0 b1 b2 b3 b4 : Seq ℕ) (used e1 e2 
     → HasBytes d s3 (unwrap_or t []))
     → ((d : Dialect) (m : Option Name) → ShowsName d v.params.detail m
     → HasBytes d s4 (detail_bytes m))
-    → ((d : Dialect) (t : Seq ℕ) → HasBytes d s1 t → PutsBehind b0 b1 used t name)
-    → ((d : Dialect) (t : Seq ℕ) → HasBytes d s2 t → PutsBehind b1 b2 e1 t why)
-    → ((d : Dialect) (t : Seq ℕ) → HasBytes d s3 t → PutsBehind b2 b3 e2 t key)
-    → ((d : Dialect) (t : Seq ℕ) → HasBytes d s4 t → PutsBehind b3 b4 e3 t detail)
+    → ((d : Dialect) (t : Seq ℕ) → HasBytes d s1 t → PutsAfter b0 b1 used t name)
+    → ((d : Dialect) (t : Seq ℕ) → HasBytes d s2 t → PutsAfter b1 b2 e1 t why)
+    → ((d : Dialect) (t : Seq ℕ) → HasBytes d s3 t → PutsAfter b2 b3 e2 t key)
+    → ((d : Dialect) (t : Seq ℕ) → HasBytes d s4 t → PutsAfter b3 b4 e3 t detail)
     → e1 ≡ end_of name → e2 ≡ end_of why → e3 ≡ end_of key → n.name ≡ name → n.why_token ≡ why
     → n.key ≡ key → n.detail ≡ detail → says_by n ≡ says_in v → IsHopPut b0 b4 used n h
 hop_is_put v h b0 b1 b2 b3 b4 used e1 e2 e3 name why key detail n s1 s2 s3 s4 s f1 f2 f3 f4 p1 p2 p3
     p4 x1 x2 x3 y1 y2 y3 y4 says =
     let d = s.dialect in
-    let q1 : PutsBehind b0 b1 used (bytes_of h.name) name =
-    subst (λ x. PutsBehind b0 b1 used (bytes_of x.name) name) (sym s.made)
+    let q1 : PutsAfter b0 b1 used (bytes_of h.name) name =
+    subst (λ x. PutsAfter b0 b1 used (bytes_of x.name) name) (sym s.made)
     (p1 d (bytes_of s.name) (f1 d s.name s.shows_name)) in
-    let q2 : PutsBehind b1 b2 e1 (why_token (passed_by h.outcome)) why =
-    subst (λ t. PutsBehind b1 b2 e1 t why) (token_shown v h s)
+    let q2 : PutsAfter b1 b2 e1 (why_token (passed_by h.outcome)) why =
+    subst (λ t. PutsAfter b1 b2 e1 t why) (token_shown v h s)
     (p2 d (unwrap_or (option_copied v.params.fwd) []) (f2 d)) in
-    let q3 : PutsBehind b2 b3 e2 (unwrap_or h.key []) key =
-    subst (λ x. PutsBehind b2 b3 e2 (unwrap_or x.key []) key) (sym s.made)
+    let q3 : PutsAfter b2 b3 e2 (unwrap_or h.key []) key =
+    subst (λ x. PutsAfter b2 b3 e2 (unwrap_or x.key []) key) (sym s.made)
     (p3 d (unwrap_or s.parts.key []) (f3 d s.parts.key s.shows_parts.key)) in
-    let q4 : PutsBehind b3 b4 e3 (detail_bytes h.detail) detail =
-    subst (λ x. PutsBehind b3 b4 e3 (detail_bytes x.detail) detail) (sym s.made)
+    let q4 : PutsAfter b3 b4 e3 (detail_bytes h.detail) detail =
+    subst (λ x. PutsAfter b3 b4 e3 (detail_bytes x.detail) detail) (sym s.made)
     (p4 d (detail_bytes s.parts.detail) (f4 d s.parts.detail s.shows_parts.detail)) in
     record {
       with_name = take (end_of name) b1;
@@ -254,14 +254,14 @@ hop_is_put v h b0 b1 b2 b3 b4 used e1 e2 e3 name why key detail n s1 s2 s3 s4 s 
           subst
           (PutsSpan (take (end_of name) b1) (take (end_of why) b2)
           (why_token (passed_by h.outcome)))
-          (sym y2) (subst (λ e. PutsBehind b1 b2 e (why_token (passed_by h.outcome)) why) x1 q2);
+          (sym y2) (subst (λ e. PutsAfter b1 b2 e (why_token (passed_by h.outcome)) why) x1 q2);
       key =
           subst (PutsSpan (take (end_of why) b2) (take (end_of key) b3) (unwrap_or h.key []))
-          (sym y3) (subst (λ e. PutsBehind b2 b3 e (unwrap_or h.key []) key) x2 q3);
+          (sym y3) (subst (λ e. PutsAfter b2 b3 e (unwrap_or h.key []) key) x2 q3);
       detail =
           subst
           (λ p. PutsSpan (take (end_of key) b3) (take (end_of p) b4) (detail_bytes h.detail) p)
-          (sym y4) (subst (λ e. PutsBehind b3 b4 e (detail_bytes h.detail) detail) x3 q4);
+          (sym y4) (subst (λ e. PutsAfter b3 b4 e (detail_bytes h.detail) detail) x3 q4);
       says = says ∙ says_shown v h s;
     }
 

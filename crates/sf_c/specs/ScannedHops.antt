@@ -57,8 +57,8 @@ says_in v = record {
 }
 
 -- the text is after the first bytes of the buffer, of which so many were used
-abbrev pub PutsBehind : Seq ℕ → Seq ℕ → ℕ → Seq ℕ → Span → Type 0
-PutsBehind old new used text p = PutsSpan (take used old) (take (end_of p) new) text p
+abbrev pub PutsAfter : Seq ℕ → Seq ℕ → ℕ → Seq ℕ → Span → Type 0
+PutsAfter old new used text p = PutsSpan (take used old) (take (end_of p) new) text p
 
 -- the four texts of a hop are after the first bytes of the buffer, of which so many were used, one
 -- after another, and the struct describes the hop

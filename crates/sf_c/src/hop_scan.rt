@@ -17,7 +17,7 @@ ghost use Rattle.sf_c.specs.Hops.{bytes_of, detail_bytes, end_of, hop_content, h
 ghost use Rattle.sf_c.specs.Hops.{outcome_number, says_by};
 ghost use Rattle.sf_c.specs.declared.hops.HopNode.{HopNode as HopStruct};
 ghost use Rattle.sf_c.specs.ScannedHops.{IsCountedTo, IsHopPut, IsPutTo, IsReadTo, IsScannedPath};
-ghost use Rattle.sf_c.specs.ScannedHops.{PutsBehind};
+ghost use Rattle.sf_c.specs.ScannedHops.{PutsAfter};
 ghost use Rattle.sf_c.specs.ScannedHops.{is_token_view, says_in, token_number};
 
 use crate::buffer::put;
@@ -224,7 +224,7 @@ fn put_slice(slice: Slice, bytes: &mut [u8], used: usize) -> Option<Span>
     ensures within { IfSome result (λ span. end_of span ≤ length bytes.new) }
     // Whatever bytes the slice is of, they are after those that were used.
     ensures put { IfSome result (λ span. (d : Which) (t : List ℕ) → HasBytes d slice.entry t
-        → PutsBehind bytes.old bytes.new used t span) }
+        → PutsAfter bytes.old bytes.new used t span) }
 {
     if slice.coded {
         let (_, free) = bytes.split_at_mut(used);

@@ -16,7 +16,7 @@ use Rattle.sf_parse.specs.declared.series.SeriesPhase.{SeriesPhase}
 use Rattle.sf_parse.specs.declared.series.SeriesPhase.TheVariants as phase
 use Rattle.sf_parse.specs.WholeParts.{ReadsAs, BeginsMember}
 use Rattle.sf_parse.specs.WholeMembers.{IsWholeMember, MayBegin, MayEnd, NoneOpen}
-use Rattle.sf_parse.specs.WholeMembers.{TakesMembers, IsBehindMember}
+use Rattle.sf_parse.specs.WholeMembers.{TakesMembers, IsAfterMember}
 use Rattle.sf_parse.proofs.Machine.Language.{is_none}
 use Rattle.sf_parse.proofs.Machine.Series.{SeriesLaws, ows_after, sp_ows}
 use Rattle.sf_parse.proofs.Prefixes.{goes_one, goes_more, goes_above, free_goes}
@@ -186,7 +186,7 @@ module _ {S X V : Type 0} (first : ℕ → Option S) (next : S → ℕ → Optio
   -- a member and what comes after it
   pub member_taken : (p q : SeriesPhase) (given new : V) (s : S) (is_whole : Bool)
       (text after rest : List ℕ) (x : X) → MayBegin none p given → IsWhole text x after
-      → new ≡ with given x → IsBehindMember is_whole after q rest
+      → new ≡ with given x → IsAfterMember is_whole after q rest
       → TakesMembers Next End is_whole (series_of p given s) text rest q new s
   member_taken p phase.Begin given new s is_whole text after rest x m w e b = absurd b
   member_taken p phase.InMember given new s is_whole text after rest x m w e b = absurd b
@@ -222,7 +222,7 @@ module _ {S X V : Type 0} (first : ℕ → Option S) (next : S → ℕ → Optio
   comma_may_begin q given e = subst (λ y. MayBegin none y given) (sym e) tt
 
   pub after_open : (q : SeriesPhase) (is_whole : Bool) (given : V) (text rest : List ℕ)
-      → IsBehindMember is_whole text q rest → NoneOpen none q given
+      → IsAfterMember is_whole text q rest → NoneOpen none q given
   after_open phase.Begin is_whole given text rest b = absurd b
   after_open phase.InMember is_whole given text rest b = absurd b
   after_open phase.Gap is_whole given text rest b = tt

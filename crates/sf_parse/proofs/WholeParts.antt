@@ -25,7 +25,7 @@ use Rattle.sf_parse.specs.Machine.Language.{Reads, Machine, run}
 use Rattle.sf_parse.specs.Machine.Bares.{BareState, GoodBare, ResidualBare}
 use Rattle.sf_parse.specs.Machine.Bares.{bare_step, bare_finish}
 use Rattle.sf_parse.specs.Machine.Params.{MoreParams}
-use Rattle.sf_parse.specs.declared.whole_parts.BehindItem.{BehindItem}
+use Rattle.sf_parse.specs.declared.whole_parts.AfterItem.{AfterItem}
 use Rattle.sf_parse.specs.declared.whole_parts.Unread.{Unread}
 use Rattle.sf_parse.specs.WholeParts.{ReadsAs, ReadsParam, ReadsItems, AddsItem}
 use Rattle.sf_value.specs.Runs.{Skips}
@@ -178,7 +178,7 @@ built_item d text after rest x y ps b e r =
 
 -- an Item that begins with this bare item
 pub takes_found : (d : Dialect) (x : Bare) (text after : List ℕ) (old new : List Item)
-    → ReadsAs (SpellsBare d) text x after → (r : Result BehindItem Unread)
+    → ReadsAs (SpellsBare d) text x after → (r : Result AfterItem Unread)
     → IfOk r (λ end. (t : List ℕ) → ReadsAs (SpellsBare d) t x after
     → AddsItem d t old new end)
     → IfOk r (AddsItem d text old new)

@@ -16,13 +16,13 @@ after_of None = BeforeItem
 abbrev pub item_field_of : ItemFieldPhase → ItemState → Option Item → State
 item_field_of phase.Before s whole = BeforeItem
 item_field_of phase.Inside s whole = InsideItem s
-item_field_of phase.Behind s whole = after_of whole
+item_field_of phase.After s whole = after_of whole
 
 -- among the spaces after the Item, the Item is whole
 abbrev pub FitsItemField : ItemFieldPhase → Option Item → Type 0
 FitsItemField phase.Before whole = ⊤
 FitsItemField phase.Inside whole = ⊤
-FitsItemField phase.Behind whole = IsSome whole
+FitsItemField phase.After whole = IsSome whole
 
 -- if the Item is open, it can't continue with this byte
 abbrev pub item_field_stuck : Dialect → State → ℕ → Type 0

@@ -54,13 +54,13 @@ IsBegun is_key first next added with d text (begun.Inner key inside) =
 
 -- between a member and the rest are white space and a comma, with white space after it; or white
 -- space alone, of which there may be none if nothing is left of a whole text
-abbrev pub IsBehindMember : Bool → List ℕ → SeriesPhase → List ℕ → Type 0
-IsBehindMember is_whole text phase.Begin rest = ⊥
-IsBehindMember is_whole text phase.InMember rest = ⊥
-IsBehindMember is_whole text phase.Gap rest =
+abbrev pub IsAfterMember : Bool → List ℕ → SeriesPhase → List ℕ → Type 0
+IsAfterMember is_whole text phase.Begin rest = ⊥
+IsAfterMember is_whole text phase.InMember rest = ⊥
+IsAfterMember is_whole text phase.Gap rest =
     (white : List ℕ) × (text ≡ white ++ rest) × Every is_ows white
     × ((white ≢ []) ⊎ ((rest ≡ []) × (is_whole ≡ true)))
-IsBehindMember is_whole text phase.Comma rest =
+IsAfterMember is_whole text phase.Comma rest =
     (white space : List ℕ) × (text ≡ white ++ comma ∷ (space ++ rest)) × Every is_ows white
     × Every is_ows space
 

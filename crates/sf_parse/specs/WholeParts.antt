@@ -14,8 +14,8 @@ use Rattle.sf_value.specs.Grammar.Parameters.{SpellsParam}
 use Rattle.sf_value.specs.Grammar.InnerLists.{SpellsItems}
 use Rattle.sf_scan.specs.Leaves.{leaf_bare}
 use Rattle.sf_value.specs.Runs.{Skips}
-use Rattle.sf_parse.specs.declared.whole_parts.BehindItem.{BehindItem}
-use Rattle.sf_parse.specs.declared.whole_parts.BehindItem.TheVariants as behind
+use Rattle.sf_parse.specs.declared.whole_parts.AfterItem.{AfterItem}
+use Rattle.sf_parse.specs.declared.whole_parts.AfterItem.TheVariants as after
 use Rattle.sf_parse.specs.declared.whole_parts.Found.{Found}
 
 -- the start of the text, up to the rest, spells the value as P says
@@ -33,19 +33,19 @@ pub record ReadsParam (d : Dialect) (text key : List ℕ) (x : Bare) (rest : Lis
   pub spelled : SpellsParam d (semicolon ∷ prefix) key x
 
 -- after an Item of an Inner List come one or more spaces, or the closing bracket
-abbrev pub IsBehindItem : List ℕ → BehindItem → Type 0
-IsBehindItem text (behind.Open rest) =
+abbrev pub IsAfterItem : List ℕ → AfterItem → Type 0
+IsAfterItem text (after.Open rest) =
     (more : List ℕ) × (text ≡ space ∷ more) × Skips is_sp more rest.now
-IsBehindItem text (behind.Closed rest) = text ≡ close_bracket ∷ rest.now
+IsAfterItem text (after.Closed rest) = text ≡ close_bracket ∷ rest.now
 
 -- the start of the text spells an Item, which is added to the old ones
-pub record AddsItem (d : Dialect) (text : List ℕ) (old new : List Item) (end : BehindItem)
+pub record AddsItem (d : Dialect) (text : List ℕ) (old new : List Item) (end : AfterItem)
     : Type 0 where
   pub item : Item
   pub rest : List ℕ
   pub reads : ReadsAs (SpellsItem d) text item rest
   pub added : new ≡ old ++ item ∷ []
-  pub behind : IsBehindItem rest end
+  pub after : IsAfterItem rest end
 
 -- the text begins with a byte that is no white space, as members do
 abbrev pub BeginsMember : List ℕ → Type 0

@@ -15,7 +15,7 @@ use crate::context::Context;
 use crate::gathering::extend;
 use crate::level::Level;
 use crate::member::MemberReader;
-use crate::sets::BEHIND_KEY;
+use crate::sets::AFTER_KEY;
 use sf_value::classes::{ByteClass, InKey, any_prefix};
 use sf_value::{Bare, Dialect, Entries, Item, Key, Member, OutOfMemory, ShortBytes, can_start_key};
 use std::marker::Model;
@@ -204,7 +204,7 @@ impl Level for EntryReader {
 
     fn expected(&self, dialect: Dialect) -> u128 {
         match self.phase {
-            EntryPhase::InKey => return BEHIND_KEY,
+            EntryPhase::InKey => return AFTER_KEY,
             EntryPhase::Equals => return MemberReader::first_bytes(dialect),
             EntryPhase::InMemberValue => return self.member.expected(dialect),
             EntryPhase::InFlag => return self.member.expected(dialect),

@@ -26,8 +26,8 @@ pub enum ItemFieldPhase {
     Before,
     /// In the item.
     Inside,
-    /// After a space after the item.
-    Behind,
+    /// After a space that follows the Item.
+    After,
 }
 
 /// What was read of an item between spaces: the item that is open, or the one that is complete.
@@ -76,7 +76,7 @@ impl ItemFieldReader {
                 self.item.end(context, &mut whole)?;
                 return Ok(whole);
             }
-            ItemFieldPhase::Behind => {
+            ItemFieldPhase::After => {
                 self.phase = ItemFieldPhase::Before;
                 return Ok(mem::replace(&mut self.whole, None));
             }
@@ -105,7 +105,7 @@ impl Level for ItemFieldReader {
                 let (_, rest) = short_prefix::<Space>(chunk);
                 return Ok(rest);
             }
-            ItemFieldPhase::Behind => {
+            ItemFieldPhase::After => {
                 let (_, rest) = short_prefix::<Space>(chunk);
                 return Ok(rest);
             }
@@ -116,7 +116,7 @@ impl Level for ItemFieldReader {
     fn push_part(&mut self, context: &Context, byte: u8) -> Result<bool, OutOfMemory> {
         match self.phase {
             ItemFieldPhase::Inside => return self.item.push(context, byte),
-            ItemFieldPhase::Before | ItemFieldPhase::Behind => return Ok(false),
+            ItemFieldPhase::Before | ItemFieldPhase::After => return Ok(false),
         }
     }
 
@@ -140,10 +140,10 @@ impl Level for ItemFieldReader {
                 if !self.item.end(context, &mut self.whole)? {
                     return Ok(false);
                 }
-                self.phase = ItemFieldPhase::Behind;
+                self.phase = ItemFieldPhase::After;
                 return Ok(true);
             }
-            ItemFieldPhase::Behind => return Ok(byte == b' '),
+            ItemFieldPhase::After => return Ok(byte == b' '),
         }
     }
 
@@ -153,7 +153,7 @@ impl Level for ItemFieldReader {
             ItemFieldPhase::Inside => {
                 return self.item.expected(dialect) | set_if(self.item.may_end(), SPACE);
             }
-            ItemFieldPhase::Behind => return SPACE,
+            ItemFieldPhase::After => return SPACE,
         }
     }
 
@@ -161,7 +161,7 @@ impl Level for ItemFieldReader {
         match self.phase {
             ItemFieldPhase::Before => false,
             ItemFieldPhase::Inside => self.item.may_end(),
-            ItemFieldPhase::Behind => true,
+            ItemFieldPhase::After => true,
         }
     }
 }

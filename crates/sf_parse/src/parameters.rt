@@ -9,7 +9,7 @@ use crate::bare::BareReader;
 use crate::context::Context;
 use crate::gathering::extend;
 use crate::level::Level;
-use crate::sets::{BEHIND_KEY, KEY_START, SEMICOLON, SPACE, set_if};
+use crate::sets::{AFTER_KEY, KEY_START, SEMICOLON, SPACE, set_if};
 use crate::whole_parts::add_params;
 use sf_value::classes::{ByteClass, InKey, Space, any_prefix, short_prefix};
 use sf_value::{Bare, Dialect, Entries, Key, OutOfMemory, ShortBytes, can_start_key};
@@ -221,7 +221,7 @@ impl Level for ParamsReader {
         match self.phase {
             ParamsPhase::Between => return SEMICOLON,
             ParamsPhase::Opened => return SPACE | KEY_START,
-            ParamsPhase::InKey => return BEHIND_KEY,
+            ParamsPhase::InKey => return AFTER_KEY,
             ParamsPhase::Equals => return BareReader::first_bytes(dialect),
             ParamsPhase::InValue => {
                 return self.value.expected(dialect) | set_if(self.value.may_end(), SEMICOLON);

@@ -14,7 +14,7 @@ ghost use Rattle.sf_parse.specs.AllocationFree.{SeriesFree};
 ghost use Rattle.sf_parse.specs.StaysFree.{series_keeps};
 ghost use Rattle.sf_parse.specs.SeriesView.{series_of};
 ghost use Rattle.sf_parse.specs.WholeMembers.{IsBegun, MayBegin, MayEnd, NoneOpen};
-ghost use Rattle.sf_parse.specs.WholeMembers.{TakesMembers, IsBehindMember};
+ghost use Rattle.sf_parse.specs.WholeMembers.{TakesMembers, IsAfterMember};
 ghost use Rattle.sf_parse.specs.declared.series.SeriesPhase.TheVariants as phase_is;
 ghost use Rattle.sf_parse.specs.declared.whole_parts.Begun.TheVariants as begun_is;
 
@@ -576,7 +576,7 @@ fn add_inner<'a, P: SeriesMember<G>, G>(
 /// white space alone, of which there may be none only at the end of a whole text.
 #[inline(always)]
 fn after_member(text: &[u8], is_whole: bool) -> Option<(SeriesPhase, &[u8])>
-    ensures { IfSome result (λ r. IsBehindMember is_whole text.now r.0 r.1.now) }
+    ensures { IfSome result (λ r. IsAfterMember is_whole text.now r.0 r.1.now) }
 {
     let (white, end) = few_prefix::<Ows>(text);
     let Some(more) = strip_byte(end, b',') else {

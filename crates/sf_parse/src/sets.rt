@@ -57,7 +57,7 @@ pub const KEY_START: u128 = LOWER | 1 << b'*';
 pub const KEY: u128 = KEY_START | DIGITS | 1 << b'_' | MINUS | POINT;
 
 /// The bytes that may come after a byte of a key: another one, an equals sign or a semicolon.
-pub const BEHIND_KEY: u128 = KEY | EQUALS | SEMICOLON;
+pub const AFTER_KEY: u128 = KEY | EQUALS | SEMICOLON;
 
 /// The first byte of a token (section 3.3.4).
 const TOKEN_START: u128 = LETTERS | 1 << b'*';

@@ -18,7 +18,7 @@ ghost use Rattle.sf_parse.specs.Machine.Members.{InMany, member_step};
 ghost use Rattle.sf_parse.specs.Machine.Params.{Opened, params_step};
 ghost use Rattle.sf_parse.specs.Prefixes.{Goes};
 ghost use Rattle.sf_parse.specs.WholeParts.{ReadsAs, ReadsParam, BeginsMember};
-ghost use Rattle.sf_parse.specs.WholeParts.{ReadsItems, IsBehindItem, AddsItem};
+ghost use Rattle.sf_parse.specs.WholeParts.{ReadsItems, IsAfterItem, AddsItem};
 ghost use Rattle.sf_parse.specs.WholeParts.{found_member};
 ghost use Rattle.sf_parse.specs.declared.whole_parts.Unread.TheVariants as unread_is;
 
@@ -349,7 +349,7 @@ fn push_leaf(
 
 /// What comes after an Item of an Inner List.
 #[derive(Clone, Copy)]
-pub enum BehindItem<'a> {
+pub enum AfterItem<'a> {
     /// The rest after spaces, where another Item may begin.
     Open(&'a [u8]),
     /// The rest after the closing bracket.
@@ -372,20 +372,20 @@ fn read_items<'a>(
             return Ok(left);
         }
         match push_item(context, rest, items)? {
-            BehindItem::Open(left) => rest = left,
-            BehindItem::Closed(left) => return Ok(left),
+            AfterItem::Open(left) => rest = left,
+            AfterItem::Closed(left) => return Ok(left),
         }
     }
 }
 
 /// What comes after an Item of an Inner List: at least one space, or the closing bracket.
 #[inline(always)]
-fn after_item(text: &[u8]) -> Result<BehindItem<'_>, Unread>
-    ensures { IfOk result (IsBehindItem text.now) }
+fn after_item(text: &[u8]) -> Result<AfterItem<'_>, Unread>
+    ensures { IfOk result (IsAfterItem text.now) }
 {
     match split(text) {
-        Some((b' ', more)) => Ok(BehindItem::Open(after_spaces(more))),
-        Some((b')', rest)) => Ok(BehindItem::Closed(rest)),
+        Some((b' ', more)) => Ok(AfterItem::Open(after_spaces(more))),
+        Some((b')', rest)) => Ok(AfterItem::Closed(rest)),
         _ => Err(Unread::NotWhole),
     }
 }
@@ -396,7 +396,7 @@ fn push_item<'a>(
     context: &Context,
     text: &'a [u8],
     items: &mut Sequence<Item>,
-) -> Result<BehindItem<'a>, Unread>
+) -> Result<AfterItem<'a>, Unread>
     ensures { IfOk result (AddsItem context.now.dialect text.now items.old items.new) }
 {
     let Some((leaf, after)) = find_leaf(context.dialect, text) else {
@@ -418,7 +418,7 @@ fn push_with_params<'a>(
     leaf: Leaf<'_>,
     after: &'a [u8],
     items: &mut Sequence<Item>,
-) -> Result<BehindItem<'a>, Unread>
+) -> Result<AfterItem<'a>, Unread>
     requires { IsLeaf leaf }
     ensures { IfOk result (λ end. (text : List ℕ)
         → ReadsAs (SpellsBare context.now.dialect) text (leaf_bare leaf.entry) after.now

@@ -231,12 +231,12 @@ fn run_between(
     before: &[u8],
     byte: u8,
     count: usize,
-    behind: &[u8],
+    after: &[u8],
 ) -> Result<Vec<u8>, AllocError> {
     let mut bytes = Vec::new(alloc);
     bytes.extend_from_slice(before)?;
     bytes.resize(count.wrapping_add(before.len()), byte)?;
-    bytes.extend_from_slice(behind)?;
+    bytes.extend_from_slice(after)?;
     Ok(bytes)
 }
 

@@ -296,7 +296,7 @@ fn lines_of_statuses(rt: HostRuntime) {
 }
 
 #[test]
-fn statuses_behind_a_flush(rt: HostRuntime) {
+fn statuses_after_a_flush(rt: HostRuntime) {
     for status in [Status::Accepted, Status::Refused, Status::Stopped] {
         assert_eq!(&rt; status.after_flush::<Failed>(Ok(())), status);
         assert_eq!(&rt; status.after_flush(Err(Failed)), Status::Stopped);

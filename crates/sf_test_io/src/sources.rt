@@ -55,8 +55,8 @@ impl<'a> Paced<'a> {
     fn most(&self) -> usize
         ensures { 0 < result }
     {
-        let behind = self.pause.saturating_sub(self.given) as usize;
-        let room = if behind > 0 { behind } else { self.pace };
+        let left = self.pause.saturating_sub(self.given) as usize;
+        let room = if left > 0 { left } else { self.pace };
         room.min(self.pace).max(1)
     }
 }

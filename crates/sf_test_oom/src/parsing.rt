@@ -81,7 +81,7 @@ fn refused_texts(rt: HostRuntime) -> Result<(), Fail> {
 
 /// Dictionaries that are refused for their last byte, which is at this place, after parts of the
 /// same member, for some of which a value would need memory.
-const REFUSED_BEHIND_PARTS: [(&[u8], u64); 3] = [
+const REFUSED_AFTER_PARTS: [(&[u8], u64); 3] = [
     (
         b"a=(1 \"longer than 16 bytes\" tok);p=\"longer than 16 bytes\";q=#",
         60,
@@ -91,10 +91,10 @@ const REFUSED_BEHIND_PARTS: [(&[u8], u64); 3] = [
 ];
 
 #[test]
-fn refused_behind_parts(rt: HostRuntime) -> Result<(), Fail> {
+fn refused_after_parts(rt: HostRuntime) -> Result<(), Fail> {
     let alloc = rt.alloc();
     let seed = RandomState::new(&rt)?;
-    for (text, place) in REFUSED_BEHIND_PARTS {
+    for (text, place) in REFUSED_AFTER_PARTS {
         expect_no_need(&rt, || {
             seen_syntax(parse_text(alloc, &seed, Kind::Dict, text), place, b'#')
         });
@@ -126,7 +126,7 @@ fn refused_items(rt: HostRuntime) -> Result<(), Fail> {
 
 /// Texts that are refused for this byte at this place, after a key or a bare item of more than 16
 /// bytes, for which alone a value would need memory.
-const REFUSED_BEHIND_LONG: [(Kind, &[u8], u64, u8); 17] = [
+const REFUSED_AFTER_LONG: [(Kind, &[u8], u64, u8); 17] = [
     (Kind::Dict, b"a_key_of_more_than_16_bytes=#", 28, b'#'),
     (Kind::Item, b"1;a_key_of_more_than_16_bytes=#", 30, b'#'),
     (Kind::List, b"1;a_key_of_more_than_16_bytes=#", 30, b'#'),
@@ -187,10 +187,10 @@ const REFUSED_BEHIND_LONG: [(Kind, &[u8], u64, u8); 17] = [
 ];
 
 #[test]
-fn refused_behind_long(rt: HostRuntime) -> Result<(), Fail> {
+fn refused_after_long(rt: HostRuntime) -> Result<(), Fail> {
     let alloc = rt.alloc();
     let seed = RandomState::new(&rt)?;
-    for (kind, text, place, byte) in REFUSED_BEHIND_LONG {
+    for (kind, text, place, byte) in REFUSED_AFTER_LONG {
         expect_no_need(&rt, || {
             seen_syntax(parse_text(alloc, &seed, kind, text), place, byte)
         });
@@ -200,7 +200,7 @@ fn refused_behind_long(rt: HostRuntime) -> Result<(), Fail> {
 
 /// Texts that are refused for their last byte, at this place, after a key of more than 16 bytes: in an
 /// Inner List, after other parameters, before an Inner List, or after parts that allocate too.
-const REFUSED_BEHIND_KEYS: [(Kind, &[u8], u64); 14] = [
+const REFUSED_AFTER_KEYS: [(Kind, &[u8], u64); 14] = [
     (Kind::List, b"(a;a_key_of_more_than_16_bytes=#", 31),
     (Kind::List, b"(a;b;a_key_of_more_than_16_bytes=#", 33),
     (Kind::List, b"(a;b=2;c;a_key_of_more_than_16_bytes=#", 37),
@@ -253,10 +253,10 @@ fn parse_chunk(
 
 /// The levels return the first of a failed allocation and of a mistake after it.
 #[test]
-fn refused_behind_keys(rt: HostRuntime) -> Result<(), Fail> {
+fn refused_after_keys(rt: HostRuntime) -> Result<(), Fail> {
     let alloc = rt.alloc();
     let seed = RandomState::new(&rt)?;
-    for (kind, text, place) in REFUSED_BEHIND_KEYS {
+    for (kind, text, place) in REFUSED_AFTER_KEYS {
         expect_refusals(&rt, || {
             seen_syntax(parse_bytes(alloc, &seed, kind, text), place, b'#')
         });
@@ -266,10 +266,10 @@ fn refused_behind_keys(rt: HostRuntime) -> Result<(), Fail> {
 
 /// A text that is read as a whole is refused also if there is no memory.
 #[test]
-fn refused_behind_keys_of_a_text(rt: HostRuntime) -> Result<(), Fail> {
+fn refused_after_keys_of_a_text(rt: HostRuntime) -> Result<(), Fail> {
     let alloc = rt.alloc();
     let seed = RandomState::new(&rt)?;
-    for (kind, text, place) in REFUSED_BEHIND_KEYS {
+    for (kind, text, place) in REFUSED_AFTER_KEYS {
         expect_no_need(&rt, || {
             seen_syntax(parse_text(alloc, &seed, kind, text), place, b'#')
         });
@@ -279,10 +279,10 @@ fn refused_behind_keys_of_a_text(rt: HostRuntime) -> Result<(), Fail> {
 
 /// One chunk needs memory, as the levels do.
 #[test]
-fn refused_behind_keys_of_a_chunk(rt: HostRuntime) -> Result<(), Fail> {
+fn refused_after_keys_of_a_chunk(rt: HostRuntime) -> Result<(), Fail> {
     let alloc = rt.alloc();
     let seed = RandomState::new(&rt)?;
-    for (kind, text, place) in REFUSED_BEHIND_KEYS {
+    for (kind, text, place) in REFUSED_AFTER_KEYS {
         expect_refusals(&rt, || {
             seen_syntax(parse_chunk(alloc, &seed, kind, text), place, b'#')
         });

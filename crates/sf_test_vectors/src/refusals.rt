@@ -242,7 +242,7 @@ pub(crate) static ITEMS: [Row; 34] = [
 ];
 
 /// Items, with or without parameters, after which a space and a mistake come.
-static BEHIND_ITEMS: [Row; 19] = [
+static AFTER_ITEMS: [Row; 19] = [
     (Kind::Item, b"a b", 2, Some(0x62), "20 end"),
     (Kind::Item, b"\"x\"  ;a", 5, Some(0x3b), "20 end"),
     (Kind::Item, b"?1 ,", 3, Some(0x2c), "20 end"),
@@ -371,9 +371,9 @@ fn items(rt: HostRuntime) -> Result<(), Fail> {
 }
 
 #[test]
-fn behind_items(rt: HostRuntime) -> Result<(), Fail> {
+fn after_items(rt: HostRuntime) -> Result<(), Fail> {
     let seed = RandomState::new(&rt)?;
-    check_rows(&rt, rt.alloc(), &seed, &BEHIND_ITEMS)
+    check_rows(&rt, rt.alloc(), &seed, &AFTER_ITEMS)
 }
 
 #[test]

@@ -901,7 +901,7 @@ static BEFORE: [usize; 19] = [
 ];
 
 // What is after so many bytes of a String: escapes, bytes after an escape, and each mistake.
-static BEHIND: [&[u8]; 16] = [
+static AFTER_MEMBERS: [&[u8]; 16] = [
     b"\"",
     b"\\\"\"",
     b"\\\\\"",
@@ -944,7 +944,7 @@ fn escapes_as_by_levels(rt: HostRuntime) -> Result<(), Fail> {
     let seed = RandomState::new(&rt)?;
     for (kind, front, back) in &FRAMES {
         for length in &BEFORE {
-            for end in &BEHIND {
+            for end in &AFTER_MEMBERS {
                 let text = framed(rt.alloc(), front, *length, end, back)?;
                 let text = text.as_slice();
                 for dialect in [Dialect::Rfc9651, Dialect::Rfc8941] {
@@ -964,7 +964,7 @@ fn long_strings_in_chunks(rt: HostRuntime) -> Result<(), Fail> {
     let seed = RandomState::new(&rt)?;
     for (kind, front, back) in &FRAMES {
         for (length, step) in [(511, 5), (512, 5), (513, 5), (2000, 31)] {
-            for end in &BEHIND[..4] {
+            for end in &AFTER_MEMBERS[..4] {
                 let text = framed(rt.alloc(), front, length, end, back)?;
                 check_chunks(&rt, &seed, *kind, text.as_slice(), step)?;
             }

@@ -32,7 +32,7 @@ pub(crate) const NO_HOP: raw::Hop = raw::Hop {
     detail_is_token: 0,
 };
 
-/// A text behind the bytes so far.
+/// A text after the bytes so far.
 fn put(bytes: &mut Vec<u8>, text: &str) -> Result<raw::Span, Error> {
     let at = bytes.len();
     append(bytes, text.as_bytes())?;

@@ -17,5 +17,5 @@ returns c =
           item_whole d _ _ _ _ _ c.in-Some.ensures.reads
           (params_none d _ _ c.new-params.ensures);
       added = c.in_ok-push_leaf.ensures.added;
-      behind = c.in_ok-end.ensures;
+      after = c.in_ok-end.ensures;
     }

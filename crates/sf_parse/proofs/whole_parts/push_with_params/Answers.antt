@@ -10,5 +10,5 @@ returns c = λ text bare.
       rest = c.in_ok-rest.rest.now;
       reads = item_whole c.args.context.now.dialect text _ _ _ params bare c.in_ok-rest.ensures.reads;
       added = c.in_ok-push_leaf.ensures.added;
-      behind = c.in_ok-end.ensures;
+      after = c.in_ok-end.ensures;
     }

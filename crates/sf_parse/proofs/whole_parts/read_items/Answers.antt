@@ -12,18 +12,18 @@ pub returns-in-Closed : goal.returns-in-Closed
 returns-in-Closed c =
     let one = rw c.in-Closed.is at c.in_ok-left.ensures in
     c.loop-left.invariant _ _
-    (items_then _ _ _ _ _ _ _ _ one.reads one.added (items_end _ 1 _ _ _ one.behind))
+    (items_then _ _ _ _ _ _ _ _ one.reads one.added (items_end _ 1 _ _ _ one.after))
 
 pub loop-left-preserved : goal.loop-left-preserved
 loop-left-preserved c =
     let one = rw c.in-Open.is at c.in_ok-left.ensures in
-    let behind = one.behind in
+    let after = one.after in
     λ all s r. c.loop-left.invariant _ _
     (items_then _ _ _ _ _ _ _ _ one.reads one.added
-    (items_apart _ _ _ _ _ _ _ behind.1 behind.2 r))
+    (items_apart _ _ _ _ _ _ _ after.1 after.2 r))
 
 pub loop-left-smaller : goal.loop-left-smaller
 loop-left-smaller c =
     let one = rw c.in-Open.is at c.in_ok-left.ensures in
-    let behind = one.behind in
-    item_shorter c.args.context.now.dialect _ _ _ _ _ one.reads behind.1 behind.2
+    let after = one.after in
+    item_shorter c.args.context.now.dialect _ _ _ _ _ one.reads after.1 after.2

@@ -20,7 +20,7 @@ returns-in-Inside c =
     (λ i b. allow (is_sp b) (AfterItem i)) c.expected.ensures
     (λ i. marks_steps _ (λ b. allow (is_sp b) (AfterItem i)) refl))
 
-pub returns-in-Behind : goal.returns-in-Behind
-returns-in-Behind c =
-    let fits = rw c.in-Behind.is at c.self.invariant in
-    rw (← c.self.view_is, c.in-Behind.is) (marks_after c.args.dialect _ fits)
+pub returns-in-After : goal.returns-in-After
+returns-in-After c =
+    let fits = rw c.in-After.is at c.self.invariant in
+    rw (← c.self.view_is, c.in-After.is) (marks_after c.args.dialect _ fits)

@@ -16,14 +16,14 @@ returns-in-Before-clause-goes c =
     (stay_goes (step d) is_sp BeforeItem _ _ _ (space_before d)
     c.short_prefix.ensures.whole c.short_prefix.ensures.every)
 
-pub returns-in-Behind-clause-goes : goal.returns-in-Behind-clause-goes
-returns-in-Behind-clause-goes c =
+pub returns-in-After-clause-goes : goal.returns-in-After-clause-goes
+returns-in-After-clause-goes c =
     let d = c.args.context.now.dialect in
-    let fits = rw c.in-Behind.is at c.self.invariant in
-    rw (← c.self.view_is, c.in-Behind.is)
+    let fits = rw c.in-After.is at c.self.invariant in
+    rw (← c.self.view_is, c.in-After.is)
     (stay_goes (step d) is_sp (after_of c.self.inside.whole) _ _ _
     (space_after d c.self.inside.whole fits)
-    c.short_prefix-in-Behind.ensures.whole c.short_prefix-in-Behind.ensures.every)
+    c.short_prefix-in-After.ensures.whole c.short_prefix-in-After.ensures.every)
 
 pub returns-in-Inside-clause-goes : goal.returns-in-Inside-clause-goes
 returns-in-Inside-clause-goes c =
