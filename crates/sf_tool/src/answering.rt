@@ -86,7 +86,7 @@ pub(crate) fn answer_view<W: Sink>(view: View, field: Field, sink: &mut W) -> St
 }
 
 /// The number of nodes on the stack.
-const FEW: usize = 32;
+const STACK_NODES: usize = 32;
 
 /// Writes the canonical text of the field that nodes describe, and a line feed.
 fn answer_viewed<W: Sink>(nodes: &sf_view::View, kind: Kind, sink: &mut W) -> Status
@@ -142,7 +142,7 @@ fn answer_nodes<W: Sink>(
         (λ status. ReportsOnly canonical_line dialect kind text.now
         (W.state sink.old) (W.state sink.new) status) }
 {
-    let mut few = [Node::NONE; FEW];
+    let mut few = [Node::NONE; STACK_NODES];
     if let Ok(view) = sf_view::View::scan(dialect, kind, text, &mut few) {
         return Some(answer_viewed(&view, kind, sink));
     }
@@ -155,8 +155,8 @@ fn answer_nodes<W: Sink>(
 
 /// Whether a scan may have had too few nodes, so that one of the last three was written: only an Inner
 /// List and an Item in it are written after the nodes of their parts.
-fn are_used_up(nodes: &[Node; FEW]) -> bool {
-    nodes[FEW - 3..].iter().any(|node| node.size != 0)
+fn are_used_up(nodes: &[Node; STACK_NODES]) -> bool {
+    nodes[STACK_NODES - 3..].iter().any(|node| node.size != 0)
 }
 
 /// The same with more nodes than are on the stack, and for a Dictionary in which a key is repeated.

@@ -127,13 +127,13 @@ impl<'a> InputLines<'a> {
 }
 
 /// The length of an input up to which its lines may be cut ahead.
-const SHORT: usize = 1024;
+const SHORT_INPUT: usize = 1024;
 
 /// To cut a line costs as much as it is long, and nothing is cut after a line that is refused: so
 /// only the lines of a short input are asked for ahead, and that of an input of one line.
 impl<'a> AskingCost for InputLines<'a> {
     fn asking_is_free(&self) -> bool {
-        self.rest.len() <= SHORT || is_one_line(self.rest)
+        self.rest.len() <= SHORT_INPUT || is_one_line(self.rest)
     }
 }
 
