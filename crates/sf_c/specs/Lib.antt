@@ -1,4 +1,4 @@
--- The definitions that the contracts of the exported functions use.
+-- The definitions that the contracts use, most of them those of the exported functions.
 pub mod Versions
 pub mod Statuses
 pub mod Calls

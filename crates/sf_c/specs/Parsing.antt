@@ -1,4 +1,4 @@
--- Parsing a text, which every call begins with.
+-- Parsing a text, for the calls that need its value.
 use Rattle.std.specs.Prelude.{◌≡◌, ℕ, Bool, true, false, List, Result, Ok, Err}
 use Rattle.sf_value.specs.declared.dialect.Dialect.{Dialect}
 use Rattle.sf_value.specs.declared.value.Field.{Field}

@@ -1,10 +1,10 @@
 //! The library, called from C: a static library with one export for each call, declared for C in
-//! `include/sf.h`.
+//! `include/sf_functions.h`.
 //!
 //! Arguments and results are numbers, slices as a pointer and a length, and structs in C's layout;
 //! nothing is owned across the boundary. The caller provides the buffer for a result; if it is too
-//! small, the call stores the required length. Each export returns one of the [`Status`]es on any
-//! input, and its contract states what it may write, and where. `specs/` states what each result
+//! small, the call stores the required length. An export that can fail returns one of the
+//! [`Status`]es, and its contract states what it may write, and where. `specs/` states what each result
 //! means, by the definitions of the crates below.
 #![tactic(auto)]
 

@@ -10,7 +10,8 @@ pub(crate) struct Record<'a> {
     pub(crate) operation: &'a str,
     /// The kind of the field.
     pub(crate) kind: Kind,
-    /// What else the operation takes: the length of chunks, or the number of additions.
+    /// What else the operation takes: the length of chunks, the number of additions, or whether the
+    /// error stream is a terminal.
     pub(crate) parameter: usize,
     /// How often the call is made.
     pub(crate) times: usize,

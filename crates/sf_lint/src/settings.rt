@@ -24,8 +24,8 @@ pub struct Settings {
     pub fields: Vec<CustomField>,
     /// Whether only what is refused is printed.
     pub quiet: bool,
-    /// Whether the words `ok`, `refused` and `ignored` are green, red and yellow at the beginning
-    /// of a line, by escape sequences for terminals.
+    /// Whether at the beginning of a line the word `ok` is green, `refused` red, and `ignored` and
+    /// `invalid` yellow, by escape sequences for terminals.
     pub colour: bool,
 }
 

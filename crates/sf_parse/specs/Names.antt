@@ -31,7 +31,7 @@ set_of Digit = set_below 128 is_digit
 set_of (Byte b) = if nat_lt b 128 then 2 ^ b else 0
 set_of End = 0
 
--- the classes, the larger ones first
+-- the classes, in the order in which a message names them
 abbrev pub classes : List Name
 classes =
     Printable ∷ Token ∷ Base64 ∷ Key ∷ Letter ∷ Lower ∷ Upper ∷ LowerHex ∷ Digit ∷ []

@@ -1,5 +1,5 @@
-//! The examples of docs/GUIDE.md, as tests: each is one that it shows, word for word. The laws are
-//! called too.
+//! The examples of docs/GUIDE.md and docs/CONSUMERS.md, as tests: each is one that they show, word
+//! for word. The laws are called too.
 #![tactic(auto)]
 
 #[cfg(test)]

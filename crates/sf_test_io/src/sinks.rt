@@ -27,7 +27,7 @@ pub struct Trickle {
 ///
 /// ```
 /// let mut sink = Tally::new(alloc);
-/// run(alloc, &seed, &request, &mut source, &mut sink);
+/// run(alloc, &seed, &request, &mut source, &mut sink, &mut errors);
 /// sink.calls // 1: the answer in one call
 /// ```
 #[derive(Drop)]

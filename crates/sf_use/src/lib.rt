@@ -3,8 +3,9 @@
 //! cache decides by it ([`caching`], RFC 9111), and the priority of a response ([`priority`], RFC
 //! 9218).
 //!
-//! [`CacheStatus`], [`Directives`] and [`PriorityField`] are consumers ([`sf_field::Consumer`]) for
-//! [`sf_field::ask`], whose answer is the same for every spelling of a value. [`select`] finds the
+//! [`CacheStatus`], [`Directives`], [`TargetedRules`], [`PriorityField`] and
+//! [`ResponsePriorityField`] are consumers ([`sf_field::Consumer`]) for [`sf_field::ask`], whose
+//! answer is the same for every spelling of a value. [`select`] finds the
 //! field of a target list that a cache obeys, and its [`Policy`]; [`select_rules`] finds its
 //! [`CacheRules`], which decide how a response is stored and used. [`merge`] merges the priorities
 //! of a client and a server; the defaults are filled in afterwards.

@@ -32,7 +32,7 @@ pub struct Counts {
 /// Why a text is not counted.
 #[derive(Clone, Copy, Debug, PartialEq, Eq)]
 pub enum Uncounted {
-    /// It is malformed.
+    /// It is malformed, or a count would overflow.
     Declined,
     /// A key is repeated or, rarely, there are many keys: to count them takes memory.
     Repeated,

@@ -65,8 +65,8 @@ pub fn put_view<W: Sink>(view: &View, kind: Kind, before: Sent, out: &mut W) -> 
 /// ```
 pub fn write_view<W: Sink>(view: &View, kind: Kind, out: &mut W) -> Result<u64, WriteFault>
     // Whatever field of the kind the nodes describe, its whole canonical text was written, or
-    // exactly its first `written` bytes and then a send failed. Once a count is saturated, nothing
-    // is claimed of which bytes were written.
+    // exactly its first `written` bytes and then a send failed. If one fails when the count is
+    // saturated, nothing is claimed of which bytes were written.
     ensures { (d : Which) (v : FieldValue)
         → DescribesField d view.now.text.now view.now.nodes.now v
         → kind_of v ≡ kind

@@ -60,8 +60,8 @@ pub fn put_text<W: Sink>(text: &Text, before: Sent, out: &mut W) -> Sent
 /// let length = write_bare(&Bare::Boolean(true), &mut out)?; // 2: ?1
 /// ```
 pub fn write_bare<W: Sink>(bare: &Bare, out: &mut W) -> Result<u64, WriteFault>
-    // The whole text was written, or exactly its first `written` bytes and then a send failed. Once
-    // a count is saturated, nothing is claimed of which bytes were written.
+    // The whole text was written, or exactly its first `written` bytes and then a send failed. If
+    // one fails when the count is saturated, nothing is claimed of which bytes were written.
     ensures text { WritesText (W.state out.old) (W.state out.new) result (canon_bare bare.now) }
     ensures valid { ValidBare Rfc9651 bare.now }
 {

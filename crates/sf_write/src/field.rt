@@ -41,17 +41,17 @@ pub fn put_field<W: Sink>(field: &Field, before: Sent, out: &mut W) -> Sent
 /// its length in bytes. Does not allocate. The text of an empty List or Dictionary is empty.
 ///
 /// Fails only if a send failed or took no byte. That send is not repeated, and exactly the first
-/// `written` bytes of the text were written. Both numbers stay at 2^64 - 1 once they reach it, and
-/// then nothing is claimed of which bytes were written. Whatever the result, the field is valid, as
-/// every field is, so its text spells it (`sf_value::laws::canon_spells`).
+/// `written` bytes of the text were written. Both numbers stay at 2^64 - 1 once they reach it; if a
+/// send fails then, nothing is claimed of which bytes were written. Whatever the result, the field
+/// is valid, as every field is, so its text spells it (`sf_value::laws::canon_spells`).
 ///
 /// ```
 /// let mut out = Writing::new(io::writer(&rt));
 /// let length = write_field(&field, &mut out)?;
 /// ```
 pub fn write_field<W: Sink>(field: &Field, out: &mut W) -> Result<u64, WriteFault>
-    // The whole text was written, or exactly its first `written` bytes and then a send failed. Once
-    // a count is saturated, nothing is claimed of which bytes were written.
+    // The whole text was written, or exactly its first `written` bytes and then a send failed. If
+    // one fails when the count is saturated, nothing is claimed of which bytes were written.
     ensures text { WritesText (W.state out.old) (W.state out.new) result (canon field.now) }
     ensures valid { Valid Rfc9651 (kind_of field.now) field.now }
 {

@@ -302,10 +302,12 @@ impl fmt::Display for Path {
     fn fmt(&self, f: &mut fmt::Formatter<'_>) -> fmt::Result {
         let mut text = String::new();
         for hop in self.hops() {
+            let hop = hop.serialize().map_err(|_| fmt::Error)?;
+            text.try_reserve(hop.len() + 2).map_err(|_| fmt::Error)?;
             if !text.is_empty() {
                 text.push_str(", ");
             }
-            text.push_str(&hop.serialize().map_err(|_| fmt::Error)?);
+            text.push_str(&hop);
         }
         f.pad(&text)
     }
