@@ -181,10 +181,8 @@ fn first_digit(text: &[u8]) -> Option<(u64, &[u8])>
     ensures { MatchOption result (Lacks is_digit text.now)
         (λ r. BeginsDigit text.now r.0 r.1.now) }
 {
-    match split(text) {
-        Some((byte, rest)) if byte.is_ascii_digit() => Some((u64::from(byte - b'0'), rest)),
-        _ => None,
-    }
+    let (byte, rest) = split(text)?;
+    Some((digit_of(byte)?, rest))
 }
 
 /// The rest after the point, if one comes next and may come after this many digits.
