@@ -48,7 +48,7 @@ impl PlainPriority {
         // The text spells the Dictionary of these members, and no other value.
         ensures { IfSome result (IsPlain text.now) }
     {
-        if text.len() > LONGEST || !text.iter().all(|byte| may_be_plain(*byte)) {
+        if text.len() > LONGEST || text.contains(&b';') {
             return None;
         }
         let mut cursor = DictCursor::new(Dialect::Rfc9651, text);
@@ -131,13 +131,6 @@ impl PlainPriority {
         };
         write(asked, buffer, required)
     }
-}
-
-/// Whether a byte may be in the text of `u` and `i` alone. It is a hint that saves time, since
-/// most other texts have another byte; no proof relies on it.
-#[inline(always)]
-fn may_be_plain(byte: u8) -> bool {
-    byte.is_ascii_digit() || matches!(byte, b'u' | b'i' | b'=' | b'?' | b',' | b' ' | b'\t')
 }
 
 /// The urgency of a member that is an Integer from 0 to 7.
