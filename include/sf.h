@@ -851,9 +851,10 @@ static inline sf_status sf_write_response_priority(sf_response_priority_flags se
 
 /*
  * Writes the Priority field of a request with what client sets, and keeps its other members (RFC
- * 9218 section 4), by sf_priority_change. What is set is written also if it is the default, so this
- * changes the field of a response (section 8), too: set what the server sets. A buffer of
- * SF_PRIORITY_CHANGE_SIZE(text.length) bytes is always large enough.
+ * 9218 section 4), by sf_priority_change; a member that is set loses its parameters. What is set is
+ * written also if it is the default, so this changes the field of a response (section 8), too: set
+ * what the server sets. A buffer of SF_PRIORITY_CHANGE_SIZE(text.length) bytes is always large
+ * enough.
  *
  *   sf_priority_flags priority = {.urgency = 1, .has_urgency = 1};
  *   char text[SF_PRIORITY_CHANGE_SIZE(6)];
@@ -966,7 +967,8 @@ typedef struct sf_hop_list {
 static inline sf_hop_list sf_hop_list_in(sf_hops hops, sf_buffer bytes);
 
 /*
- * Reads the Cache-Status field of a response (RFC 9211 section 2), by sf_cache_status_in:
+ * Reads the Cache-Status field of a response (RFC 9211 section 2), by sf_cache_status_in: a hop for
+ * each member, with the parameters that the RFC defines. sf_read_tree has the others, too:
  *
  *   sf_hop hops[8];
  *   char bytes[256];
@@ -1135,8 +1137,8 @@ static inline sf_text sf_take_line(sf_text *rest);
  *   SF_REFUSED  it is no field line: it has no colon, as a status line, or before it no name (RFC
  *               9110 section 5.1); it has a CR, LF or NUL within (section 5.5); or it begins with
  *               white space, as one does that continues the line before (RFC 9112 section 5.2). A
- *               cache that skips such a line may miss a directive: do not store the response. No
- *               sf_refusal is written
+ *               cache that skips such a line may miss a directive: set is_incomplete of the
+ *               sf_exchange, so that the response is not stored. No sf_refusal is written
  *   SF_SHORT    head->lines.required lines are required
  *
  * Unless SF_SHORT is returned, the line counts: head->number is one greater.
@@ -1176,7 +1178,9 @@ static inline sf_status sf_find_field(sf_head *head, const char *name, sf_text *
 
 /*
  * Returns the line that a refusal is in, and the refusal in it, of the text of a field of a head,
- * as sf_find_field joins it. The number is that of the line in the caller's file or stream:
+ * as sf_find_field joins it. The index is that of the line in head->lines, 0 if the head does not
+ * have the field; the place is in the value of the line, which sf_head_line has without the white
+ * space around it; the number is that of the line in the caller's file or stream:
  *
  *   sf_head_line head_lines[8];
  *   char bytes[64];
@@ -1276,6 +1280,8 @@ typedef struct sf_exchange {
   uint32_t is_understood; /* 1 if the cache understands the status code and implements its
                              requirements, otherwise 0: counts for 206, 304 and must-understand */
   uint32_t is_authorized; /* 1 if the request had Authorization, otherwise 0 */
+  uint32_t is_incomplete; /* 1 if a line of the head is no field line, as sf_add_head_line says by
+                             SF_REFUSED, otherwise 0: it may have had a directive */
   uint64_t requested;     /* when the request was sent */
   uint64_t received;      /* when the response was received */
   uint64_t now;           /* when the response would be used */
@@ -1292,8 +1298,9 @@ typedef enum sf_obstacle {
   SF_BARRED_STATUS = 83,    /* the status code is not final, or is 206 or 304 and not understood */
   SF_BARRED_REQUEST = 84,   /* the request had Authorization, the cache is shared, and no directive
                                permits it (3.5) */
-  SF_BARRED_UNPERMITTED = 85 /* nothing permits it: no directive, no Expires, and the status code is
-                                not heuristically cacheable (RFC 9110 section 15.1) */
+  SF_BARRED_UNPERMITTED = 85, /* nothing permits it: no directive, no Expires, and the status code
+                                 is not heuristically cacheable (RFC 9110 section 15.1) */
+  SF_BARRED_LINE = 86         /* a line of the head is no field line (sf_exchange.is_incomplete) */
 } sf_obstacle;
 
 /* Returns an obstacle in words, such as "the status code"; "" for SF_NO_OBSTACLE and for a number

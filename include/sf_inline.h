@@ -1108,6 +1108,8 @@ static inline const char *sf_obstacle_name(uint32_t obstacle) {
     return "Authorization";
   case SF_BARRED_UNPERMITTED:
     return "nothing permits it";
+  case SF_BARRED_LINE:
+    return "a line of the head";
   default:
     return "";
   }
@@ -1118,6 +1120,8 @@ static inline uint32_t sf_obstacle_of(const sf_decision *decision, const sf_exch
                                       int has_expires) {
   if (decision->reuse == SF_REUSE_NOT_STORED)
     return SF_BARRED_DIRECTIVE;
+  if (exchange->is_incomplete)
+    return SF_BARRED_LINE;
   if (exchange->status != 0 && exchange->status < 200)
     return SF_BARRED_STATUS;
   if ((exchange->status == 206 || exchange->status == 304) && !exchange->is_understood)

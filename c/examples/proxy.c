@@ -1,18 +1,11 @@
 /* A caching proxy's decisions on a request that it forwards, and on the response, by their fields
  * on standard input: a line "> Name: value" is of the request, and "< Name: value" of the response.
- *
  *   printf '> Priority: u=5, i\n< Priority: u=1\n< CDN-Cache-Control: max-age=600\n' | proxy
- *
- * prints what is decided, and the line to send on in the place of those of Cache-Status:
- *
- *   urgency 1, incremental
- *   by CDN-Cache-Control: fresh for 600 s (max-age)
- *   Cache-Status: ExampleCDN;fwd=uri-miss;ttl=600;stored
- *
- * With the word private it is a private cache; with understood it understands the status code. What
- * is malformed is told on standard error, with the number of its line. Left out: method, status
- * code, Authorization, Vary (RFC 9111 sections 3 and 4). Status 3 if memory, the input or the
- * output fails, or the input is too long. */
+ * prints the priority, "by CDN-Cache-Control: fresh for 600 s (max-age)", and the line to send on in
+ * the place of those of Cache-Status. With the word private it is a private cache; with understood
+ * it understands the status code. What is malformed is told on standard error, with the number of
+ * its line. Left out: method, status code, Authorization, Vary (RFC 9111 sections 3 and 4). Status 3
+ * if memory, the input or the output fails, or the input is too long. */
 #define _DEFAULT_SOURCE
 #include <sf.h>
 #include <stdio.h>
@@ -56,12 +49,17 @@ int main(int count, char **words) {
   sf_text rest = sf_text_of(input, fread(input, 1, sizeof input, stdin));
   if (ferror(stdin) || rest.length == sizeof input)
     give_up("the input can't be read, or is too long");
+  sf_exchange exchange = sf_exchange_of(SF_SHARED_CACHE, (uint64_t)time(NULL));
   for (uint64_t number = 1; rest.length > 0; ++number) {
     sf_text line = sf_take_line(&rest), content = sf_trim(line.at + 1, line.length - 1);
     sf_head *head = line.at[0] == '>' ? &asked : &answered;
     head->number = number;
-    if ((line.at[0] == '>' || line.at[0] == '<') && sf_add_head_line(head, content) == SF_SHORT)
+    if (line.at[0] != '>' && line.at[0] != '<')
+      continue;
+    sf_status added = sf_add_head_line(head, content);
+    if (added == SF_SHORT)
       give_up("too many lines");
+    exchange.is_incomplete |= added == SF_REFUSED && head == &answered;
   }
 
   /* The priority. A field that is malformed or absent sets nothing (RFC 9218 section 8). */
@@ -80,12 +78,11 @@ int main(int count, char **words) {
   /* What the cache does, by its own field, that of all CDNs, or Cache-Control and Expires. */
   sf_target targets[] = {sf_target_of("ExampleCDN-Cache-Control"),
                          sf_target_of("CDN-Cache-Control")};
-  sf_exchange exchange = sf_exchange_of(SF_SHARED_CACHE, (uint64_t)time(NULL));
   for (int i = 1; i < count; ++i) {
     exchange.cache = strcmp(words[i], "private") == 0 ? SF_PRIVATE_CACHE : exchange.cache;
     exchange.is_understood |= strcmp(words[i], "understood") == 0;
   }
-  sf_verdict verdict;
+  sf_verdict verdict = {0};
   check(sf_decide_response(&context, &answered, targets, 2, &exchange, &verdict), &answered, "");
   for (int i = 0; i < 2; ++i)
     if (targets[i].status == SF_REFUSED) {
@@ -95,6 +92,10 @@ int main(int count, char **words) {
   if (verdict.is_refused)
     fprintf(stderr, "Cache-Control: malformed in line %d\n",
             (int)lines[1][verdict.refused_line].number);
+  if (verdict.obstacle == SF_BARRED_LINE) {
+    verdict.field = sf_obstacle_name(SF_BARRED_LINE);
+    verdict.decision.reuse = SF_REUSE_NOT_STORED, verdict.decision.cause = 0;
+  }
   static const char *const uses[] = {"don't store it", "fresh for", "stale",
                                      "validate it before each use", "no lifetime"};
   printf("by %s: %s", verdict.field, uses[verdict.decision.reuse - SF_REUSE_NOT_STORED]);

@@ -872,6 +872,13 @@ static void storing(void) {
     CHECK(sf_decide_response(&context, &head, &target, 1, &exchange, &verdict) == SF_OK);
     CHECK(verdict.obstacle == rows[i].obstacle);
     CHECK(verdict.may_store == (rows[i].obstacle == SF_NO_OBSTACLE));
+    /* a line that is no field line may have had a directive */
+    exchange.is_incomplete = 1;
+    CHECK(sf_decide_response(&context, &head, &target, 1, &exchange, &verdict) == SF_OK);
+    CHECK(verdict.obstacle == (rows[i].obstacle == SF_BARRED_DIRECTIVE
+                                   ? (uint32_t)SF_BARRED_DIRECTIVE
+                                   : (uint32_t)SF_BARRED_LINE));
+    CHECK(verdict.may_store == 0);
   }
   /* beside a targeted field Expires does not count (RFC 9213 section 2.2) */
   sf_head head = sf_head_in(SF_HEAD_LINES(lines), sf_buffer_of(NULL, 0));
@@ -910,6 +917,7 @@ static void storing(void) {
   CHECK(sf_decide_response(&context, &head, NULL, 0, &exchange, &verdict) == SF_OK);
   CHECK(verdict.decision.reuse == SF_REUSE_FRESH && verdict.decision.seconds == 60 - 20);
   CHECK(strcmp(sf_obstacle_name(SF_BARRED_STATUS), "the status code") == 0);
+  CHECK(strcmp(sf_obstacle_name(SF_BARRED_LINE), "a line of the head") == 0);
   CHECK(strcmp(sf_obstacle_name(SF_NO_OBSTACLE), "") == 0 && strcmp(sf_obstacle_name(0), "") == 0);
 }
 

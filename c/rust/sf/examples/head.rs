@@ -1,7 +1,7 @@
 //! What a proxy concludes from the heads of a request and its response, on standard input: a line
 //! `> Name: value` is of the request, and `< Name: value` of the response.
 
-use sf::{Cache, Dialect, Error, Exchange, Outcome, Path, Priority, ResponsePriority};
+use sf::{Cache, Dialect, Error, Exchange, Obstacle, Outcome, Path, Priority, ResponsePriority};
 use std::io::{self, Read};
 
 /// The targeted fields that this cache obeys, in order (RFC 9213 section 2.2).
@@ -12,12 +12,13 @@ const DIALECT: Dialect = Dialect::Rfc8941;
 /// The lines of a head: names and values.
 type Head<'a> = [(&'a [u8], &'a [u8])];
 
-/// The head of a side.
-fn head(heads: &[u8], side: u8) -> Vec<(&[u8], &[u8])> {
+/// The field lines of a side, names and values, and whether another line is none.
+fn head(heads: &[u8], side: u8) -> (Vec<(&[u8], &[u8])>, bool) {
     let lines = heads.split(|byte| *byte == b'\n');
-    let of_side = lines.filter_map(|line| line.strip_prefix(&[side]));
-    let pairs = of_side.filter_map(|line| sf::split_field_line(sf::trim(line)));
-    pairs.collect()
+    let of_side = lines.filter_map(|line| line.strip_prefix(&[side, b' ']));
+    let lines: Vec<_> = of_side.map(sf::split_field_line).collect();
+    let is_incomplete = lines.contains(&None);
+    (lines.into_iter().flatten().collect(), is_incomplete)
 }
 
 /// What a field says. One that is malformed counts as absent, and standard error shows it.
@@ -53,7 +54,8 @@ fn source(path: &Path) -> String {
 fn main() -> Result<(), Box<dyn std::error::Error>> {
     let mut heads = Vec::new();
     io::stdin().read_to_end(&mut heads)?;
-    let (request, response) = (head(&heads, b'>'), head(&heads, b'<'));
+    let (request, _) = head(&heads, b'>');
+    let (response, is_incomplete) = head(&heads, b'<');
 
     let client = Priority::from_headers_in(DIALECT, &request);
     let client = said(client, &request, "Priority")?;
@@ -66,12 +68,17 @@ fn main() -> Result<(), Box<dyn std::error::Error>> {
     println!("{}", source(&said(path, &response, "Cache-Status")?));
 
     // What a shared cache does with the response (RFC 9213 and RFC 9111).
-    let exchange = Exchange::now(Cache::Shared).with_status(200);
+    let exchange = Exchange::now(Cache::Shared)
+        .with_status(200)
+        .with_incomplete(is_incomplete);
     let verdict = exchange.decide_in(DIALECT, &TARGETS, &response)?;
     for malformed in &verdict.malformed {
         eprintln!("{malformed}");
     }
-    let what = ["don't store it", "store it"][usize::from(verdict.may_store())];
-    println!("{what} by {verdict}");
+    match verdict.obstacle {
+        None => println!("store it by {verdict}"),
+        Some(Obstacle::Directive) => println!("don't store it by {verdict}"),
+        Some(obstacle) => println!("don't store it by {obstacle}"),
+    }
     Ok(())
 }

@@ -5,7 +5,7 @@
 //! `Authorization`, `Vary`, the time since the request.
 
 use sf::{Cache, Dialect, Error, Exchange, Forward, Forwarded, Hop, Priority, ResponsePriority};
-use sf::{Reuse, TokenRef};
+use sf::{Obstacle, Reuse, TokenRef};
 use std::io::{self, BufRead};
 
 /// This cache.
@@ -15,11 +15,13 @@ const TARGETS: [&str; 2] = ["ExampleCDN-Cache-Control", "CDN-Cache-Control"];
 /// The RFCs of these fields cite RFC 8941, and have no field of a newer type.
 const DIALECT: Dialect = Dialect::Rfc8941;
 
-/// The field lines of a side: names and values.
-fn head(lines: &[Vec<u8>], side: u8) -> Vec<(&[u8], &[u8])> {
+/// The field lines of a side, names and values, and whether another line is none.
+fn head(lines: &[Vec<u8>], side: u8) -> (Vec<(&[u8], &[u8])>, bool) {
     let of_side = lines.iter().filter_map(|line| line.strip_prefix(&[side]));
-    let pairs = of_side.filter_map(|line| sf::split_field_line(sf::trim(line)));
-    pairs.collect()
+    let filled = of_side.map(sf::trim).filter(|line| !line.is_empty());
+    let pairs: Vec<_> = filled.map(sf::split_field_line).collect();
+    let is_incomplete = pairs.contains(&None);
+    (pairs.into_iter().flatten().collect(), is_incomplete)
 }
 
 /// What a field says. One that is malformed counts as absent (RFC 9218 section 5).
@@ -34,7 +36,8 @@ fn main() -> Result<(), Box<dyn std::error::Error>> {
     let words: Vec<String> = std::env::args().skip(1).collect();
     let has_word = |word: &str| words.iter().any(|said| said == word);
     let lines: Vec<_> = io::stdin().lock().split(b'\n').collect::<Result<_, _>>()?;
-    let (request, response) = (head(&lines, b'>'), head(&lines, b'<'));
+    let (request, _) = head(&lines, b'>');
+    let (response, is_incomplete) = head(&lines, b'<');
 
     let asked = said("Priority", Priority::from_headers_in(DIALECT, &request))?;
     let answered = ResponsePriority::from_headers_in(DIALECT, &response);
@@ -44,6 +47,7 @@ fn main() -> Result<(), Box<dyn std::error::Error>> {
 
     let cache = [Cache::Shared, Cache::Private][usize::from(has_word("private"))];
     let mut exchange = Exchange::now(cache).with_understood(has_word("understood"));
+    exchange.is_incomplete = is_incomplete;
     exchange.status = words.iter().find_map(|word| word.parse().ok());
     let verdict = exchange.decide_in(DIALECT, &TARGETS, &response)?;
     for malformed in &verdict.malformed {
@@ -57,7 +61,10 @@ fn main() -> Result<(), Box<dyn std::error::Error>> {
         Reuse::Revalidate => "validate it before each use".to_string(),
         Reuse::Unspecified => "no lifetime".to_string(),
     };
-    println!("by {}: {how}{}", verdict.field, by.unwrap_or_default());
+    match verdict.obstacle {
+        Some(Obstacle::Line) => println!("by {}: don't store it", Obstacle::Line),
+        _ => println!("by {}: {how}{}", verdict.field, by.unwrap_or_default()),
+    }
 
     let forwarded = Forwarded::new(Forward::UriMiss).with_stored(verdict.may_store());
     let mut hop = Hop::new(NAME).with_outcome(forwarded);

@@ -367,7 +367,8 @@ pub enum Error {
         /// Its place, and the bytes that a String or a Token begins with.
         refusal: Refusal,
     },
-    /// A number is out of range, or the dialect has no such type.
+    /// A number is out of range, the dialect has no such type, or a hop that is appended has
+    /// [`crate::Outcome::Conflict`].
     Invalid,
     /// A text to parse, or the keys and bytes of a value to write, of 4 GiB or more.
     TooLong,

@@ -45,6 +45,9 @@ pub struct Exchange {
     pub is_understood: bool,
     /// Whether the request had `Authorization` (section 3.5).
     pub is_authorized: bool,
+    /// Whether a line of the head is no field line ([`crate::split_field_line`]): it may have had a
+    /// directive.
+    pub is_incomplete: bool,
     /// When the request was sent: `request_time` (section 4.2.3).
     pub requested: u64,
     /// When the response was received: `response_time`.
@@ -72,6 +75,7 @@ impl Exchange {
             status: None,
             is_understood: false,
             is_authorized: false,
+            is_incomplete: false,
             requested: now,
             received: now,
             now,
@@ -133,6 +137,26 @@ impl Exchange {
     pub const fn with_authorization(self, is_authorized: bool) -> Exchange {
         Exchange {
             is_authorized,
+            ..self
+        }
+    }
+
+    /// The same with whether a line of the head is no field line. Such a line may have had a
+    /// directive, so the response is not stored.
+    ///
+    /// ```
+    /// use sf::{Cache, Exchange, Obstacle};
+    /// let lines = ["Cache-Control: no-store\0", "Age: 1"].map(sf::split_field_line);
+    /// let exchange = Exchange::at(Cache::Shared, 784_111_777)
+    ///     .with_status(200)
+    ///     .with_incomplete(lines.contains(&None));
+    /// let verdict = exchange.decide(&[], lines.into_iter().flatten()).unwrap();
+    /// assert_eq!(verdict.obstacle, Some(Obstacle::Line));
+    /// ```
+    #[must_use]
+    pub const fn with_incomplete(self, is_incomplete: bool) -> Exchange {
+        Exchange {
+            is_incomplete,
             ..self
         }
     }
@@ -241,6 +265,9 @@ impl Exchange {
         if decision.reuse == Reuse::NotStored {
             return Some(Obstacle::Directive);
         }
+        if self.is_incomplete {
+            return Some(Obstacle::Line);
+        }
         if !self.is_storable() {
             return Some(Obstacle::Status);
         }
@@ -337,6 +364,8 @@ pub enum Obstacle {
     /// Nothing permits it: no directive, no `Expires`, and the status code is not heuristically
     /// cacheable (RFC 9110 section 15.1).
     Unpermitted,
+    /// A line of the head is no field line ([`Exchange::is_incomplete`]).
+    Line,
 }
 
 impl Obstacle {
@@ -352,6 +381,7 @@ impl Obstacle {
             Obstacle::Status => "the status code",
             Obstacle::Authorization => "Authorization",
             Obstacle::Unpermitted => "nothing permits it",
+            Obstacle::Line => "a line of the head",
         }
     }
 }
@@ -395,7 +425,7 @@ pub enum Fault {
     /// directives, or a field that [`Refusal::in_head`] was asked for. The offset is one in the value
     /// of the line.
     Refused(Refusal),
-    /// The only line of `Expires` or of `Date` is no HTTP-date.
+    /// The first line of `Expires` or of `Date` is no HTTP-date.
     NotADate,
     /// There is one more line of `Expires` or of `Date`.
     Repeated,

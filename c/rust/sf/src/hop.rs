@@ -329,7 +329,9 @@ impl fmt::Display for Outcome<'_> {
     }
 }
 
-/// A cache on the path of a response, and what it did (RFC 9211 section 2).
+/// A cache on the path of a response, and what it did (RFC 9211 section 2). A parameter that the RFC
+/// doesn't define is no part of it, nor is one of another type than the RFC states, nor what belongs
+/// to `fwd` if that is absent: [`crate::List`] has them all.
 ///
 /// ```
 /// let path = sf::Path::parse("\"edge\"; hit; ttl=30; key=\"k\"").unwrap();

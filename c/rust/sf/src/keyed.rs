@@ -78,6 +78,27 @@ where
     Ok(all)
 }
 
+/// So many entries are put one by one, each after a search for its key.
+const FEW: usize = 8;
+
+/// Overwrites in place: of the entries with one key the first stays, with the value of the last.
+fn settle<V>(entries: &mut Vec<(Key, V)>) {
+    let mut order: Vec<usize> = (0..entries.len()).collect();
+    order.sort_by_key(|index| entries[*index].0.as_str());
+    let mut all: Vec<_> = core::mem::take(entries).into_iter().map(Some).collect();
+    for pair in order.windows(2).rev() {
+        let key_of = |index: usize| all[index].as_ref().map(|(key, _): &(Key, V)| key);
+        if key_of(pair[0]) != key_of(pair[1]) {
+            continue;
+        }
+        let last = all[pair[1]].take();
+        if let (Some((_, value)), Some((_, last))) = (&mut all[pair[0]], last) {
+            *value = last;
+        }
+    }
+    entries.extend(all.into_iter().flatten());
+}
+
 macro_rules! keyed {
     ($name:ident, $value:ty, $things:literal, $mut_things:literal, $text:literal, $changed:literal, $kind:literal) => {
         impl $name {
@@ -222,7 +243,7 @@ macro_rules! keyed {
             }
 
             /// Sets the value of a key: in its place if the key is present, otherwise at the end.
-            /// Returns the old value.
+            /// Returns the old value. It compares the keys one by one; for many, use `extend`.
             ///
             /// # Errors
             ///
@@ -310,12 +331,17 @@ macro_rules! keyed {
 
         impl<V: Into<$value>> Extend<(Key, V)> for $name {
             fn extend<I: IntoIterator<Item = (Key, V)>>(&mut self, entries: I) {
-                for (key, value) in entries {
-                    let value = value.into();
+                let mut entries = entries.into_iter().map(|(key, value)| (key, value.into()));
+                for (key, value) in entries.by_ref().take(FEW) {
                     match self.get_mut(&key) {
                         Some(place) => *place = value,
                         None => self.entries.push((key, value)),
                     }
+                }
+                let few = self.entries.len();
+                self.entries.extend(entries);
+                if self.entries.len() > few {
+                    settle(&mut self.entries);
                 }
             }
         }

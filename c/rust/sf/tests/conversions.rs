@@ -391,3 +391,25 @@ fn what_fields_say_is_read_and_written() {
     assert_eq!(refused::<CacheRules>("max-age=60,").offset, 11);
     assert_eq!(of(written::<Path>("a; hit,\"b\"")), "a;hit, \"b\"");
 }
+
+/// Many entries at once: a key stays where it first is, with its last value, as one by one.
+#[test]
+fn many_entries() {
+    let key = |number: usize| Key::new(format!("k{}", number % 20)).unwrap();
+    let all: Dictionary = (0..60).map(|number| (key(number), number as i32)).collect();
+    let names: Vec<String> = (0..20).map(|number| format!("k{number}")).collect();
+    assert!(all.keys().eq(names.iter().map(String::as_str)));
+    let values = all.values().map(|value| value.as_item().unwrap());
+    assert!(values
+        .map(|item| item.bare_item.as_integer())
+        .eq((40..60).map(Some)));
+
+    let mut one = Dictionary::new();
+    one.insert("k3", true).unwrap();
+    one.insert("z", true).unwrap();
+    one.extend((0..60).map(|number| (key(number), number as i32)));
+    let firsts: Vec<&str> = one.keys().take(4).map(|key| key.as_str()).collect();
+    assert_eq!(firsts, ["k3", "z", "k0", "k1"]);
+    assert_eq!((one.len(), &one["k3"]), (21, &ListEntry::from(43)));
+    assert_eq!(one["z"], ListEntry::from(true));
+}
