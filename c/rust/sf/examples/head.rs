@@ -12,13 +12,11 @@ const DIALECT: Dialect = Dialect::Rfc8941;
 /// The lines of a head: names and values.
 type Head<'a> = [(&'a [u8], &'a [u8])];
 
-/// The field lines of a side, names and values, and whether another line is none.
-fn head(heads: &[u8], side: u8) -> (Vec<(&[u8], &[u8])>, bool) {
+/// The lines of a side: a name and a value, or `None` for one that is no field line.
+fn head(heads: &[u8], side: u8) -> Vec<Option<(&[u8], &[u8])>> {
     let lines = heads.split(|byte| *byte == b'\n');
     let of_side = lines.filter_map(|line| line.strip_prefix(&[side, b' ']));
-    let lines: Vec<_> = of_side.map(sf::split_field_line).collect();
-    let is_incomplete = lines.contains(&None);
-    (lines.into_iter().flatten().collect(), is_incomplete)
+    of_side.map(sf::split_field_line).collect()
 }
 
 /// What a field says. One that is malformed counts as absent, and standard error shows it.
@@ -54,8 +52,9 @@ fn source(path: &Path) -> String {
 fn main() -> Result<(), Box<dyn std::error::Error>> {
     let mut heads = Vec::new();
     io::stdin().read_to_end(&mut heads)?;
-    let (request, _) = head(&heads, b'>');
-    let (response, is_incomplete) = head(&heads, b'<');
+    let sides = [head(&heads, b'>'), head(&heads, b'<')];
+    let is_incomplete = sides[1].contains(&None);
+    let [request, response] = sides.map(|side| side.into_iter().flatten().collect::<Vec<_>>());
 
     let client = Priority::from_headers_in(DIALECT, &request);
     let client = said(client, &request, "Priority")?;

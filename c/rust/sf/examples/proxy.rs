@@ -15,13 +15,11 @@ const TARGETS: [&str; 2] = ["ExampleCDN-Cache-Control", "CDN-Cache-Control"];
 /// The RFCs of these fields cite RFC 8941, and have no field of a newer type.
 const DIALECT: Dialect = Dialect::Rfc8941;
 
-/// The field lines of a side, names and values, and whether another line is none.
-fn head(lines: &[Vec<u8>], side: u8) -> (Vec<(&[u8], &[u8])>, bool) {
+/// The lines of a side: a name and a value, or `None` for one that is no field line.
+fn head(lines: &[Vec<u8>], side: u8) -> Vec<Option<(&[u8], &[u8])>> {
     let of_side = lines.iter().filter_map(|line| line.strip_prefix(&[side]));
     let filled = of_side.map(sf::trim).filter(|line| !line.is_empty());
-    let pairs: Vec<_> = filled.map(sf::split_field_line).collect();
-    let is_incomplete = pairs.contains(&None);
-    (pairs.into_iter().flatten().collect(), is_incomplete)
+    filled.map(sf::split_field_line).collect()
 }
 
 /// What a field says. One that is malformed counts as absent (RFC 9218 section 5).
@@ -36,8 +34,9 @@ fn main() -> Result<(), Box<dyn std::error::Error>> {
     let words: Vec<String> = std::env::args().skip(1).collect();
     let has_word = |word: &str| words.iter().any(|said| said == word);
     let lines: Vec<_> = io::stdin().lock().split(b'\n').collect::<Result<_, _>>()?;
-    let (request, _) = head(&lines, b'>');
-    let (response, is_incomplete) = head(&lines, b'<');
+    let heads = [head(&lines, b'>'), head(&lines, b'<')];
+    let is_incomplete = heads[1].contains(&None);
+    let [request, response] = heads.map(|head| head.into_iter().flatten().collect::<Vec<_>>());
 
     let asked = said("Priority", Priority::from_headers_in(DIALECT, &request))?;
     let answered = ResponsePriority::from_headers_in(DIALECT, &response);
