@@ -61,6 +61,7 @@ int main(int argc, char **argv) {
   sf_buffer bytes = sf_buffer_of(allocated(size), size);
   sf_buffer out = sf_buffer_of(allocated(size * 2), size * 2);
   sf_builder field = sf_build(nodes, bytes);
+  /* What RFC 8941 accepts, which RFC 9421 cites, has the same value by RFC 9651. */
   sf_context context = sf_context_of(seed, SF_RFC9651);
   sf_text text = sf_trim(argv[1], strlen(argv[1]));
   uint32_t status = put_others(&context, text, argv[2], &field);

@@ -21,6 +21,7 @@ fn main() -> Result<(), Box<dyn std::error::Error>> {
         .with_param("created", 1_618_884_473)?
         .with_param("keyid", StringRef::constant("test-key"))?;
 
+    // By RFC 9651: what RFC 8941 accepts, which RFC 9421 cites, has the same value.
     let mut field = Dictionary::parse(text)?;
     field.remove(label);
     field.insert(label, member)?;

@@ -427,7 +427,7 @@ pub enum Fault {
     Refused(Refusal),
     /// The first line of `Expires` or of `Date` is no HTTP-date.
     NotADate,
-    /// There is one more line of `Expires` or of `Date`.
+    /// There is a second line of `Expires` or of `Date`. The lines after it are not reported.
     Repeated,
     /// The first member of `Age` is not one or more digits.
     NotAnAge,
@@ -625,11 +625,13 @@ impl Fallback {
                 let fault = refused.map(|refused| Fault::Refused(refused.refusal));
                 ("Cache-Control", fault)
             } else if is_of(&of_head, "Expires") {
+                let before = fallback.expires();
                 fallback.add_expires(value);
-                ("Expires", fault_of(fallback.expires()))
+                ("Expires", new_fault(before, fallback.expires()))
             } else if is_of(&of_head, "Date") {
+                let before = fallback.date();
                 fallback.add_date(value);
-                ("Date", fault_of(fallback.date()))
+                ("Date", new_fault(before, fallback.date()))
             } else {
                 continue;
             };
@@ -641,9 +643,10 @@ impl Fallback {
     }
 }
 
-/// What is wrong with a field of one date after its last line.
-fn fault_of(date: FieldDate) -> Option<Fault> {
-    match date {
+/// What is wrong with a field of one date after one more line, and was not before it.
+fn new_fault(before: FieldDate, after: FieldDate) -> Option<Fault> {
+    match after {
+        _ if before == after => None,
         FieldDate::Absent | FieldDate::At(_) => None,
         FieldDate::Malformed => Some(Fault::NotADate),
         FieldDate::Repeated => Some(Fault::Repeated),

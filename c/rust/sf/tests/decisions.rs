@@ -270,6 +270,17 @@ fn malformed_fields_are_listed() {
     assert!(shown[5].starts_with("Cache-Control: byte 0x62 'b' at place 3, expected "));
     assert_eq!(verdict.field, "Cache-Control");
     assert!(verdict.rules.policy.no_store && !verdict.may_store());
+    // Of many lines the second is reported.
+    let lines = [("Date", "0"); 100];
+    let many = Exchange::at(Cache::Shared, 784_111_777)
+        .decide(&[], &lines)
+        .unwrap();
+    let faults: Vec<_> = many
+        .malformed
+        .iter()
+        .map(|it| (it.line, it.fault))
+        .collect();
+    assert_eq!(faults, [(0, Fault::NotADate), (1, Fault::Repeated)]);
     // What is not read has no fault.
     let obeyed = [
         ("CDN-Cache-Control", "max-age=1"),
