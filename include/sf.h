@@ -1137,8 +1137,9 @@ static inline sf_text sf_take_line(sf_text *rest);
  *   SF_REFUSED  it is no field line: it has no colon, as a status line, or before it no name (RFC
  *               9110 section 5.1); it has a CR, LF or NUL within (section 5.5); or it begins with
  *               white space, as one does that continues the line before (RFC 9112 section 5.2). A
- *               cache that skips such a line may miss a directive: set is_incomplete of the
- *               sf_exchange, so that the response is not stored. No sf_refusal is written
+ *               cache that skips such a line, other than the status line, may miss a directive: set
+ *               is_incomplete of the sf_exchange, so that the response is not stored. No sf_refusal
+ *               is written
  *   SF_SHORT    head->lines.required lines are required
  *
  * Unless SF_SHORT is returned, the line counts: head->number is one greater.

@@ -15,8 +15,10 @@ type Head<'a> = [(&'a [u8], &'a [u8])];
 /// The lines of a side: a name and a value, or `None` for one that is no field line.
 fn head(heads: &[u8], side: u8) -> Vec<Option<(&[u8], &[u8])>> {
     let lines = heads.split(|byte| *byte == b'\n');
-    let of_side = lines.filter_map(|line| line.strip_prefix(&[side, b' ']));
-    of_side.map(sf::split_field_line).collect()
+    let of_side = lines.filter_map(|line| line.strip_prefix(&[side]));
+    let contents = of_side.map(|line| line.strip_prefix(b" ").unwrap_or(line));
+    let filled = contents.filter(|line| !matches!(line, [] | [b'\r']));
+    filled.map(sf::split_field_line).collect()
 }
 
 /// What a field says. One that is malformed counts as absent, and standard error shows it.

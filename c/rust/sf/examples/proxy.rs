@@ -18,7 +18,8 @@ const DIALECT: Dialect = Dialect::Rfc8941;
 /// The lines of a side: a name and a value, or `None` for one that is no field line.
 fn head(lines: &[Vec<u8>], side: u8) -> Vec<Option<(&[u8], &[u8])>> {
     let of_side = lines.iter().filter_map(|line| line.strip_prefix(&[side]));
-    let filled = of_side.map(sf::trim).filter(|line| !line.is_empty());
+    let contents = of_side.map(sf::trim);
+    let filled = contents.filter(|line| !matches!(line, [] | [b'\r']));
     filled.map(sf::split_field_line).collect()
 }
 

@@ -404,6 +404,19 @@ fn many_entries() {
         .map(|item| item.bare_item.as_integer())
         .eq((40..60).map(Some)));
 
+    // Few are put one by one, and many at once: the same for each number of them.
+    for count in 0..24 {
+        let key = |number: usize| Key::new(format!("k{}", number * 7 % 11)).unwrap();
+        let mut singly = Dictionary::new();
+        for number in 0..count {
+            singly.insert(key(number), number as i32).unwrap();
+        }
+        let at_once: Dictionary = (0..count)
+            .map(|number| (key(number), number as i32))
+            .collect();
+        assert_eq!(at_once, singly);
+    }
+
     let mut one = Dictionary::new();
     one.insert("k3", true).unwrap();
     one.insert("z", true).unwrap();
