@@ -11,7 +11,8 @@
  *   Values that are built     sf_build, sf_put_string and the like, sf_put_copy, sf_write_built
  *   Priority                  sf_read_priority, sf_merge_priority, sf_write_priority
  *   Cache-Status              sf_read_hops, sf_append_or_write_hop
- *   Heads of messages         sf_add_head_line, sf_find_field, sf_locate_in_head
+ *   Heads of messages         sf_take_head, sf_find_field, sf_locate_in_head
+ *   The fields of a head      sf_find_priority, sf_find_hops, sf_add_hop, sf_show_fault
  *   What a cache decides      sf_decide_response; its parts, such as sf_choose_rules
  *
  * All of them are inline functions, which are tested, over those of the library, which are proved.
@@ -623,6 +624,20 @@ static inline sf_status sf_set_text(sf_tree *tree, sf_node *node, sf_type type, 
 SF_USE_RESULT
 static inline sf_status sf_write_tree(sf_context *context, const sf_tree *tree, sf_buffer *out);
 
+/*
+ * Writes the bare item of a node of a tree, without its key and its parameters, as it is in a
+ * canonical text: "a", :YQ==: or ?1.
+ *
+ *   SF_OK        the first out->length bytes of out are the text
+ *   SF_SHORT     it has out->required bytes, more than the capacity
+ *   SF_INVALID   the node is an Inner List, or was changed and is not valid
+ *   SF_BAD_CALL  no text was read into the tree
+ *   SF_NO_MEMORY
+ */
+SF_USE_RESULT
+static inline sf_status sf_write_bare(sf_context *context, const sf_tree *tree, const sf_node *node,
+                                     sf_buffer *out);
+
 /* == Values that are built. == */
 
 /*
@@ -1087,9 +1102,11 @@ static inline sf_status sf_append_or_write_hop(sf_context *context, sf_text text
 
 /* A field line of a head. */
 typedef struct sf_head_line {
-  sf_text name;    /* of the field, in any case */
-  sf_text value;   /* without the white space around it */
-  uint64_t number; /* of the line, as messages have it: see sf_locate_in_head */
+  sf_text name;     /* of the field, in any case */
+  sf_text value;    /* without the white space around it */
+  sf_text received; /* the line as it was passed to sf_add_head_line, without its CR and LF; or the
+                       value as it was passed to sf_add_field_line */
+  uint64_t number;  /* of the line, as messages have it: see sf_locate_in_head */
 } sf_head_line;
 
 /* A buffer for the field lines of a head. */
@@ -1104,12 +1121,47 @@ typedef struct sf_head_lines {
 static inline sf_head_lines sf_head_lines_of(sf_head_line *at, size_t capacity);
 #define SF_HEAD_LINES(lines) sf_head_lines_of((lines), SF_LENGTH_OF(lines))
 
+/* Why a line or a field of a head counts as malformed. */
+typedef enum sf_reason {
+  SF_FAULT_REFUSED = 91,    /* it is refused: location.refusal says where and why */
+  SF_FAULT_NOT_A_DATE = 92, /* the first line of Expires or Date is no HTTP-date (RFC 9110 section
+                               5.6.7) */
+  SF_FAULT_REPEATED = 93,   /* there is a second line of Expires or Date */
+  SF_FAULT_NOT_AN_AGE = 94, /* the first member of Age is not one or more digits (RFC 9111 section
+                               5.1) */
+  SF_FAULT_NOT_A_LINE = 95  /* the line is no field line: see sf_add_head_line */
+} sf_reason;
+
+/* A line or a field of a head that is malformed. */
+typedef struct sf_fault {
+  const char *field;    /* the name by which the field was looked up; "" for SF_FAULT_NOT_A_LINE */
+  uint32_t reason;      /* an sf_reason */
+  sf_location location; /* the line as it was received, and the place in it; if the reason is not
+                           SF_FAULT_REFUSED, that is where the value begins, or 0 */
+} sf_fault;
+
+/* A buffer for faults. */
+typedef struct sf_faults {
+  sf_fault *at;
+  size_t capacity;
+  size_t length;   /* how many were kept: the first ones */
+  size_t required; /* how many were found */
+} sf_faults;
+
+/* Return a buffer over the caller's faults, with their number, and over an array of them. */
+static inline sf_faults sf_faults_of(sf_fault *at, size_t capacity);
+#define SF_FAULTS(faults) sf_faults_of((faults), SF_LENGTH_OF(faults))
+
 /* The head of a request or a response: its field lines, in order. */
 typedef struct sf_head {
-  sf_head_lines lines; /* the first lines.length are those that were added */
-  sf_buffer joined;    /* the fields of several lines that were looked up, joined */
-  uint64_t number;     /* of the line that is added next; 1 at first: set it if the caller's file or
-                          stream has another */
+  sf_head_lines lines;    /* the first lines.length are those that were added */
+  sf_buffer joined;       /* the fields of several lines that were looked up, joined */
+  uint64_t number;        /* of the line that is added next; 1 at first: set it if the caller's file
+                             or stream has another */
+  uint32_t is_incomplete; /* 1 if a line was refused: it may have had a directive, so
+                             sf_decide_response does not permit to store the response */
+  sf_faults faults;       /* what was found to be malformed, if the caller sets a buffer for it:
+                             head.faults = SF_FAULTS(array); */
 } sf_head;
 
 /* Returns a head without lines, with these buffers, which must be valid as long as it is used. A
@@ -1132,20 +1184,32 @@ static inline sf_text sf_take_line(sf_text *rest);
  * Adds a field line as it was received (RFC 9112 section 5), with or without its CR and LF. It is
  * not copied: it must be valid as long as the head is used.
  *
- *   SF_OK       the line is added
+ *   SF_OK       the line is added; or it is the start line of the message (section 2.1), the first
+ *               that was passed, which begins with HTTP/ or ends with an HTTP version: it is not
+ *               added
  *   SF_EMPTY    it is empty: the head ends
- *   SF_REFUSED  it is no field line: it has no colon, as a status line, or before it no name (RFC
- *               9110 section 5.1); it has a CR, LF or NUL within (section 5.5); or it begins with
- *               white space, as one does that continues the line before (RFC 9112 section 5.2). A
- *               cache that skips such a line, other than the status line, may miss a directive: set
- *               is_incomplete of the sf_exchange, so that the response is not stored. No sf_refusal
- *               is written
+ *   SF_REFUSED  it is no field line: it has no colon, or before it no name (RFC 9110 section 5.1);
+ *               it has a CR, LF or NUL within (section 5.5); or it begins with white space, as one
+ *               does that continues the line before (RFC 9112 section 5.2). A cache that skips such
+ *               a line may miss a directive: head->is_incomplete is 1, and head->faults has the
+ *               line. No sf_refusal is written
  *   SF_SHORT    head->lines.required lines are required
  *
  * Unless SF_SHORT is returned, the line counts: head->number is one greater.
  */
 SF_USE_RESULT
 static inline sf_status sf_add_head_line(sf_head *head, sf_text line);
+
+/*
+ * Adds the lines of a head by sf_add_head_line, up to the empty line that ends it, and takes them
+ * off the text. A line that is no field line is in head->faults.
+ *
+ *   SF_OK     the head has ended: *rest is what comes after it
+ *   SF_EMPTY  the text ended before the head did
+ *   SF_SHORT  head->lines.required lines are required; *rest begins with the line that is too many
+ */
+SF_USE_RESULT
+static inline sf_status sf_take_head(sf_head *head, sf_text *rest);
 
 /*
  * Adds a field line by its name and its value, of which white space around it is no part. They are
@@ -1180,8 +1244,8 @@ static inline sf_status sf_find_field(sf_head *head, const char *name, sf_text *
 /*
  * Returns the line that a refusal is in, and the refusal in it, of the text of a field of a head,
  * as sf_find_field joins it. The index is that of the line in head->lines, 0 if the head does not
- * have the field; the place is in the value of the line, which sf_head_line has without the white
- * space around it; the number is that of the line in the caller's file or stream:
+ * have the field; the line and the place in it are those of the line as it was received, with the
+ * name of the field; the number is that of the line in the caller's file or stream:
  *
  *   sf_head_line head_lines[8];
  *   char bytes[64];
@@ -1196,13 +1260,141 @@ static inline sf_status sf_find_field(sf_head *head, const char *name, sf_text *
  *   if (sf_read_priority(&context, priority, &client) == SF_REFUSED) {
  *     sf_location location = sf_locate_in_head(&context.refusal, &head, "Priority");
  *     printf("line %d, place %d\n", (int)location.number, (int)location.refusal.offset);
- *   } // line 13, place 2
+ *   } // line 13, place 12
  *
  * sf_show_excerpt_of_line writes the whole message. If the head does not have the field, the line
  * is empty, and its number 1.
  */
 static inline sf_location sf_locate_in_head(const sf_refusal *refusal, const sf_head *head,
                                             const char *name);
+
+/* == The fields of a head. == */
+
+/*
+ * These calls look a field of a head up and read it. A malformed field counts as absent (RFC 9651
+ * section 4.2), and is a fault of the head:
+ *
+ *   sf_head_line head_lines[8];
+ *   char bytes[64], message[SF_FAULT_SIZE(8, 40)];
+ *   sf_fault faults[4];
+ *   sf_buffer out = SF_BUFFER(message);
+ *   sf_head head = sf_head_in(SF_HEAD_LINES(head_lines), SF_BUFFER(bytes));
+ *   head.faults = SF_FAULTS(faults);
+ *   sf_text rest = sf_cstr("GET / HTTP/1.1\r\nPriority: u=5\r\npriority: i=,\r\n\r\n");
+ *   sf_priority_flags client;
+ *   if (sf_take_head(&head, &rest) != SF_OK ||
+ *       sf_find_priority(&context, &head, &client) != SF_OK)
+ *     return EXIT_FAILURE;
+ *   for (size_t i = 0; i < head.faults.length; ++i)
+ *     if (sf_show_fault(&faults[i], 40, &out) == SF_OK)
+ *       printf("%.*s\n", SF_ARGS(out));
+ *       // Priority: byte 0x2c ',' at place 12, expected a letter, a digit, or one of `"%(*-:?@`
+ *       // line 3, place 12:
+ *       // priority: i=,
+ *       //             ^
+ *
+ * Each call adds its faults, also if another call found them before.
+ */
+
+/*
+ * Reads the Priority field of a request, as sf_read_priority does.
+ *
+ *   SF_OK     *client is written: with defaults for what is absent
+ *   SF_SHORT  head->joined.required bytes are required
+ *   SF_NO_MEMORY, SF_BAD_CALL
+ *
+ * Unless SF_OK is returned, *client is unchanged. The lines that it joins are not kept in
+ * head->joined.
+ */
+SF_USE_RESULT
+static inline sf_status sf_find_priority(sf_context *context, sf_head *head,
+                                        sf_priority_flags *client);
+
+/* Reads the Priority field of a response, as sf_read_response_priority does. The results are those
+ * of sf_find_priority, with *server in the place of *client: zeros for what is absent. */
+SF_USE_RESULT
+static inline sf_status sf_find_response_priority(sf_context *context, sf_head *head,
+                                                 sf_response_priority_flags *server);
+
+/*
+ * Reads the Cache-Status field of a response, as sf_read_hops does. A member that names no cache is
+ * a fault, too.
+ *
+ *   SF_OK     the list is the path, without hops if the field is absent or malformed
+ *   SF_SHORT  head->joined.required bytes are required for the lines, or, if that is 0, the list
+ *             requires larger buffers, as after sf_read_hops
+ *   SF_NO_MEMORY, SF_BAD_CALL
+ *
+ * Unless SF_OK is returned, the list is empty. The lines that it joins are not kept in
+ * head->joined.
+ */
+SF_USE_RESULT
+static inline sf_status sf_find_hops(sf_context *context, sf_head *head, sf_hop_list *list);
+
+/*
+ * Reads a field of a kind into a tree, as sf_read_tree does.
+ *
+ *   SF_OK     the tree is the value, without nodes if the field is absent or malformed
+ *   SF_SHORT  head->joined.required bytes are required for the lines, or, if that is 0,
+ *             tree->bytes.required
+ *   SF_TOO_MANY, SF_TOO_LONG, SF_NO_MEMORY, SF_BAD_CALL
+ *
+ * Unless SF_OK is returned, the tree is empty. The text of the tree is in the lines of the head, or
+ * in head->joined: it must be valid as long as the tree is used.
+ */
+SF_USE_RESULT
+static inline sf_status sf_find_tree(sf_context *context, sf_kind kind, sf_head *head,
+                                    const char *name, sf_tree *tree);
+
+/*
+ * Writes the Cache-Status field to be sent in the place of the lines of a head, as
+ * sf_append_or_write_hop does: with this hop as its last member, or this hop alone if what was
+ * received is malformed.
+ *
+ *   SF_OK       the first out->length bytes of out are the text
+ *   SF_SHORT    head->joined.required bytes are required for the lines, or, if that is 0,
+ *               out->required
+ *   SF_INVALID  own->hop is not a hop, or its outcome is SF_CONFLICT
+ *   SF_NO_MEMORY, SF_BAD_CALL
+ *
+ * The lines that it joins are not kept in head->joined.
+ */
+SF_USE_RESULT
+static inline sf_status sf_add_hop(sf_context *context, sf_head *head, const sf_own_hop *own,
+                                  sf_buffer *out);
+
+/*
+ * Checks whether a field of a head is well-formed, as sf_check_text does.
+ *
+ *   SF_OK       it is, or it is absent
+ *   SF_REFUSED  it is not: it is a fault of the head, and context->refusal says why
+ *   SF_SHORT    head->joined.required bytes are required
+ *   SF_BAD_CALL
+ *
+ * An absent Item, of which the text is empty, is well-formed here. The lines that it joins are not
+ * kept in head->joined. Does not allocate.
+ */
+SF_USE_RESULT
+static inline sf_status sf_check_field(sf_context *context, sf_kind kind, sf_head *head,
+                                      const char *name);
+
+/* Adds the refusal of a field to the faults of a head, for other functions that read the text of
+ * sf_find_field. Returns nothing. */
+static inline void sf_note_refusal(sf_head *head, const char *name, const sf_refusal *refusal);
+
+/* The size in bytes of a buffer that is large enough for each message of sf_show_fault of a field
+ * whose name has this length, with this number of bytes of the line at most. */
+#define SF_FAULT_SIZE(name_length, most)                                                           \
+  (SF_REFUSAL_EXCERPT_SIZE(most) + sizeof(char) * (name_length))
+
+/*
+ * Writes the error message of a fault: the name of the field, what is wrong, the number of the line
+ * and the place in it, and at most so many bytes of the line around the place, as
+ * sf_show_excerpt_of_line does. A buffer of SF_FAULT_SIZE(strlen(fault->field), most) bytes is
+ * always large enough. The results are those of sf_write_refusal.
+ */
+SF_USE_RESULT
+static inline sf_status sf_show_fault(const sf_fault *fault, size_t most, sf_buffer *out);
 
 /* == What a cache decides (RFC 9111 and 9213). == */
 
@@ -1281,8 +1473,6 @@ typedef struct sf_exchange {
   uint32_t is_understood; /* 1 if the cache understands the status code and implements its
                              requirements, otherwise 0: counts for 206, 304 and must-understand */
   uint32_t is_authorized; /* 1 if the request had Authorization, otherwise 0 */
-  uint32_t is_incomplete; /* 1 if a line of the head is no field line, as sf_add_head_line says by
-                             SF_REFUSED, otherwise 0: it may have had a directive */
   uint64_t requested;     /* when the request was sent */
   uint64_t received;      /* when the response was received */
   uint64_t now;           /* when the response would be used */
@@ -1301,7 +1491,7 @@ typedef enum sf_obstacle {
                                permits it (3.5) */
   SF_BARRED_UNPERMITTED = 85, /* nothing permits it: no directive, no Expires, and the status code
                                  is not heuristically cacheable (RFC 9110 section 15.1) */
-  SF_BARRED_LINE = 86         /* a line of the head is no field line (sf_exchange.is_incomplete) */
+  SF_BARRED_LINE = 86         /* a line of the head is no field line (sf_head.is_incomplete) */
 } sf_obstacle;
 
 /* Returns an obstacle in words, such as "the status code"; "" for SF_NO_OBSTACLE and for a number
@@ -1366,9 +1556,10 @@ typedef struct sf_verdict {
  *   SF_BAD_CALL   there is no such dialect or cache
  *   SF_NO_MEMORY
  *
- * Unless SF_OK is returned, *verdict is unchanged. The heuristics of section 4.2.2 are the
- * caller's, and so are the method, directives of the request and Vary (sections 3, 4 and 4.1). The
- * fields that it joins are not kept in head->joined. Does not allocate.
+ * Unless SF_OK is returned, *verdict is unchanged. What is malformed is in head->faults, too. The
+ * heuristics of section 4.2.2 are the caller's, and so are the method, directives of the request
+ * and Vary (sections 3, 4 and 4.1). The fields that it joins are not kept in head->joined. Does not
+ * allocate.
  */
 SF_USE_RESULT
 static inline sf_status sf_decide_response(sf_context *context, sf_head *head, sf_target *targets,

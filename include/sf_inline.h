@@ -301,30 +301,46 @@ static inline sf_status sf_show_refusal(const sf_refusal *refusal, sf_text text,
   return sf_wrote(out, status, required);
 }
 
-/* Writes the error message of a refusal of this text, then these bytes, then the lines of
- * sf_show_excerpt: for the functions below. */
+/* Copies a text, and returns the place after it: for the functions below. */
+static inline char *sf_put_text(char *to, sf_text text) {
+  if (text.length > 0)
+    memcpy(to, text.at, text.length);
+  return to + text.length;
+}
+
+/* Writes the name of a field and a colon, unless it is empty; the error message of a refusal,
+ * unless other words take its place; a text; and the lines of sf_show_excerpt. For the functions
+ * below. */
 SF_USE_RESULT
-static inline sf_status sf_show_excerpt_below(const sf_refusal *refusal, sf_text head, sf_text text,
-                                             size_t most, sf_buffer *out) {
+static inline sf_status sf_show_excerpt_below(sf_text field, const char *words,
+                                             const sf_refusal *refusal, sf_text place,
+                                             sf_text text, size_t most, sf_buffer *out) {
+  sf_text colon = sf_text_of(": ", field.length == 0 ? 0 : 2);
   size_t at = refusal->offset < text.length ? (size_t)refusal->offset : text.length;
   size_t from = at > most / 2 ? at - most / 2 : 0, length, message = 0, required, i;
-  uint32_t status;
+  uint32_t status = SF_SHORT;
   char *to;
   if (text.length - from < most)
     from = text.length > most ? text.length - most : 0;
   length = text.length - from < most ? text.length - from : most;
-  status = sf_refusal_text(refusal, NULL, 0, &message);
+  if (words != NULL)
+    message = strlen(words);
+  else
+    status = sf_refusal_text(refusal, NULL, 0, &message);
   if (status != SF_SHORT)
     return sf_wrote(out, status, 0);
-  required = message + head.length + length + (at - from) + 3;
+  required =
+      field.length + colon.length + message + place.length + length + (at - from) + 3;
   if (required > out->capacity)
     return sf_wrote(out, SF_SHORT, required);
-  status = sf_refusal_text(refusal, out->at, out->capacity, &message);
-  if (status != SF_OK)
+  to = sf_put_text(sf_put_text(out->at, field), colon);
+  if (words != NULL)
+    memcpy(to, words, message);
+  else
+    status = sf_refusal_text(refusal, to, message, &message);
+  if (words == NULL && status != SF_OK)
     return sf_wrote(out, status, 0);
-  to = out->at + message;
-  memcpy(to, head.at, head.length);
-  to += head.length;
+  to = sf_put_text(to + message, place);
   *to++ = '\n';
   for (i = 0; i < length; ++i) {
     char byte = text.at[from + i];
@@ -338,7 +354,8 @@ static inline sf_status sf_show_excerpt_below(const sf_refusal *refusal, sf_text
 
 static inline sf_status sf_show_excerpt(const sf_refusal *refusal, sf_text text, size_t most,
                                        sf_buffer *out) {
-  return sf_show_excerpt_below(refusal, sf_text_of("", 0), text, most, out);
+  sf_text nothing = sf_text_of("", 0);
+  return sf_show_excerpt_below(nothing, NULL, refusal, nothing, text, most, out);
 }
 
 /* Writes these bytes and a number, and returns the place after them: for the function below. */
@@ -389,14 +406,22 @@ static inline sf_location sf_locate_in_lines(const sf_refusal *refusal, const sf
   return location;
 }
 
-static inline sf_status sf_show_excerpt_of_line(const sf_location *location, size_t most,
-                                               sf_buffer *out) {
-  char head[64], *end;
-  end = sf_put_number(head, "\nline ", location->number);
+/* Writes the message of sf_show_excerpt_of_line after the name of a field, and with other words
+ * unless they are NULL: for the functions below. */
+SF_USE_RESULT
+static inline sf_status sf_show_place(sf_text field, const char *words,
+                                     const sf_location *location, size_t most, sf_buffer *out) {
+  char place[64], *end;
+  end = sf_put_number(place, "\nline ", location->number);
   end = sf_put_number(end, ", place ", location->refusal.offset);
   *end++ = ':';
-  return sf_show_excerpt_below(&location->refusal, sf_text_of(head, (size_t)(end - head)),
-                               location->line, most, out);
+  return sf_show_excerpt_below(field, words, &location->refusal,
+                               sf_text_of(place, (size_t)(end - place)), location->line, most, out);
+}
+
+static inline sf_status sf_show_excerpt_of_line(const sf_location *location, size_t most,
+                                               sf_buffer *out) {
+  return sf_show_place(sf_text_of("", 0), NULL, location, most, out);
 }
 
 static inline sf_status sf_write_canonical(sf_context *context, sf_kind kind, sf_text text,
@@ -513,6 +538,22 @@ static inline sf_status sf_set_text(sf_tree *tree, sf_node *node, sf_type type, 
   node->coded = 0;
   tree->bytes.length = at + value.length;
   return SF_OK;
+}
+
+static inline sf_status sf_write_bare(sf_context *context, const sf_tree *tree, const sf_node *node,
+                                     sf_buffer *out) {
+  sf_node item = *node;
+  size_t required = 0, invalid = 0;
+  uint32_t status = SF_BAD_CALL;
+  item.key_at = 0;
+  item.key_length = 0;
+  item.size = 1;
+  item.role = SF_MEMBER;
+  if (tree->kind != 0)
+    status = sf_write(&context->seed, context->dialect, SF_ITEM, &item, 1, tree->text.at,
+                      tree->text.length, tree->bytes.at, tree->bytes.length, out->at,
+                      out->capacity, &required, &invalid);
+  return sf_wrote(out, status, required);
 }
 
 static inline sf_status sf_write_tree(sf_context *context, const sf_tree *tree, sf_buffer *out) {
@@ -947,6 +988,15 @@ static inline sf_head_lines sf_head_lines_of(sf_head_line *at, size_t capacity) 
   return lines;
 }
 
+static inline sf_faults sf_faults_of(sf_fault *at, size_t capacity) {
+  sf_faults faults;
+  faults.at = at;
+  faults.capacity = capacity;
+  faults.length = 0;
+  faults.required = 0;
+  return faults;
+}
+
 static inline sf_head sf_head_in(sf_head_lines lines, sf_buffer joined) {
   sf_head head;
   head.lines = lines;
@@ -954,10 +1004,15 @@ static inline sf_head sf_head_in(sf_head_lines lines, sf_buffer joined) {
   head.joined = joined;
   head.joined.length = 0;
   head.number = 1;
+  head.is_incomplete = 0;
+  head.faults = sf_faults_of(NULL, 0);
   return head;
 }
 
-static inline sf_status sf_add_field_line(sf_head *head, sf_text name, sf_text value) {
+/* Adds a field line that was received so: for the functions below. */
+SF_USE_RESULT
+static inline sf_status sf_add_received(sf_head *head, sf_text name, sf_text value,
+                                       sf_text received) {
   sf_head_line *line;
   head->lines.required = 0;
   if (head->lines.length >= head->lines.capacity) {
@@ -967,8 +1022,13 @@ static inline sf_status sf_add_field_line(sf_head *head, sf_text name, sf_text v
   line = head->lines.at + head->lines.length++;
   line->name = sf_trim(name.at, name.length);
   line->value = sf_trim(value.at, value.length);
+  line->received = received;
   line->number = head->number++;
   return SF_OK;
+}
+
+static inline sf_status sf_add_field_line(sf_head *head, sf_text name, sf_text value) {
+  return sf_add_received(head, name, value, value);
 }
 
 static inline sf_text sf_take_line(sf_text *rest) {
@@ -981,14 +1041,17 @@ static inline sf_text sf_take_line(sf_text *rest) {
   return line;
 }
 
+/* Returns whether a byte is one of a token (RFC 9110 section 5.6.2): for the functions below. */
+static inline int sf_is_tchar(char c) {
+  return (c >= 'a' && c <= 'z') || (c >= 'A' && c <= 'Z') || (c >= '0' && c <= '9') ||
+         (c != 0 && strchr("!#$%&'*+-.^_`|~", c) != NULL);
+}
+
 static inline int sf_is_field_name(sf_text name) {
   size_t i;
-  for (i = 0; i < name.length; ++i) {
-    char c = name.at[i];
-    if (!((c >= 'a' && c <= 'z') || (c >= 'A' && c <= 'Z') || (c >= '0' && c <= '9') ||
-          (c != 0 && strchr("!#$%&'*+-.^_`|~", c) != NULL)))
+  for (i = 0; i < name.length; ++i)
+    if (!sf_is_tchar(name.at[i]))
       return 0;
-  }
   return name.length > 0;
 }
 
@@ -1000,21 +1063,72 @@ static inline int sf_is_field_value(sf_text value) {
   return 1;
 }
 
+/* Returns whether a text begins with an HTTP version (RFC 9112 section 2.3): for the functions
+ * below. */
+static inline int sf_is_version(sf_text text) {
+  return text.length >= 8 && memcmp(text.at, "HTTP/", 5) == 0 && text.at[5] >= '0' &&
+         text.at[5] <= '9' && text.at[6] == '.' && text.at[7] >= '0' && text.at[7] <= '9';
+}
+
+/* Returns whether a line is a status line or a request line (RFC 9112 sections 3 and 4): likewise.
+ */
+static inline int sf_is_start_line(sf_text line) {
+  if (sf_is_version(line))
+    return line.length == 8 || line.at[8] == ' ';
+  return line.length > 9 && line.at[line.length - 9] == ' ' &&
+         sf_is_version(sf_text_of(line.at + line.length - 8, 8));
+}
+
+/* Adds a fault to those of a head: for the functions below. */
+static inline void sf_note_fault(sf_head *head, const char *field, sf_reason reason,
+                                 const sf_location *location) {
+  ++head->faults.required;
+  if (head->faults.length < head->faults.capacity) {
+    sf_fault *fault = head->faults.at + head->faults.length++;
+    fault->field = field;
+    fault->reason = (uint32_t)reason;
+    fault->location = *location;
+  }
+}
+
 static inline sf_status sf_add_head_line(sf_head *head, sf_text line) {
-  size_t colon = 0, length = line.length;
+  size_t colon = 0;
   sf_text name, value;
-  length -= length > 0 && line.at[length - 1] == '\n';
-  length -= length > 0 && line.at[length - 1] == '\r';
-  while (colon < length && line.at[colon] != ':')
+  sf_location location;
+  line.length -= line.length > 0 && line.at[line.length - 1] == '\n';
+  line.length -= line.length > 0 && line.at[line.length - 1] == '\r';
+  while (colon < line.length && line.at[colon] != ':')
     ++colon;
   name = sf_text_of(line.at, colon);
-  value = colon == length ? name : sf_text_of(line.at + colon + 1, length - colon - 1);
-  if (length == 0 || colon == length || line.at[0] == ' ' || line.at[0] == '\t' ||
-      !sf_is_field_name(sf_trim(name.at, name.length)) || !sf_is_field_value(value)) {
-    ++head->number;
-    return length == 0 ? SF_EMPTY : SF_REFUSED;
+  value = colon == line.length ? name : sf_text_of(line.at + colon + 1, line.length - colon - 1);
+  if (colon < line.length && line.at[0] != ' ' && line.at[0] != '\t' &&
+      sf_is_field_name(sf_trim(name.at, name.length)) && sf_is_field_value(value))
+    return sf_add_received(head, name, value, line);
+  memset(&location, 0, sizeof location);
+  location.index = head->lines.length;
+  location.number = head->number++;
+  location.line = line;
+  if (line.length == 0)
+    return SF_EMPTY;
+  if (head->lines.length == 0 && !head->is_incomplete && sf_is_start_line(line))
+    return SF_OK;
+  head->is_incomplete = 1;
+  sf_note_fault(head, "", SF_FAULT_NOT_A_LINE, &location);
+  return SF_REFUSED;
+}
+
+static inline sf_status sf_take_head(sf_head *head, sf_text *rest) {
+  while (rest->length > 0) {
+    sf_text before = *rest;
+    sf_status status = sf_add_head_line(head, sf_take_line(rest));
+    if (status == SF_EMPTY)
+      return SF_OK;
+    if (status == SF_SHORT) {
+      *rest = before;
+      return status;
+    }
   }
-  return sf_add_field_line(head, name, value);
+  return SF_EMPTY;
 }
 
 static inline int sf_is_named(const sf_head_line *line, const char *name) {
@@ -1066,6 +1180,15 @@ static inline sf_status sf_find_field(sf_head *head, const char *name, sf_text *
   return SF_OK;
 }
 
+/* Moves a location in the value of a line to the line as it was received: for the functions below.
+ */
+static inline void sf_show_received(sf_location *location, const sf_head_line *line) {
+  uintptr_t value = (uintptr_t)line->value.at, received = (uintptr_t)line->received.at;
+  int is_within = value >= received && value - received <= line->received.length;
+  location->line = is_within ? line->received : line->value; /* it may have been changed */
+  location->refusal.offset += is_within ? value - received : 0;
+}
+
 static inline sf_location sf_locate_in_head(const sf_refusal *refusal, const sf_head *head,
                                             const char *name) {
   sf_location location = sf_locate_in_lines(refusal, NULL, 0);
@@ -1073,11 +1196,130 @@ static inline sf_location sf_locate_in_head(const sf_refusal *refusal, const sf_
   size_t i;
   for (i = 0; i < head->lines.length; ++i) {
     const sf_head_line *line = &head->lines.at[i];
-    if (sf_is_named(line, name) &&
-        sf_locate_in_line(&location, refusal, &offset, line->value, i, line->number))
-      break;
+    if (sf_is_named(line, name)) {
+      int is_here = sf_locate_in_line(&location, refusal, &offset, line->value, i, line->number);
+      sf_show_received(&location, line);
+      if (is_here)
+        break;
+    }
   }
   return location;
+}
+
+static inline void sf_note_refusal(sf_head *head, const char *name, const sf_refusal *refusal) {
+  sf_location location = sf_locate_in_head(refusal, head, name);
+  sf_note_fault(head, name, SF_FAULT_REFUSED, &location);
+}
+
+/* Adds what is wrong with the value of a line of a head, with a refusal in it: for the functions
+ * below. */
+static inline void sf_note_value(sf_head *head, const char *name, sf_reason reason, size_t index,
+                                 const sf_refusal *refusal) {
+  const sf_head_line *line = &head->lines.at[index];
+  sf_location location;
+  location.index = index;
+  location.number = line->number;
+  location.refusal = *refusal;
+  sf_show_received(&location, line);
+  sf_note_fault(head, name, reason, &location);
+}
+
+static inline sf_status sf_show_fault(const sf_fault *fault, size_t most, sf_buffer *out) {
+  const char *words = fault->reason == SF_FAULT_NOT_A_DATE   ? "not an HTTP-date"
+                      : fault->reason == SF_FAULT_REPEATED   ? "there are several lines"
+                      : fault->reason == SF_FAULT_NOT_AN_AGE ? "not a number of seconds"
+                      : fault->reason == SF_FAULT_NOT_A_LINE ? "not a field line"
+                                                             : NULL;
+  return sf_show_place(sf_cstr(fault->field), words, &fault->location, most, out);
+}
+
+/* Returns the status of a call that looked up a field and read it with this status. One that is
+ * malformed counts as absent, and is added to the faults: for the functions below. */
+static inline sf_status sf_found(const sf_context *context, sf_head *head, const char *name,
+                                 sf_status status) {
+  if (status != SF_REFUSED && status != SF_NOT_A_CACHE)
+    return status;
+  sf_note_refusal(head, name, &context->refusal);
+  return SF_OK;
+}
+
+static inline sf_status sf_find_priority(sf_context *context, sf_head *head,
+                                        sf_priority_flags *client) {
+  sf_priority_flags said = SF_PRIORITY_UNSET;
+  size_t begin = head->joined.length;
+  sf_text text;
+  sf_status status = sf_find_field(head, "Priority", &text);
+  if (status == SF_OK)
+    status = sf_read_priority(context, text, &said);
+  head->joined.length = begin;
+  status = sf_found(context, head, "Priority", status);
+  if (status == SF_OK)
+    *client = said;
+  return status;
+}
+
+static inline sf_status sf_find_response_priority(sf_context *context, sf_head *head,
+                                                 sf_response_priority_flags *server) {
+  sf_response_priority_flags said = {0, 0, 0, 0};
+  size_t begin = head->joined.length;
+  sf_text text;
+  sf_status status = sf_find_field(head, "Priority", &text);
+  if (status == SF_OK)
+    status = sf_read_response_priority(context, text, &said);
+  head->joined.length = begin;
+  status = sf_found(context, head, "Priority", status);
+  if (status == SF_OK)
+    *server = said;
+  return status;
+}
+
+static inline sf_status sf_find_hops(sf_context *context, sf_head *head, sf_hop_list *list) {
+  size_t begin = head->joined.length;
+  sf_text text;
+  sf_status status = sf_find_field(head, "Cache-Status", &text);
+  *list = sf_hop_list_in(sf_hops_of(list->hops.at, list->hops.capacity),
+                         sf_buffer_of(list->bytes.at, list->bytes.capacity));
+  if (status == SF_OK)
+    status = sf_read_hops(context, text, list);
+  head->joined.length = begin;
+  return sf_found(context, head, "Cache-Status", status);
+}
+
+static inline sf_status sf_find_tree(sf_context *context, sf_kind kind, sf_head *head,
+                                    const char *name, sf_tree *tree) {
+  sf_text text;
+  sf_status status = sf_find_field(head, name, &text);
+  *tree = sf_tree_in(sf_nodes_of(tree->nodes.at, tree->nodes.capacity),
+                     sf_buffer_of(tree->bytes.at, tree->bytes.capacity));
+  if (status == SF_OK && (kind != SF_ITEM || sf_has_field(head, name)))
+    status = sf_read_tree(context, kind, text, tree);
+  return sf_found(context, head, name, status);
+}
+
+static inline sf_status sf_check_field(sf_context *context, sf_kind kind, sf_head *head,
+                                      const char *name) {
+  size_t begin = head->joined.length;
+  sf_text text;
+  sf_status status = sf_find_field(head, name, &text);
+  if (status == SF_OK && (kind != SF_ITEM || sf_has_field(head, name)))
+    status = sf_check_text(context, kind, text);
+  head->joined.length = begin;
+  if (status == SF_REFUSED)
+    sf_note_refusal(head, name, &context->refusal);
+  return status;
+}
+
+static inline sf_status sf_add_hop(sf_context *context, sf_head *head, const sf_own_hop *own,
+                                  sf_buffer *out) {
+  size_t begin = head->joined.length;
+  uint32_t is_appended = 1;
+  sf_text text;
+  sf_status status = sf_find_field(head, "Cache-Status", &text);
+  (void)sf_wrote(out, SF_OK, 0);
+  if (status == SF_OK)
+    status = sf_append_or_write_hop(context, text, own, out, &is_appended);
+  head->joined.length = begin;
+  return is_appended ? status : sf_found(context, head, "Cache-Status", SF_REFUSED);
 }
 
 static inline sf_target sf_target_of(const char *name) {
@@ -1117,10 +1359,10 @@ static inline const char *sf_obstacle_name(uint32_t obstacle) {
 
 /* Returns why a response may not be stored: for the function below. */
 static inline uint32_t sf_obstacle_of(const sf_decision *decision, const sf_exchange *exchange,
-                                      int has_expires) {
+                                      int is_incomplete, int has_expires) {
   if (decision->reuse == SF_REUSE_NOT_STORED)
     return SF_BARRED_DIRECTIVE;
-  if (exchange->is_incomplete)
+  if (is_incomplete)
     return SF_BARRED_LINE;
   if (exchange->status != 0 && exchange->status < 200)
     return SF_BARRED_STATUS;
@@ -1172,41 +1414,130 @@ static inline sf_status sf_choose_target(sf_context *context, sf_head *head, sf_
     head->joined.length = begin;
     targets[i].status = (uint32_t)status;
     choice->index = i;
-    if (status == SF_REFUSED)
+    if (status == SF_REFUSED) {
       targets[i].refusal = context->refusal;
-    else if (status != SF_EMPTY)
+      sf_note_refusal(head, targets[i].name, &context->refusal);
+    } else if (status != SF_EMPTY)
       return status;
   }
   choice->index = targets_length;
   return SF_EMPTY;
 }
 
+/* What comes before a place in a line of Cache-Control. For the functions below. */
+enum {
+  SF_PLACE_BEFORE, /* the beginning, a comma, or white space after these */
+  SF_PLACE_NAME,   /* a part of the name of a directive */
+  SF_PLACE_EQUALS, /* a name and an equals sign */
+  SF_PLACE_TOKEN,  /* a part of a token after these */
+  SF_PLACE_QUOTED, /* a part of a quoted-string */
+  SF_PLACE_ESCAPE, /* a backslash in a quoted-string */
+  SF_PLACE_AFTER,  /* a quoted-string, or white space after a directive */
+  SF_PLACE_NONE    /* the byte is not allowed there */
+};
+
+/* Returns the place after one more byte (RFC 9111 section 5.2, RFC 9110 sections 5.6.1 to 5.6.4).
+ * For the function below. */
+static inline int sf_place_after(int place, unsigned byte) {
+  int is_space = byte == ' ' || byte == '\t', is_tchar = byte < 128 && sf_is_tchar((char)byte);
+  int is_quotable = byte == '\t' || (byte >= ' ' && byte != 127);
+  switch (place) {
+  case SF_PLACE_QUOTED:
+    if (byte == '"' || byte == '\\')
+      return byte == '"' ? SF_PLACE_AFTER : SF_PLACE_ESCAPE;
+    return is_quotable ? SF_PLACE_QUOTED : SF_PLACE_NONE;
+  case SF_PLACE_ESCAPE:
+    return is_quotable ? SF_PLACE_QUOTED : SF_PLACE_NONE;
+  case SF_PLACE_EQUALS:
+    return byte == '"' ? SF_PLACE_QUOTED : is_tchar ? SF_PLACE_TOKEN : SF_PLACE_NONE;
+  default:
+    break;
+  }
+  if (byte == ',')
+    return SF_PLACE_BEFORE;
+  if (is_space)
+    return place == SF_PLACE_BEFORE ? SF_PLACE_BEFORE : SF_PLACE_AFTER;
+  if (byte == '=' && place == SF_PLACE_NAME)
+    return SF_PLACE_EQUALS;
+  if (!is_tchar || place == SF_PLACE_AFTER)
+    return SF_PLACE_NONE;
+  return place == SF_PLACE_TOKEN ? SF_PLACE_TOKEN : SF_PLACE_NAME;
+}
+
+/* Returns where a line of Cache-Control is refused, which the library found to be no list of
+ * directives. For the function below. */
+static inline sf_refusal sf_refusal_of_directives(sf_text value) {
+  int place = SF_PLACE_BEFORE, next;
+  size_t at;
+  unsigned byte;
+  sf_refusal refusal;
+  memset(&refusal, 0, sizeof refusal);
+  for (at = 0; at < value.length; ++at) {
+    next = sf_place_after(place, (unsigned char)value.at[at]);
+    if (next == SF_PLACE_NONE)
+      break;
+    place = next;
+  }
+  for (byte = 0; byte < 128; ++byte)
+    if (sf_place_after(place, byte) != SF_PLACE_NONE) {
+      uint64_t *half = byte < 64 ? &refusal.expected_low : &refusal.expected_high;
+      *half |= UINT64_C(1) << byte % 64;
+    }
+  refusal.offset = at;
+  refusal.found = at < value.length ? (int32_t)(unsigned char)value.at[at] : (int32_t)SF_ENDED;
+  refusal.may_end = at < value.length && place != SF_PLACE_EQUALS && place != SF_PLACE_QUOTED &&
+                    place != SF_PLACE_ESCAPE;
+  return refusal;
+}
+
+/* Adds a line of a head to what Cache-Control, Expires and Date say, and what is wrong with it to
+ * the faults of the head. For the function below. */
+static inline void sf_add_line_of_head(sf_head *head, size_t index, sf_fallback_field field,
+                                       const char *name, sf_fallback *fallback,
+                                       size_t *refused_line) {
+  sf_refusal refusal;
+  sf_fallback before = *fallback;
+  uint32_t dates = field == SF_FALLBACK_EXPIRES ? before.expires.lines : before.date.lines, after;
+  sf_add_fallback_line(fallback, field, head->lines.at[index].value);
+  after = field == SF_FALLBACK_EXPIRES ? fallback->expires.lines : fallback->date.lines;
+  memset(&refusal, 0, sizeof refusal);
+  if (field == SF_FALLBACK_CACHE_CONTROL && fallback->is_refused && !before.is_refused) {
+    *refused_line = index;
+    refusal = sf_refusal_of_directives(head->lines.at[index].value);
+    sf_note_value(head, name, SF_FAULT_REFUSED, index, &refusal);
+  }
+  if (field != SF_FALLBACK_CACHE_CONTROL && after > 1 && dates < 2)
+    sf_note_value(head, name, dates == 0 ? SF_FAULT_NOT_A_DATE : SF_FAULT_REPEATED, index,
+                  &refusal);
+}
+
 /* Returns what Cache-Control, Expires and Date of a head say, and which line is the first that is
  * refused. For the function below. */
-static inline sf_fallback sf_fallback_of(const sf_head *head, size_t *refused_line) {
+static inline sf_fallback sf_fallback_of(sf_head *head, size_t *refused_line) {
   static const char *const names[] = {"Cache-Control", "Expires", "Date"};
   sf_fallback fallback = sf_fallback_begin();
   size_t i, k;
   for (i = 0; i < head->lines.length; ++i)
     for (k = 0; k < 3; ++k)
-      if (sf_is_named(&head->lines.at[i], names[k])) {
-        uint32_t was_refused = fallback.is_refused;
-        sf_add_fallback_line(&fallback, (sf_fallback_field)(SF_FALLBACK_CACHE_CONTROL + k),
-                             head->lines.at[i].value);
-        if (fallback.is_refused && !was_refused)
-          *refused_line = i;
-      }
+      if (sf_is_named(&head->lines.at[i], names[k]))
+        sf_add_line_of_head(head, i, (sf_fallback_field)(SF_FALLBACK_CACHE_CONTROL + k), names[k],
+                            &fallback, refused_line);
   return fallback;
 }
 
 /* Returns the number of the first line of Age of a head, whose first member counts; 0 without one,
  * and says whether it is malformed. For the function below. */
-static inline uint64_t sf_age_of(const sf_head *head, uint32_t *is_malformed) {
+static inline uint64_t sf_age_of(sf_head *head, uint32_t *is_malformed) {
   uint64_t age = 0;
   size_t i = 0;
   while (i < head->lines.length && !sf_is_named(&head->lines.at[i], "Age"))
     ++i;
   *is_malformed = i < head->lines.length && sf_read_age(head->lines.at[i].value, &age) != SF_OK;
+  if (*is_malformed) {
+    sf_refusal refusal;
+    memset(&refusal, 0, sizeof refusal);
+    sf_note_value(head, "Age", SF_FAULT_NOT_AN_AGE, i, &refusal);
+  }
   return age;
 }
 
@@ -1240,11 +1571,14 @@ static inline sf_status sf_decide_response(sf_context *context, sf_head *head, s
   sf_status status;
   size_t refused_line = 0;
   uint32_t is_age_malformed = 0;
+  sf_faults faults = head->faults;
   if (context->dialect != SF_RFC9651 && context->dialect != SF_RFC8941)
     return SF_BAD_CALL;
   status = sf_choose_target(context, head, targets, targets_length, &choice);
-  if (status != SF_OK && status != SF_EMPTY)
+  if (status != SF_OK && status != SF_EMPTY) {
+    head->faults = faults;
     return status;
+  }
   if (status == SF_EMPTY) {
     fallback = sf_fallback_of(head, &refused_line);
     choice.rules = fallback.rules;
@@ -1253,9 +1587,12 @@ static inline sf_status sf_decide_response(sf_context *context, sf_head *head, s
   response.age = sf_current_age(sf_age_of(head, &is_age_malformed), exchange);
   response.is_understood = exchange->is_understood != 0;
   status = (sf_status)sf_decide(&choice.rules, exchange->cache, &response, &decision);
-  if (status != SF_OK)
+  if (status != SF_OK) {
+    head->faults = faults;
     return status;
-  verdict->obstacle = sf_obstacle_of(&decision, exchange, response.has_lifetime);
+  }
+  verdict->obstacle =
+      sf_obstacle_of(&decision, exchange, head->is_incomplete != 0, response.has_lifetime);
   verdict->may_store = verdict->obstacle == SF_NO_OBSTACLE;
   verdict->decision = decision;
   verdict->age = response.age;

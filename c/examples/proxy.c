@@ -15,83 +15,69 @@
 #include <unistd.h>
 
 enum { MOST = 65536 };
-static sf_context context; /* its refusal is that of the last field that is malformed */
 
 static void give_up(const char *why) {
   fprintf(stderr, "proxy: %s\n", why);
   exit(3);
 }
 
-/* Checks the result of a call: says where the field is malformed; gives up if the call failed. */
-static void check(sf_status status, const sf_head *head, const char *name) {
-  char message[SF_REFUSAL_EXCERPT_SIZE(60)];
-  sf_buffer out = SF_BUFFER(message);
-  sf_location location = sf_locate_in_head(&context.refusal, head, name);
-  if (status == SF_REFUSED && sf_show_excerpt_of_line(&location, 60, &out) == SF_OK)
-    fprintf(stderr, "%s: %.*s\n", name, SF_ARGS(out));
-  else if (status != SF_OK && status != SF_REFUSED)
+/* Ends the program if a call failed. */
+static void must(sf_status status) {
+  if (status != SF_OK)
     give_up(sf_status_name(status));
 }
 
-/* The text of a field, its lines joined. */
-static sf_text field(sf_head *head, const char *name) {
-  sf_text text = {NULL, 0};
-  if (sf_find_field(head, name, &text) != SF_OK)
-    give_up("out of buffers");
-  return text;
+/* Tells what is malformed in a head. */
+static void tell(const sf_faults *faults) {
+  char message[SF_FAULT_SIZE(32, 60)];
+  sf_buffer out = SF_BUFFER(message);
+  for (size_t i = 0; i < faults->length; ++i)
+    if (sf_show_fault(&faults->at[i], 60, &out) == SF_OK)
+      fprintf(stderr, "%.*s\n", SF_ARGS(out));
 }
 
 int main(int count, char **words) {
   static char input[MOST], joined[2][MOST], path[SF_APPENDED_SIZE(MOST, 16)];
   static sf_head_line lines[2][1024];
+  static sf_fault faults[2][16];
   sf_head asked = sf_head_in(SF_HEAD_LINES(lines[0]), SF_BUFFER(joined[0]));
   sf_head answered = sf_head_in(SF_HEAD_LINES(lines[1]), SF_BUFFER(joined[1]));
+  asked.faults = SF_FAULTS(faults[0]);
+  answered.faults = SF_FAULTS(faults[1]);
   sf_text rest = sf_text_of(input, fread(input, 1, sizeof input, stdin));
   if (ferror(stdin) || rest.length == sizeof input)
     give_up("the input can't be read, or is too long");
-  sf_exchange exchange = sf_exchange_of(SF_SHARED_CACHE, (uint64_t)time(NULL));
   for (uint64_t number = 1; rest.length > 0; ++number) {
-    sf_text line = sf_take_line(&rest), content = sf_trim(line.at + 1, line.length - 1);
+    sf_text line = sf_take_line(&rest);
     sf_head *head = line.at[0] == '>' ? &asked : &answered;
     head->number = number;
-    if (line.at[0] != '>' && line.at[0] != '<')
-      continue;
-    sf_status added = sf_add_head_line(head, content);
-    if (added == SF_SHORT)
+    if ((line.at[0] == '>' || line.at[0] == '<') &&
+        sf_add_head_line(head, sf_trim(line.at + 1, line.length - 1)) == SF_SHORT)
       give_up("too many lines");
-    exchange.is_incomplete |= added == SF_REFUSED && head == &answered;
   }
 
   /* The priority. A field that is malformed or absent sets nothing (RFC 9218 section 8). */
   sf_seed seed;
   if (getentropy(&seed, sizeof seed) != 0)
     give_up("no random bytes");
-  context = sf_context_of(seed, SF_RFC8941); /* that the RFCs of these fields cite */
-  sf_priority_flags client = SF_PRIORITY_UNSET;
-  sf_response_priority_flags server = {0, 0, 0, 0};
-  check(sf_read_priority(&context, field(&asked, "Priority"), &client), &asked, "Priority");
-  check(sf_read_response_priority(&context, field(&answered, "Priority"), &server), &answered,
-        "Priority");
+  sf_context context = sf_context_of(seed, SF_RFC8941); /* that the RFCs of these fields cite */
+  sf_priority_flags client;
+  sf_response_priority_flags server;
+  must(sf_find_priority(&context, &asked, &client));
+  must(sf_find_response_priority(&context, &answered, &server));
   sf_priority_flags both = sf_merge_priority(client, server);
   printf("urgency %d%s\n", both.urgency, both.incremental ? ", incremental" : "");
 
   /* What the cache does, by its own field, that of all CDNs, or Cache-Control and Expires. */
   sf_target targets[] = {sf_target_of("ExampleCDN-Cache-Control"),
                          sf_target_of("CDN-Cache-Control")};
+  sf_exchange exchange = sf_exchange_of(SF_SHARED_CACHE, (uint64_t)time(NULL));
   for (int i = 1; i < count; ++i) {
     exchange.cache = strcmp(words[i], "private") == 0 ? SF_PRIVATE_CACHE : exchange.cache;
     exchange.is_understood |= strcmp(words[i], "understood") == 0;
   }
   sf_verdict verdict = {0};
-  check(sf_decide_response(&context, &answered, targets, 2, &exchange, &verdict), &answered, "");
-  for (int i = 0; i < 2; ++i)
-    if (targets[i].status == SF_REFUSED) {
-      context.refusal = targets[i].refusal;
-      check(SF_REFUSED, &answered, targets[i].name);
-    }
-  if (verdict.is_refused)
-    fprintf(stderr, "Cache-Control: malformed in line %d\n",
-            (int)lines[1][verdict.refused_line].number);
+  must(sf_decide_response(&context, &answered, targets, 2, &exchange, &verdict));
   if (verdict.obstacle == SF_BARRED_LINE) {
     verdict.field = sf_obstacle_name(SF_BARRED_LINE);
     verdict.decision.reuse = SF_REUSE_NOT_STORED, verdict.decision.cause = 0;
@@ -110,10 +96,9 @@ int main(int count, char **words) {
   own.hop.has_stored = 1, own.hop.stored = verdict.may_store != 0;
   own.hop.has_ttl = verdict.has_ttl != 0, own.hop.ttl = verdict.ttl;
   sf_buffer out = SF_BUFFER(path);
-  uint32_t is_appended = 1;
-  sf_text came = field(&answered, "Cache-Status");
-  check(sf_append_or_write_hop(&context, came, &own, &out, &is_appended), &answered, "");
-  check(is_appended ? SF_OK : SF_REFUSED, &answered, "Cache-Status");
+  must(sf_add_hop(&context, &answered, &own, &out));
   printf("Cache-Status: %.*s\n", SF_ARGS(out));
+  tell(&asked.faults);
+  tell(&answered.faults);
   return fflush(stdout) != 0 || ferror(stdout) ? 3 : 0;
 }

@@ -791,6 +791,35 @@ static void consumers(const uint8_t *text, size_t length, int is_dict) {
   decisions(text, length, &policy, status);
 }
 
+/* What a decision finds to be malformed in a head of these two fields, by turns: the place in the line
+ * as it was received, and that the byte there is not one of those that are allowed. */
+static void faults_of(uint32_t dialect, sf_head *head) {
+  sf_context context = sf_context_of(seed, (sf_dialect)dialect);
+  sf_target target = sf_target_of("t");
+  sf_exchange exchange = sf_exchange_of(SF_SHARED_CACHE, 0);
+  sf_fault faults[2];
+  sf_verdict verdict;
+  head->faults = SF_FAULTS(faults);
+  CHECK(sf_decide_response(&context, head, &target, 1, &exchange, &verdict) == SF_OK);
+  CHECK(head->faults.length == head->faults.required);
+  CHECK(head->faults.length == (target.status == SF_REFUSED) + verdict.is_refused);
+  for (size_t i = 0; i < head->faults.length; ++i) {
+    const sf_location *location = &faults[i].location;
+    const sf_head_line *line = &head->lines.at[location->index];
+    size_t end = (size_t)(line->value.at - line->received.at) + line->value.length;
+    size_t at = (size_t)location->refusal.offset;
+    int32_t found = location->refusal.found;
+    uint64_t expected = found < 64 ? location->refusal.expected_low : location->refusal.expected_high;
+    char message[SF_FAULT_SIZE(13, 20)];
+    sf_buffer out = SF_BUFFER(message);
+    CHECK(faults[i].reason == SF_FAULT_REFUSED && location->line.at == line->received.at);
+    CHECK(location->index % 2 == (size_t)(strcmp(faults[i].field, "t") != 0) && at <= end);
+    CHECK(found == (at < end ? (int32_t)(uint8_t)location->line.at[at] : -1));
+    CHECK(found < 0 || found > 127 || !(expected >> found % 64 & 1));
+    CHECK(sf_show_fault(&faults[i], 20, &out) == SF_OK && out.at[out.length - 1] == '^');
+  }
+}
+
 /* The lines of a text, and a head with the parts of it between its commas as the lines of two fields. */
 static void heads(uint32_t dialect, const uint8_t *text, size_t length) {
   sf_context context = sf_context_of(seed, (sf_dialect)dialect);
@@ -850,14 +879,17 @@ static void heads(uint32_t dialect, const uint8_t *text, size_t length) {
   shape(verdict.obstacle, decision.cause, target.status);
   if (target.status == SF_REFUSED) {
     sf_location location = sf_locate_in_head(&target.refusal, &head, "t");
-    CHECK(location.index % 2 == 0 && location.line.at == lines[location.index].value.at);
-    CHECK(location.number == lines[location.index].number);
-    CHECK(location.refusal.offset <= location.line.length);
-    if (location.refusal.offset < location.line.length)
+    const sf_head_line *line = &lines[location.index];
+    size_t end = (size_t)(line->value.at - line->received.at) + line->value.length;
+    CHECK(location.index % 2 == 0 && location.line.at == line->received.at);
+    CHECK(location.number == line->number && location.line.length == line->received.length);
+    CHECK(location.refusal.offset <= end && end <= location.line.length);
+    if (location.refusal.offset < end)
       CHECK((uint8_t)location.line.at[location.refusal.offset] == location.refusal.found);
     else
       CHECK(location.refusal.found == -1 && location.refusal.may_end == 0);
   }
+  faults_of(dialect, &head);
   give_buffer(buffer);
   free(lines);
 }

@@ -531,10 +531,12 @@ static void heads(void) {
   sf_head head = sf_head_in(SF_HEAD_LINES(few), SF_BUFFER(bytes));
   CHECK(head.number == 1 && head.lines.length == 0 && head.lines.capacity == 7);
   head.number = 12;
-  CHECK(sf_add_head_line(&head, sf_cstr("HTTP/1.1 200 OK\r\n")) == SF_REFUSED);
+  CHECK(sf_add_head_line(&head, sf_cstr("HTTP/1.1 200 OK\r\n")) == SF_OK);
+  CHECK(head.lines.length == 0 && head.is_incomplete == 0);
   CHECK(sf_add_head_line(&head, sf_cstr("Priority: \tu=5 \r\n")) == SF_OK);
   CHECK(sf_add_head_line(&head, sf_cstr("Server : a:b")) == SF_OK);
-  CHECK(sf_add_head_line(&head, sf_cstr(": a")) == SF_REFUSED);
+  CHECK(is(few[0].received, "Priority: \tu=5 ") && head.is_incomplete == 0);
+  CHECK(sf_add_head_line(&head, sf_cstr(": a")) == SF_REFUSED && head.is_incomplete == 1);
   CHECK(sf_add_head_line(&head, sf_cstr(" x: folded")) == SF_REFUSED);
   CHECK(sf_add_head_line(&head, sf_cstr("\tx: folded")) == SF_REFUSED);
   CHECK(sf_add_head_line(&head, sf_cstr("PRIORITY:i;x, a=(1 2\n")) == SF_OK);
@@ -549,6 +551,7 @@ static void heads(void) {
   CHECK(is(few[1].name, "Server") && is(few[1].value, "a:b"));
   CHECK(sf_add_field_line(&head, sf_cstr("Age"), sf_cstr(" 20 ")) == SF_OK);
   CHECK(is(few[6].value, "20") && few[6].number == 25 && head.number == 26);
+  CHECK(is(few[6].received, " 20 ") && head.faults.length == 0 && head.faults.required == 3);
   CHECK(sf_add_head_line(&head, sf_cstr("a: b")) == SF_SHORT && head.lines.required == 8);
   CHECK(head.number == 26 && head.lines.length == 7);
 
@@ -588,12 +591,15 @@ static void heads(void) {
   more[2] = 'x';
   CHECK(sf_find_field(&head, "Priority", &text) == SF_OK && text.at == more + 3 && more[2] == 'x');
 
-  /* 3 bytes are in the first line, 2 between two lines, 11 in the second, and none in the third */
+  /* 3 bytes are in the first line, 2 between two lines, 11 in the second, and none in the third; the
+   * values begin at the places 11, 9 and 9 of the lines as they were received */
   static const struct {
     uint64_t offset, at, number;
     size_t index;
-  } rows[] = {{0, 0, 13, 0},  {3, 3, 13, 0},   {4, 3, 13, 0},   {5, 0, 18, 2},
-              {16, 11, 18, 2}, {17, 11, 18, 2}, {18, 0, 20, 4}, {99, 0, 20, 4}};
+    int32_t found;
+  } rows[] = {{0, 11, 13, 0, 'x'}, {2, 13, 13, 0, 'x'}, {3, 14, 13, 0, -1}, {4, 14, 13, 0, -1},
+              {5, 9, 18, 2, 'x'},  {15, 19, 18, 2, 'x'}, {16, 20, 18, 2, -1}, {17, 20, 18, 2, -1},
+              {18, 9, 20, 4, -1},  {99, 9, 20, 4, -1}};
   for (size_t i = 0; i < sizeof rows / sizeof *rows; ++i) {
     sf_refusal refusal;
     memset(&refusal, 0, sizeof refusal);
@@ -601,11 +607,268 @@ static void heads(void) {
     refusal.found = 'x';
     sf_location location = sf_locate_in_head(&refusal, &head, "priority");
     CHECK(location.refusal.offset == rows[i].at && location.number == rows[i].number);
-    CHECK(location.index == rows[i].index);
-    CHECK(location.refusal.found == (rows[i].at < location.line.length ? 'x' : -1));
-    CHECK(location.line.at == few[location.index].value.at);
+    CHECK(location.index == rows[i].index && location.refusal.found == rows[i].found);
+    CHECK(location.line.at == few[location.index].received.at);
+    CHECK(location.line.length == few[location.index].received.length);
     location = sf_locate_in_head(&refusal, &head, "Via");
     CHECK(location.line.length == 0 && location.number == 1 && location.refusal.offset == 0);
+  }
+  /* a value that the program changed is no part of what was received */
+  few[0].value = sf_cstr("u=5");
+  sf_refusal refusal;
+  memset(&refusal, 0, sizeof refusal);
+  refusal.offset = 2;
+  sf_location location = sf_locate_in_head(&refusal, &head, "priority");
+  CHECK(location.refusal.offset == 2 && location.line.at == few[0].value.at);
+}
+
+/* The first lines of messages (RFC 9112 sections 2.1, 3 and 4), and whole heads. */
+static void whole_heads(void) {
+  static const struct {
+    const char *line;
+    sf_status status;
+  } first[] = {
+      {"HTTP/1.1 200 OK", SF_OK},          {"HTTP/1.1 404", SF_OK},
+      {"HTTP/1.0", SF_OK},                 {"GET / HTTP/1.1", SF_OK},
+      {"GET http://a:80/ HTTP/1.1", SF_OK}, {"OPTIONS * HTTP/1.1\r\n", SF_OK},
+      {"HTTP/1.1x 200 OK", SF_REFUSED},    {"HTTP/1 200 OK", SF_REFUSED},
+      {"HTTP/x.1 200 OK", SF_REFUSED},     {"HTTP/1.x", SF_REFUSED},
+      {"http/1.1 200 OK", SF_REFUSED},     {"GET /", SF_REFUSED},
+      {"GET /HTTP/1.1", SF_REFUSED},       {"GET / HTTP/1.1 ", SF_REFUSED},
+      {"ICY 200 OK", SF_REFUSED},          {" HTTP/1.1", SF_REFUSED},
+  };
+  sf_head_line lines[3];
+  sf_fault faults[2];
+  for (size_t i = 0; i < sizeof first / sizeof *first; ++i) {
+    sf_head head = sf_head_in(SF_HEAD_LINES(lines), sf_buffer_of(NULL, 0));
+    CHECK(sf_add_head_line(&head, sf_cstr(first[i].line)) == first[i].status);
+    CHECK(head.lines.length == 0 && head.is_incomplete == (first[i].status == SF_REFUSED));
+    CHECK(head.number == 2);
+    /* a later line is no start line */
+    head = sf_head_in(SF_HEAD_LINES(lines), sf_buffer_of(NULL, 0));
+    CHECK(sf_add_head_line(&head, sf_cstr("a: b")) == SF_OK);
+    CHECK(sf_add_head_line(&head, sf_cstr(first[i].line)) == SF_REFUSED);
+    head = sf_head_in(SF_HEAD_LINES(lines), sf_buffer_of(NULL, 0));
+    CHECK(sf_add_head_line(&head, sf_cstr("a")) == SF_REFUSED);
+    CHECK(sf_add_head_line(&head, sf_cstr(first[i].line)) == SF_REFUSED);
+  }
+
+  sf_text rest = sf_cstr("HTTP/1.1 200 OK\r\nAge: 1\r\nVia\r\n\tx\r\nVia: a\r\n\r\nDate: x\r\n");
+  sf_head head = sf_head_in(SF_HEAD_LINES(lines), sf_buffer_of(NULL, 0));
+  head.faults = SF_FAULTS(faults);
+  CHECK(sf_take_head(&head, &rest) == SF_OK && is(rest, "Date: x\r\n"));
+  CHECK(head.lines.length == 2 && is(lines[1].value, "a") && lines[1].number == 5);
+  CHECK(head.is_incomplete == 1 && head.number == 7);
+  CHECK(head.faults.length == 2 && head.faults.required == 2);
+  CHECK(faults[0].reason == SF_FAULT_NOT_A_LINE && *faults[0].field == 0);
+  CHECK(faults[0].location.number == 3 && is(faults[0].location.line, "Via"));
+  CHECK(faults[1].location.number == 4 && is(faults[1].location.line, "\tx"));
+  CHECK(sf_take_head(&head, &rest) == SF_EMPTY && rest.length == 0 && head.lines.length == 3);
+  rest = sf_cstr("b: c\n\n");
+  CHECK(sf_take_head(&head, &rest) == SF_SHORT && is(rest, "b: c\n\n"));
+  CHECK(head.lines.required == 4 && head.number == 8);
+  rest = sf_text_of(NULL, 0);
+  CHECK(sf_take_head(&head, &rest) == SF_EMPTY && rest.at == NULL);
+  rest = sf_cstr("\r\n");
+  CHECK(sf_take_head(&head, &rest) == SF_OK && rest.length == 0);
+}
+
+/* A message of a fault, compared with what is expected. */
+static int says(const sf_fault *fault, size_t most, const char *expected) {
+  char message[SF_FAULT_SIZE(32, 80)];
+  sf_buffer out = SF_BUFFER(message), exact, one_less;
+  if (sf_show_fault(fault, most, &out) != SF_OK || !is(sf_written(&out), expected))
+    return 0;
+  char again[1024];
+  exact = sf_buffer_of(again, strlen(expected));
+  one_less = sf_buffer_of(again, strlen(expected) - 1);
+  return sf_show_fault(fault, most, &one_less) == SF_SHORT &&
+         one_less.required == strlen(expected) && sf_show_fault(fault, most, &exact) == SF_OK &&
+         is(sf_written(&exact), expected);
+}
+
+/* What the fields of a head say, and what is malformed in it. */
+static void fields_of_a_head(void) {
+  static const char received[] = "GET / HTTP/1.1\r\n" /* line 7 */
+                                 "Priority: u=5\r\n"
+                                 "priority: i=,\r\n"
+                                 "Example:\ta=1;b=?2\r\n"
+                                 "Cache-Status: origin; fwd=miss\r\n"
+                                 "cache-status: edge; hit, 7\r\n"
+                                 "Folded\r\n"
+                                 "Name: Value\r\n\r\n";
+  sf_context context = sf_context_of(seed, SF_RFC8941), none = no_dialect();
+  sf_head_line lines[8];
+  sf_fault faults[8];
+  char bytes[64], text[64];
+  sf_text rest = sf_cstr(received);
+  sf_head head = sf_head_in(SF_HEAD_LINES(lines), SF_BUFFER(bytes));
+  head.faults = SF_FAULTS(faults);
+  head.number = 7;
+  CHECK(sf_take_head(&head, &rest) == SF_OK && head.faults.length == 1);
+  CHECK(says(&faults[0], 40, "not a field line\nline 13, place 0:\nFolded\n^"));
+
+  sf_priority_flags client = {7, 7, 7, 7};
+  CHECK(sf_find_priority(&context, &head, &client) == SF_OK && head.joined.length == 0);
+  CHECK(client.urgency == 3 && !client.incremental && !client.has_urgency && !client.has_incremental);
+  CHECK(says(&faults[1], 40,
+             "Priority: byte 0x2c ',' at place 12, expected a letter, a digit, or one of "
+             "`\"(*-:?`\nline 9, place 12:\npriority: i=,\n            ^"));
+  CHECK(faults[1].reason == SF_FAULT_REFUSED && faults[1].location.refusal.offset == 12);
+  CHECK(faults[1].location.number == 9 && faults[1].location.index == 1);
+  CHECK(is(faults[1].location.line, "priority: i=,"));
+  sf_response_priority_flags server = {7, 7, 7, 7};
+  CHECK(sf_find_response_priority(&context, &head, &server) == SF_OK && head.faults.length == 3);
+  CHECK(!server.has_urgency && !server.has_incremental && server.urgency == 0);
+
+  sf_node nodes[4];
+  sf_tree tree = sf_tree_in(SF_NODES(nodes), SF_BUFFER(text));
+  CHECK(sf_find_tree(&context, SF_DICT, &head, "Example", &tree) == SF_OK && tree.nodes.length == 0);
+  CHECK(says(&faults[3], 6, "Example: byte 0x32 '2' at place 16, expected `0` or `1`\n"
+                            "line 10, place 16:\n1;b=?2\n     ^"));
+  CHECK(sf_check_field(&context, SF_DICT, &head, "Example") == SF_REFUSED);
+  CHECK(head.faults.length == 5 && context.refusal.offset == 7);
+  CHECK(sf_check_field(&context, SF_ITEM, &head, "name") == SF_OK && head.faults.length == 5);
+  CHECK(sf_find_tree(&context, SF_ITEM, &head, "name", &tree) == SF_OK && tree.nodes.length == 1);
+  CHECK(nodes[0].type == SF_TOKEN && is(sf_node_text(&tree, nodes), "Value"));
+  /* an absent Item is no empty text, which is malformed */
+  CHECK(sf_check_field(&context, SF_ITEM, &head, "Absent") == SF_OK && head.faults.length == 5);
+  CHECK(sf_find_tree(&context, SF_ITEM, &head, "Absent", &tree) == SF_OK && tree.nodes.length == 0);
+  CHECK(sf_find_tree(&context, SF_LIST, &head, "Absent", &tree) == SF_OK && tree.nodes.length == 0);
+  CHECK(head.faults.length == 5);
+
+  sf_hop hops[4];
+  sf_hop_list list = sf_hop_list_in(SF_HOPS(hops), SF_BUFFER(text));
+  CHECK(sf_find_hops(&context, &head, &list) == SF_OK && list.hops.length == 0 && !list.served);
+  CHECK(faults[5].location.number == 12 && faults[5].location.refusal.offset == 25);
+  CHECK(faults[5].location.refusal.found == '7' && head.joined.length == 0);
+  /* a member that names no cache stays where it is */
+  sf_own_hop own = sf_hop_named("edge", SF_TOKEN);
+  own.hop.outcome = SF_HIT;
+  char sent[64];
+  sf_buffer out = SF_BUFFER(sent);
+  CHECK(sf_add_hop(&context, &head, &own, &out) == SF_OK && head.faults.length == 6);
+  CHECK(is(sf_written(&out), "origin;fwd=miss, edge;hit, 7, edge;hit"));
+
+  /* when there is no capacity for faults, they are counted */
+  head.faults.length = head.faults.capacity;
+  CHECK(sf_find_priority(&context, &head, &client) == SF_OK);
+  CHECK(head.faults.length == 8 && head.faults.required == 7);
+
+  /* buffers that are too small, and calls that fail, find nothing */
+  head = sf_head_in(SF_HEAD_LINES(lines), sf_buffer_of(bytes, 7));
+  head.faults = SF_FAULTS(faults);
+  CHECK(sf_add_head_line(&head, sf_cstr("Priority: u=1")) == SF_OK);
+  CHECK(sf_add_head_line(&head, sf_cstr("Priority: i")) == SF_OK);
+  CHECK(sf_add_head_line(&head, sf_cstr("Cache-Status: edge;hit,")) == SF_OK);
+  CHECK(sf_find_priority(&none, &head, &client) == SF_BAD_CALL && head.faults.required == 0);
+  CHECK(sf_find_priority(&context, &head, &client) == SF_OK && client.urgency == 1);
+  CHECK(client.incremental == 1 && head.joined.length == 0);
+  head.joined.capacity = 5;
+  memset(&client, 7, sizeof client);
+  memset(&server, 7, sizeof server);
+  CHECK(sf_find_priority(&context, &head, &client) == SF_SHORT && head.joined.required == 6);
+  CHECK(sf_find_response_priority(&context, &head, &server) == SF_SHORT && server.urgency == 7);
+  CHECK(client.urgency == 7 && sf_check_field(&context, SF_DICT, &head, "priority") == SF_SHORT);
+  CHECK(sf_find_tree(&context, SF_DICT, &head, "priority", &tree) == SF_SHORT);
+  CHECK(tree.nodes.length == 0 && tree.bytes.required == 0 && head.joined.required == 6);
+  CHECK(sf_add_hop(&context, &head, &own, &out) == SF_OK && is(sf_written(&out), "edge;hit"));
+  CHECK(head.faults.length == 1 && faults[0].location.refusal.offset == 23);
+  CHECK(faults[0].location.refusal.found == SF_ENDED);
+  out.capacity = 7;
+  CHECK(sf_add_hop(&context, &head, &own, &out) == SF_SHORT && out.required == 8);
+  out.capacity = sizeof sent;
+  own.hop.outcome = SF_CONFLICT;
+  own.hop.why = SF_MISS;
+  CHECK(sf_add_hop(&context, &head, &own, &out) == SF_INVALID && out.length == 0);
+  CHECK(sf_add_head_line(&head, sf_cstr("Cache-Status: b")) == SF_OK);
+  head.joined.length = 0;
+  CHECK(sf_find_hops(&context, &head, &list) == SF_SHORT && head.joined.required == 12);
+  CHECK(list.hops.required == 0 && list.bytes.required == 0);
+  CHECK(sf_add_hop(&context, &head, &own, &out) == SF_SHORT && out.required == 0);
+}
+
+/* What a decision finds malformed, and where (RFC 9111 sections 4.2.1, 5.1 and 5.2; RFC 9110 sections
+ * 5.6.1 to 5.6.4 and 5.6.7; RFC 9213 section 2.1). */
+static void faults_of_decisions(void) {
+  enum { MOST = 3 };
+  static const struct {
+    const char *head;
+    const char *messages[MOST];
+  } rows[] = {
+      {"Age: 5\nCache-Control: max-age=60, a=\"b\\\"c\" , ,d\t,\nDate: Sun, 06 Nov 1994 08:49:37 GMT\n",
+       {NULL}},
+      {"T: max-age=60,\nAge: \t90x \n",
+       {"T: the text ended at place 14, expected a lower-case letter, `*`, a tab or a space\n"
+        "line 1, place 14:\nT: max-age=60,\n              ^",
+        "Age: not a number of seconds\nline 2, place 6:\nAge: ?90x \n      ^"}},
+      {"Age:\nAge: 5\n", {"Age: not a number of seconds\nline 1, place 4:\nAge:\n    ^"}},
+      {"Age: 5\nAge: x\n", {NULL}},
+      {"T: max-age=1\nCache-Control: a b\nExpires: 0\nDate: x\n", {NULL}}, /* they are not read */
+      {"Expires:  0 \nDate: Sun\n",
+       {"Expires: not an HTTP-date\nline 1, place 10:\nExpires:  0 \n          ^",
+        "Date: not an HTTP-date\nline 2, place 6:\nDate: Sun\n      ^"}},
+      {"Expires: Sun, 06 Nov 1994 08:49:37 GMT\nExpires: Sun, 06 Nov 1994 08:49:37 GMT\nexpires: x\n",
+       {"Expires: there are several lines\nline 2, place 9:\nExpires: Sun, 06 Nov 1994\n         ^"}},
+      {"Date: x\nDate: Sun, 06 Nov 1994 08:49:37 GMT\nDate: x\n",
+       {"Date: not an HTTP-date\nline 1, place 6:\nDate: x\n      ^",
+        "Date: there are several lines\nline 2, place 6:\nDate: Sun, 06 Nov 1994 08:\n      ^"}},
+      {"Cache-Control: a b\nCache-Control: c d\n",
+       {"Cache-Control: byte 0x62 'b' at place 17, expected `,`, a tab, a space or the end\n"
+        "line 1, place 17:\nCache-Control: a b\n                 ^"}},
+      {"Cache-Control:a=\n",
+       {"Cache-Control: the text ended at place 16, expected a letter, a digit, or one of "
+        "`!\"#$%&'*+-.^_`|~`\nline 1, place 16:\nCache-Control:a=\n                ^"}},
+  };
+  static const struct {
+    const char *line;
+    uint64_t offset;
+    int32_t found;
+    uint32_t may_end;
+    const char *allowed, *barred;
+  } places[] = {
+      {"a b", 2, 'b', 1, ", \t", "b=\"a"},     {"a=", 2, -1, 0, "\"a!", ", \t="},
+      {"a==", 2, '=', 0, "\"a", ", ="},        {"a=\"b", 4, -1, 0, "a \t\"\\", "\n\x7f"},
+      {"a=\"b\\", 5, -1, 0, "a \"\\", "\n"},  {"a=\"b\"c", 5, 'c', 1, ", \t", "c\"="},
+      {"a=b\"", 3, '"', 1, "c, \t", "\"="},    {"=a", 0, '=', 1, "a, \t", "=\""},
+      {"a, =", 3, '=', 1, "a, \t", "=\""},     {"a=\"\x01\"", 3, 1, 0, "a\"\\", "\x01"},
+      {"a\xe9", 1, 0xe9, 1, "a=, \t", "\""},   {"a = b", 2, '=', 1, ", \t", "=a"},
+  };
+  sf_context context = sf_context_of(seed, SF_RFC8941);
+  sf_target target = sf_target_of("T");
+  sf_exchange exchange = sf_exchange_of(SF_SHARED_CACHE, 784111777);
+  sf_head_line lines[4];
+  sf_fault faults[MOST];
+  sf_verdict verdict;
+  for (size_t i = 0; i < sizeof rows / sizeof *rows; ++i) {
+    sf_text rest = sf_cstr(rows[i].head);
+    sf_head head = sf_head_in(SF_HEAD_LINES(lines), sf_buffer_of(NULL, 0));
+    head.faults = SF_FAULTS(faults);
+    CHECK(sf_take_head(&head, &rest) == SF_EMPTY);
+    CHECK(sf_decide_response(&context, &head, &target, 1, &exchange, &verdict) == SF_OK);
+    size_t count = 0;
+    for (; count < MOST && rows[i].messages[count] != NULL; ++count)
+      CHECK(count < head.faults.length && says(&faults[count], 26, rows[i].messages[count]));
+    CHECK(head.faults.length == count && head.faults.required == count);
+    /* a call that fails finds nothing */
+    exchange.cache = 0;
+    CHECK(sf_decide_response(&context, &head, &target, 1, &exchange, &verdict) == SF_BAD_CALL);
+    CHECK(head.faults.length == count && head.faults.required == count);
+    exchange.cache = SF_SHARED_CACHE;
+  }
+  for (size_t i = 0; i < sizeof places / sizeof *places; ++i) {
+    sf_head head = sf_head_in(SF_HEAD_LINES(lines), sf_buffer_of(NULL, 0));
+    head.faults = SF_FAULTS(faults);
+    CHECK(sf_add_field_line(&head, sf_cstr("cache-control"), sf_cstr(places[i].line)) == SF_OK);
+    CHECK(sf_decide_response(&context, &head, NULL, 0, &exchange, &verdict) == SF_OK);
+    CHECK(head.faults.length == 1 && strcmp(faults[0].field, "Cache-Control") == 0);
+    const sf_refusal *refusal = &faults[0].location.refusal;
+    CHECK(refusal->offset == places[i].offset && refusal->found == places[i].found);
+    CHECK(refusal->may_end == places[i].may_end);
+    for (const char *byte = places[i].allowed; *byte != 0; ++byte)
+      CHECK((*byte < 64 ? refusal->expected_low >> *byte : refusal->expected_high >> (*byte - 64)) & 1);
+    for (const char *byte = places[i].barred; *byte != 0; ++byte)
+      CHECK(!((*byte < 64 ? refusal->expected_low >> *byte : refusal->expected_high >> (*byte - 64)) & 1));
   }
 }
 
@@ -873,7 +1136,7 @@ static void storing(void) {
     CHECK(verdict.obstacle == rows[i].obstacle);
     CHECK(verdict.may_store == (rows[i].obstacle == SF_NO_OBSTACLE));
     /* a line that is no field line may have had a directive */
-    exchange.is_incomplete = 1;
+    head.is_incomplete = 1;
     CHECK(sf_decide_response(&context, &head, &target, 1, &exchange, &verdict) == SF_OK);
     CHECK(verdict.obstacle == (rows[i].obstacle == SF_BARRED_DIRECTIVE
                                    ? (uint32_t)SF_BARRED_DIRECTIVE
@@ -1088,6 +1351,9 @@ int main(void) {
   what_may_be_stored();
   ages();
   heads();
+  whole_heads();
+  fields_of_a_head();
+  faults_of_decisions();
   responses();
   lifetimes();
   storing();

@@ -11,8 +11,9 @@ FirstIs P (b ∷ more) = P b
 abbrev pub Lacks : (ℕ → Bool) → List ℕ → Type 0
 Lacks p = FirstIs (λ b. p b ≡ false)
 
--- the rest comes after bytes that pass the test; there may be none of them, and more may follow
+-- the rest comes after all bytes at the beginning that pass the test; there may be none
 pub record Skips (p : ℕ → Bool) (text rest : List ℕ) : Type 0 where
   pub prefix : List ℕ
   pub split : text ≡ prefix ++ rest
   pub each : Every p prefix
+  pub longest : Lacks p rest

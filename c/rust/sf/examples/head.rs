@@ -1,37 +1,11 @@
 //! What a proxy concludes from the heads of a request and its response, on standard input: a line
 //! `> Name: value` is of the request, and `< Name: value` of the response.
 
-use sf::{Cache, Dialect, Error, Exchange, Obstacle, Outcome, Path, Priority, ResponsePriority};
+use sf::{Cache, Dialect, Exchange, Head, Obstacle, Outcome, Parser, Path};
 use std::io::{self, Read};
 
 /// The targeted fields that this cache obeys, in order (RFC 9213 section 2.2).
 const TARGETS: [&str; 2] = ["ExampleCDN-Cache-Control", "CDN-Cache-Control"];
-/// The RFCs of the three fields cite it, and RFC 9651 adds no types to them.
-const DIALECT: Dialect = Dialect::Rfc8941;
-
-/// The lines of a head: names and values.
-type Head<'a> = [(&'a [u8], &'a [u8])];
-
-/// The lines of a side: a name and a value, or `None` for one that is no field line.
-fn head(heads: &[u8], side: u8) -> Vec<Option<(&[u8], &[u8])>> {
-    let lines = heads.split(|byte| *byte == b'\n');
-    let of_side = lines.filter_map(|line| line.strip_prefix(&[side]));
-    let contents = of_side.map(|line| line.strip_prefix(b" ").unwrap_or(line));
-    let filled = contents.filter(|line| !matches!(line, [] | [b'\r']));
-    filled.map(sf::split_field_line).collect()
-}
-
-/// What a field says. One that is malformed counts as absent, and standard error shows it.
-fn said<T: Default>(field: Result<T, Error>, head: &Head, name: &str) -> Result<T, Error> {
-    let text = sf::field_text(head, name)?;
-    field.or_else(|error| {
-        match error.refusal() {
-            Some(refusal) => eprintln!("{name}: {}", refusal.in_text(&text)),
-            None => eprintln!("{name}: {error}"),
-        }
-        error.as_absent()
-    })
-}
 
 /// Where the response came from (RFC 9211).
 fn source(path: &Path) -> String {
@@ -52,34 +26,39 @@ fn source(path: &Path) -> String {
 }
 
 fn main() -> Result<(), Box<dyn std::error::Error>> {
-    let mut heads = Vec::new();
-    io::stdin().read_to_end(&mut heads)?;
-    let sides = [head(&heads, b'>'), head(&heads, b'<')];
-    let is_incomplete = sides[1].contains(&None);
-    let [request, response] = sides.map(|side| side.into_iter().flatten().collect::<Vec<_>>());
+    let mut input = Vec::new();
+    io::stdin().read_to_end(&mut input)?;
+    // The RFCs of the three fields cite RFC 8941, and RFC 9651 adds no types to them.
+    let parser = Parser::new().with_dialect(Dialect::Rfc8941);
+    let (mut request, mut response) = (Head::new(parser), Head::new(parser));
+    for (index, line) in input.split(|byte| *byte == b'\n').enumerate() {
+        let (head, line) = match line {
+            [b'>', line @ ..] => (&mut request, line),
+            [b'<', line @ ..] => (&mut response, line),
+            _ => continue,
+        };
+        head.set_number(index + 1);
+        head.add_line(sf::trim(line))?;
+    }
 
-    let client = Priority::from_headers_in(DIALECT, &request);
-    let client = said(client, &request, "Priority")?;
-    let server = ResponsePriority::from_headers_in(DIALECT, &response);
-    let priority = client.merged_with(said(server, &response, "Priority")?);
+    let priority = request.priority()?;
+    let priority = priority.merged_with(response.response_priority()?);
     let how = ["", ", incremental"][usize::from(priority.incremental())];
     println!("urgency {}{how}", priority.urgency());
 
-    let path = Path::from_headers_in(DIALECT, &response);
-    println!("{}", source(&said(path, &response, "Cache-Status")?));
+    println!("{}", source(&response.path()?));
 
     // What a shared cache does with the response (RFC 9213 and RFC 9111).
-    let exchange = Exchange::now(Cache::Shared)
-        .with_status(200)
-        .with_incomplete(is_incomplete);
-    let verdict = exchange.decide_in(DIALECT, &TARGETS, &response)?;
-    for malformed in &verdict.malformed {
-        eprintln!("{malformed}");
-    }
+    let exchange = Exchange::now(Cache::Shared).with_status(200);
+    let verdict = response.decide(&exchange, &TARGETS)?;
     match verdict.obstacle {
         None => println!("store it by {verdict}"),
         Some(Obstacle::Directive) => println!("don't store it by {verdict}"),
         Some(obstacle) => println!("don't store it by {obstacle}"),
+    }
+
+    for malformed in request.malformed().iter().chain(response.malformed()) {
+        eprintln!("{}", malformed.excerpt(60));
     }
     Ok(())
 }

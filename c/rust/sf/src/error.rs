@@ -1,4 +1,5 @@
 use crate::ffi;
+use crate::malformed::Fault;
 use crate::short::Short;
 use core::fmt;
 use sf_sys as raw;
@@ -185,7 +186,9 @@ impl Refusal {
     #[must_use]
     pub fn excerpt<'a>(&self, text: &'a (impl AsRef<[u8]> + ?Sized), most: usize) -> Excerpt<'a> {
         Excerpt {
-            refusal: *self,
+            field: "",
+            fault: Fault::Refused(*self),
+            offset: self.offset,
             line: None,
             text: text.as_ref(),
             most,
@@ -214,11 +217,10 @@ impl Refusal {
     pub fn excerpt_of_line<'a>(&self, lines: &'a [impl AsRef<[u8]>], most: usize) -> Excerpt<'a> {
         let place = self.line(lines);
         let text = lines.get(place.line).map_or(&[][..], AsRef::as_ref);
+        let refusal = self.at_line(place.offset, text.len());
         Excerpt {
-            refusal: self.at_line(place.offset, text.len()),
             line: Some(place.line + 1),
-            text,
-            most,
+            ..refusal.excerpt(text, most)
         }
     }
 }
@@ -231,10 +233,14 @@ impl Refusal {
 /// ```
 #[derive(Clone, Copy, Debug)]
 pub struct Excerpt<'a> {
-    refusal: Refusal,
-    line: Option<usize>,
-    text: &'a [u8],
-    most: usize,
+    /// The name of the field; empty if it is not told.
+    pub(crate) field: &'a str,
+    pub(crate) fault: Fault,
+    /// The place in the text.
+    pub(crate) offset: u64,
+    pub(crate) line: Option<usize>,
+    pub(crate) text: &'a [u8],
+    pub(crate) most: usize,
 }
 
 impl Excerpt<'_> {
@@ -257,14 +263,17 @@ impl Excerpt<'_> {
 impl fmt::Display for Excerpt<'_> {
     fn fmt(&self, f: &mut fmt::Formatter<'_>) -> fmt::Result {
         let length = self.text.len();
-        let at = usize::try_from(self.refusal.offset).map_or(length, |offset| offset.min(length));
+        let at = usize::try_from(self.offset).map_or(length, |offset| offset.min(length));
         let from = at
             .saturating_sub(self.most / 2)
             .min(length.saturating_sub(self.most));
         let shown = &self.text[from..length.min(from.saturating_add(self.most))];
-        write!(f, "{}", self.refusal)?;
+        if !self.field.is_empty() {
+            write!(f, "{}: ", self.field)?;
+        }
+        write!(f, "{}", self.fault)?;
         if let Some(line) = self.line {
-            write!(f, "\nline {line}, place {}:", self.refusal.offset)?;
+            write!(f, "\nline {line}, place {}:", self.offset)?;
         }
         f.write_str("\n")?;
         for byte in shown {

@@ -1,11 +1,12 @@
 //! What a cache decides about a response by its whole head.
 
 use crate::line::is_of;
+use crate::malformed::{Fault, Malformed};
 #[cfg(feature = "std")]
 use crate::Dialect;
 use crate::{
-    age, field_text, trim, Cache, CacheRules, Cause, Decision, Error, Fallback, FieldDate,
-    FieldLine, Integer, Parser, Refusal, Response, Reuse, Seconds,
+    age, field_text, Cache, CacheRules, Cause, Decision, Error, Fallback, FieldDate, FieldLine,
+    Integer, Parser, Response, Reuse, Seconds,
 };
 use alloc::vec::Vec;
 use core::fmt;
@@ -392,64 +393,6 @@ impl fmt::Display for Obstacle {
     }
 }
 
-/// A field that is malformed. Its `Display` is one line, such as for a log; [`Refusal::excerpt`] of
-/// the line's value shows the place of a refusal in it.
-///
-/// ```
-/// use sf::{Cache, Exchange, Fault};
-/// let head = [("Server", "x"), ("Cache-Control", "max-age=60"), ("Cache-Control", "a b")];
-/// let verdict = Exchange::at(Cache::Shared, 784_111_777).decide(&[], &head).unwrap();
-/// let malformed = verdict.malformed[0];
-/// assert_eq!((malformed.field, malformed.line), ("Cache-Control", 2));
-/// assert!(matches!(malformed.fault, Fault::Refused(refusal) if refusal.offset == 2));
-/// ```
-#[derive(Clone, Copy, Debug, PartialEq, Eq)]
-pub struct Malformed<'a> {
-    /// The name of the field.
-    pub field: &'a str,
-    /// The index of the line among those of the head, from 0.
-    pub line: usize,
-    /// What is wrong.
-    pub fault: Fault,
-}
-
-/// What is wrong with a field.
-///
-/// ```
-/// assert_eq!(sf::Fault::Repeated.to_string(), "there are several lines");
-/// ```
-#[derive(Clone, Copy, Debug, PartialEq, Eq)]
-#[non_exhaustive]
-pub enum Fault {
-    /// A targeted field that is no Dictionary, a line of `Cache-Control` that is no list of
-    /// directives, or a field that [`Refusal::in_head`] was asked for. The offset is one in the value
-    /// of the line.
-    Refused(Refusal),
-    /// The first line of `Expires` or of `Date` is no HTTP-date.
-    NotADate,
-    /// There is a second line of `Expires` or of `Date`. The lines after it are not reported.
-    Repeated,
-    /// The first member of `Age` is not one or more digits.
-    NotAnAge,
-}
-
-impl fmt::Display for Fault {
-    fn fmt(&self, f: &mut fmt::Formatter<'_>) -> fmt::Result {
-        match self {
-            Fault::Refused(refusal) => refusal.fmt(f),
-            Fault::NotADate => f.pad("not an HTTP-date"),
-            Fault::Repeated => f.pad("there are several lines"),
-            Fault::NotAnAge => f.pad("not a number of seconds"),
-        }
-    }
-}
-
-impl fmt::Display for Malformed<'_> {
-    fn fmt(&self, f: &mut fmt::Formatter<'_>) -> fmt::Result {
-        write!(f, "{}: {}", self.field, self.fault)
-    }
-}
-
 impl Verdict<'_> {
     /// Whether the response may be stored (RFC 9111 section 3): by the directives, `Expires`, the
     /// status code and `Authorization`. Whether the cache understands the method is the caller's to
@@ -516,19 +459,18 @@ impl Parser {
         H::Item: FieldLine,
     {
         let mut malformed = Vec::new();
-        let age = age_of(head.clone(), &mut malformed)?;
-        let mut response = Response {
-            age: age.saturating_add(exchange.since_request()),
-            lifetime: None,
-            is_understood: exchange.is_understood,
-        };
         let obeyed = self.obeyed(targets, &head, &mut malformed)?;
-        let rules = if let Some((_, rules)) = obeyed {
-            rules
+        let (rules, lifetime) = if let Some((_, rules)) = obeyed {
+            (rules, None)
         } else {
-            let fallback = Fallback::read(head, &mut malformed)?;
-            response.lifetime = fallback.lifetime(exchange.received);
-            fallback.rules()
+            let fallback = Fallback::read(head.clone(), &mut malformed)?;
+            (fallback.rules(), fallback.lifetime(exchange.received))
+        };
+        let age = age_of(head, &mut malformed)?;
+        let response = Response {
+            age: age.saturating_add(exchange.since_request()),
+            lifetime,
+            is_understood: exchange.is_understood,
         };
         let decision = rules.decide(exchange.cache, response);
         let field = match (obeyed, decision.cause) {
@@ -670,47 +612,6 @@ where
         note(malformed, Malformed { field, line, fault })?;
     }
     Ok(read.unwrap_or(0))
-}
-
-impl Refusal {
-    /// The line of a head that this refusal is in, of the text of a field, which is its lines, as
-    /// [`field_text`] joins them. The place in it is one in the value of the line, from 0. Without
-    /// such a line both are 0.
-    ///
-    /// ```
-    /// let head = [("Server", "x"), ("Cache-Status", "a; hit"), ("cache-status", "7, b")];
-    /// let error = sf::Path::from_headers(&head).unwrap_err();
-    /// let malformed = error.refusal().unwrap().in_head(&head, "Cache-Status");
-    /// assert_eq!(malformed.line, 2);
-    /// assert!(matches!(malformed.fault, sf::Fault::Refused(refusal) if refusal.offset == 0));
-    /// ```
-    #[must_use]
-    pub fn in_head<H>(self, head: H, field: &str) -> Malformed<'_>
-    where
-        H: IntoIterator + Clone,
-        H::Item: FieldLine,
-    {
-        let lengths = head.clone().into_iter().filter(|line| is_of(line, field));
-        let place = self.place_in(lengths.map(|line| trim(line.value()).len()));
-        let lines = head.into_iter().enumerate();
-        let mut of_field = lines.filter(|(_, line)| is_of(line, field));
-        let (line, refusal) = match of_field.nth(place.line) {
-            None => (0, self.at_line(0, 0)),
-            Some((line, of_head)) => {
-                let value = of_head.value();
-                let end = spaces_before(value) + trim(value).len();
-                (line, self.at_line(spaces_before(value) + place.offset, end))
-            }
-        };
-        let fault = Fault::Refused(refusal);
-        Malformed { field, line, fault }
-    }
-}
-
-/// The number of spaces and tabs at the beginning of a value.
-fn spaces_before(value: &[u8]) -> usize {
-    let spaces = value.iter().take_while(|byte| matches!(byte, b' ' | b'\t'));
-    spaces.count()
 }
 
 fn note<'a>(malformed: &mut Vec<Malformed<'a>>, one: Malformed<'a>) -> Result<(), Error> {

@@ -1,94 +1,505 @@
-//! The texts of fields, of their lines.
+//! The heads of messages, and what is malformed in them.
 
-use crate::buffer::lengthen;
-use crate::ffi::{self, Fit};
-use crate::line::is_of;
-use crate::{trim, Error, FieldLine};
+use crate::buffer::append;
+use crate::error::Excerpt;
+use crate::malformed::{spaces_before, Fault, Malformed};
+use crate::{
+    field_text, has_field, split_field_line, trim, Appended, Error, Exchange, FieldLine, FieldType,
+    Hop, Parser, Path, Priority, Refusal, ResponsePriority, Verdict,
+};
 use alloc::vec::Vec;
-use sf_sys as raw;
+use core::fmt;
 
-/// The text of a field: the values of its lines without the white space around each, joined as by
-/// [`join`]. It is empty if the head doesn't have the field.
-///
-/// # Errors
-///
-/// [`Error::OutOfMemory`] only.
+/// The head of a request or a response: its field lines, which it borrows, and what is malformed in
+/// it. Its methods look a field up and read it by the dialect of a parser. A field that is malformed
+/// counts as absent (RFC 9651 section 4.2), and [`Head::malformed`] has it.
 ///
 /// ```
-/// let head = [("Priority", "u=1"), ("Age", "20"), ("priority", " i ")];
-/// assert_eq!(sf::field_text(&head, "Priority").unwrap(), b"u=1, i");
-/// assert_eq!(sf::field_text(&head, "Cache-Status").unwrap(), b"");
+/// use sf::{Dialect, Head, Parser, Priority};
+/// # fn main() -> Result<(), sf::Error> {
+/// let received = b"GET / HTTP/1.1\r\nPriority: u=5\r\npriority: i=,\r\n\r\n";
+/// let mut head = Head::parse(Parser::new().with_dialect(Dialect::Rfc8941), received)?;
+/// assert_eq!(head.priority()?, Priority::default());
+/// assert_eq!(
+///     head.malformed()[0].excerpt(40).to_string(),
+///     "Priority: byte 0x2c ',' at place 12, expected a letter, a digit, or one of `\"%(*-:?@`\n\
+///      line 3, place 12:\n\
+///      priority: i=,\n\
+///      \x20           ^"
+/// );
+/// # Ok(())
+/// # }
 /// ```
-pub fn field_text(
-    head: impl IntoIterator<Item = impl FieldLine>,
-    name: &str,
-) -> Result<Vec<u8>, Error> {
-    let mut text = Joining::new();
-    for line in head {
-        if is_of(&line, name) {
-            text.add(trim(line.value()))?;
-        }
-    }
-    Ok(text.finish())
+#[derive(Clone, Debug)]
+pub struct Head<'a> {
+    parser: Parser,
+    lines: Vec<HeadLine<'a>>,
+    malformed: Vec<HeadFault<'a>>,
+    /// The number of the line that is added next.
+    number: usize,
+    is_incomplete: bool,
+    content: Option<&'a [u8]>,
 }
 
-/// Whether a head has the field of this name: an absent field and an empty one have the same text.
+/// A field line of a [`Head`].
 ///
 /// ```
-/// let head = [("Priority", ""), ("Age", "20")];
-/// assert!(sf::has_field(&head, "priority") && !sf::has_field(&head, "Cache-Status"));
+/// let head = sf::Head::parse(sf::Parser::new(), "Age: 20\r\n\r\n").unwrap();
+/// let line = head.lines()[0];
+/// assert_eq!((line.name, line.value), (b"Age".as_slice(), b"20".as_slice()));
+/// assert_eq!((line.received, line.number), (b"Age: 20".as_slice(), 1));
 /// ```
-#[must_use]
-pub fn has_field(head: impl IntoIterator<Item = impl FieldLine>, name: &str) -> bool {
-    head.into_iter().any(|line| is_of(&line, name))
+#[derive(Clone, Copy, Debug, PartialEq, Eq)]
+#[non_exhaustive]
+pub struct HeadLine<'a> {
+    /// The name of the field, in any case.
+    pub name: &'a [u8],
+    /// The value, without the white space around it.
+    pub value: &'a [u8],
+    /// The line as [`Head::add_line`] was given it, without its CR and LF; or the value as
+    /// [`Head::add_field`] was given it.
+    pub received: &'a [u8],
+    /// The number of the line: see [`Head::set_number`].
+    pub number: usize,
+    /// Where the value begins in what was received.
+    value_at: usize,
 }
 
-/// Joins the lines of a field, with a comma and a space between two (RFC 9651 section 4.2). The
-/// result of no lines is empty. An empty line is a line: beside others it gives `a, , b`, which is
-/// malformed (RFC 9110 section 5.3).
-///
-/// # Errors
-///
-/// [`Error::OutOfMemory`] only.
-///
-/// ```
-/// assert_eq!(sf::join(["a, b", "c"]).unwrap(), b"a, b, c");
-/// ```
-pub fn join(lines: impl IntoIterator<Item = impl AsRef<[u8]>>) -> Result<Vec<u8>, Error> {
-    let mut text = Joining::new();
-    for line in lines {
-        text.add(line.as_ref())?;
-    }
-    Ok(text.finish())
-}
-
-/// Lines that are joined.
-struct Joining {
-    buffer: Vec<u8>,
-    joined: raw::Joined,
-}
-
-impl Joining {
-    fn new() -> Joining {
-        Joining {
-            buffer: Vec::new(),
-            joined: raw::Joined {
-                length: 0,
-                required: 0,
-                begun: 0,
-            },
-        }
+impl FieldLine for HeadLine<'_> {
+    fn name(&self) -> &[u8] {
+        self.name
     }
 
-    fn add(&mut self, line: &[u8]) -> Result<(), Error> {
-        while let Fit::Short(length) = ffi::join(line, &mut self.buffer, &mut self.joined)? {
-            lengthen(&mut self.buffer, length)?;
+    fn value(&self) -> &[u8] {
+        self.value
+    }
+}
+
+/// A line or a field of a [`Head`] that is malformed. Its `Display` is one line, such as for a log.
+///
+/// ```
+/// use sf::{Fault, Head, Parser};
+/// let head = Head::parse(Parser::new(), "Age 20\r\n\r\n").unwrap();
+/// let malformed = head.malformed()[0];
+/// assert_eq!((malformed.field, malformed.fault), ("", Fault::NotALine));
+/// assert_eq!(malformed.to_string(), "line 1: not a field line");
+/// ```
+#[derive(Clone, Copy, Debug, PartialEq, Eq)]
+#[non_exhaustive]
+pub struct HeadFault<'a> {
+    /// The name of the field; empty for a line that is no field line.
+    pub field: &'a str,
+    /// What is wrong. The offset of a refusal is one in the line.
+    pub fault: Fault,
+    /// The number of the line: see [`Head::set_number`].
+    pub number: usize,
+    /// The line as it was received: [`HeadLine::received`].
+    pub line: &'a [u8],
+    /// The place in the line: the offset of a refusal; otherwise, where the value begins, or 0.
+    pub offset: usize,
+}
+
+impl<'a> HeadFault<'a> {
+    /// A message of several lines: the name of the field, what is wrong, the number of the line and
+    /// the place in it, and at most so many bytes of the line around the place, with a caret below
+    /// it. So it has a bound, whatever the length of the line.
+    ///
+    /// ```
+    /// use sf::{Cache, Exchange, Head, Parser};
+    /// let mut head = Head::parse(Parser::new(), "Age: 1 day\r\n\r\n").unwrap();
+    /// head.decide(&Exchange::at(Cache::Shared, 784_111_777), &[]).unwrap();
+    /// assert_eq!(
+    ///     head.malformed()[0].excerpt(8).to_string(),
+    ///     "Age: not a number of seconds\nline 1, place 5:\ne: 1 day\n    ^"
+    /// );
+    /// ```
+    #[must_use]
+    pub fn excerpt(&self, most: usize) -> Excerpt<'a> {
+        Excerpt {
+            field: self.field,
+            fault: self.fault,
+            offset: self.offset as u64,
+            line: Some(self.number),
+            text: self.line,
+            most,
         }
+    }
+}
+
+impl fmt::Display for HeadFault<'_> {
+    fn fmt(&self, f: &mut fmt::Formatter<'_>) -> fmt::Result {
+        if !self.field.is_empty() {
+            write!(f, "{}, ", self.field)?;
+        }
+        write!(f, "line {}: {}", self.number, self.fault)
+    }
+}
+
+impl<'a> Head<'a> {
+    /// A head without lines.
+    ///
+    /// ```
+    /// use sf::{Head, Parser};
+    /// let mut head = Head::new(Parser::new());
+    /// head.add_field("Priority", "u=1").unwrap();
+    /// assert_eq!(head.priority().unwrap().to_string(), "u=1");
+    /// ```
+    #[must_use]
+    pub fn new(parser: Parser) -> Head<'a> {
+        Head {
+            parser,
+            lines: Vec::new(),
+            malformed: Vec::new(),
+            number: 1,
+            is_incomplete: false,
+            content: None,
+        }
+    }
+
+    /// The head that a text begins with: its lines up to the empty line that ends it.
+    ///
+    /// # Errors
+    ///
+    /// [`Error::OutOfMemory`] only: a line that is no field line is one of [`Head::malformed`].
+    ///
+    /// ```
+    /// let head = sf::Head::parse(sf::Parser::new(), "HTTP/1.1 200 OK\r\nAge: 1\r\n\r\nabc").unwrap();
+    /// assert_eq!((head.lines().len(), head.content()), (1, Some(b"abc".as_slice())));
+    /// ```
+    pub fn parse<T: AsRef<[u8]> + ?Sized>(parser: Parser, text: &'a T) -> Result<Head<'a>, Error> {
+        let mut head = Head::new(parser);
+        let mut rest = text.as_ref();
+        while !rest.is_empty() {
+            let end = rest.iter().position(|byte| *byte == b'\n');
+            let (line, after) = rest.split_at(end.map_or(rest.len(), |end| end + 1));
+            rest = after;
+            if without_end(line).is_empty() {
+                head.content = Some(rest);
+                break;
+            }
+            head.add_line(line)?;
+        }
+        Ok(head)
+    }
+
+    /// Adds a field line as it was received (RFC 9112 section 5), with or without its CR and LF, and
+    /// returns whether it is one: see [`split_field_line`]. The start line of the message, the first
+    /// that is given, which begins with `HTTP/` or ends with an HTTP version, and an empty line are
+    /// skipped. Another line that is no field line makes the head incomplete, and is one of
+    /// [`Head::malformed`].
+    ///
+    /// # Errors
+    ///
+    /// [`Error::OutOfMemory`] only.
+    ///
+    /// ```
+    /// let mut head = sf::Head::new(sf::Parser::new());
+    /// assert!(!head.add_line("HTTP/1.1 200 OK").unwrap() && !head.is_incomplete());
+    /// assert!(head.add_line("Cache-Control: no-store\r\n").unwrap());
+    /// assert!(!head.add_line("Age 20").unwrap() && head.is_incomplete());
+    /// ```
+    pub fn add_line<T: AsRef<[u8]> + ?Sized>(&mut self, line: &'a T) -> Result<bool, Error> {
+        let received = without_end(line.as_ref());
+        let number = self.number;
+        if let Some((name, value)) = split_field_line(received) {
+            let colon = received.iter().position(|byte| *byte == b':');
+            let after = colon.map_or(received.len(), |colon| colon + 1);
+            let line = HeadLine {
+                name,
+                value,
+                received,
+                number,
+                value_at: after + spaces_before(&received[after..]),
+            };
+            append(&mut self.lines, &[line])?;
+            self.number += 1;
+            return Ok(true);
+        }
+        let is_first = self.lines.is_empty() && !self.is_incomplete;
+        if !(received.is_empty() || is_first && is_start_line(received)) {
+            let fault = HeadFault {
+                field: "",
+                fault: Fault::NotALine,
+                number,
+                line: received,
+                offset: 0,
+            };
+            append(&mut self.malformed, &[fault])?;
+            self.is_incomplete = true;
+        }
+        self.number += 1;
+        Ok(false)
+    }
+
+    /// Adds a field line by its name and its value, of which white space around it is no part.
+    ///
+    /// # Errors
+    ///
+    /// [`Error::OutOfMemory`] only.
+    ///
+    /// ```
+    /// let mut head = sf::Head::new(sf::Parser::new());
+    /// head.add_field("Priority", " u=1 ").unwrap();
+    /// assert_eq!(head.lines()[0].value, b"u=1");
+    /// ```
+    pub fn add_field<N, V>(&mut self, name: &'a N, value: &'a V) -> Result<(), Error>
+    where
+        N: AsRef<[u8]> + ?Sized,
+        V: AsRef<[u8]> + ?Sized,
+    {
+        let line = HeadLine {
+            name: trim(name),
+            value: trim(value),
+            received: value.as_ref(),
+            number: self.number,
+            value_at: spaces_before(value.as_ref()),
+        };
+        append(&mut self.lines, &[line])?;
+        self.number += 1;
         Ok(())
     }
 
-    fn finish(mut self) -> Vec<u8> {
-        self.buffer.truncate(self.joined.length);
-        self.buffer
+    /// Sets the number of the line that is added next, for messages: 1 at first, and then one more
+    /// with each line.
+    ///
+    /// ```
+    /// let mut head = sf::Head::new(sf::Parser::new());
+    /// head.set_number(12);
+    /// head.add_line("Age 20").unwrap();
+    /// assert_eq!(head.malformed()[0].number, 12);
+    /// ```
+    pub fn set_number(&mut self, number: usize) {
+        self.number = number;
     }
+
+    /// The field lines, in order. A slice of them is a head for the calls that take
+    /// [`FieldLine`]s.
+    ///
+    /// ```
+    /// let head = sf::Head::parse(sf::Parser::new(), "Via: a\r\nvia: b\r\n\r\n").unwrap();
+    /// assert_eq!(sf::field_text(head.lines(), "Via").unwrap(), b"a, b");
+    /// ```
+    #[must_use]
+    pub fn lines(&self) -> &[HeadLine<'a>] {
+        &self.lines
+    }
+
+    /// Whether a line is no field line: it may have had a directive, so [`Head::decide`] does not
+    /// permit to store the response.
+    ///
+    /// ```
+    /// let head = sf::Head::parse(sf::Parser::new(), "Cache-Control no-store\r\n\r\n").unwrap();
+    /// assert!(head.is_incomplete());
+    /// ```
+    #[must_use]
+    pub fn is_incomplete(&self) -> bool {
+        self.is_incomplete
+    }
+
+    /// What comes after the empty line of the text that [`Head::parse`] read; `None` if the text
+    /// ended before the head did.
+    ///
+    /// ```
+    /// let content = |text| sf::Head::parse(sf::Parser::new(), text).unwrap().content();
+    /// assert_eq!(content("Age: 1\n\nabc"), Some(b"abc".as_slice()));
+    /// assert_eq!(content("Age: 1\n"), None);
+    /// ```
+    #[must_use]
+    pub fn content(&self) -> Option<&'a [u8]> {
+        self.content
+    }
+
+    /// What was found to be malformed so far, in the order in which it was found: lines that are no
+    /// field lines, and fields. A field that is read twice is there twice.
+    ///
+    /// ```
+    /// let mut head = sf::Head::parse(sf::Parser::new(), "Priority: u=\r\n\r\n").unwrap();
+    /// assert!(head.malformed().is_empty());
+    /// head.priority().unwrap();
+    /// assert_eq!((head.malformed()[0].field, head.malformed()[0].offset), ("Priority", 12));
+    /// ```
+    #[must_use]
+    pub fn malformed(&self) -> &[HeadFault<'a>] {
+        &self.malformed
+    }
+
+    /// Reads the Priority field of a request (RFC 9218 section 5); the default if it is absent or
+    /// malformed.
+    ///
+    /// # Errors
+    ///
+    /// [`Error::OutOfMemory`] only.
+    ///
+    /// ```
+    /// let mut head = sf::Head::parse(sf::Parser::new(), "Priority: u=5, i\r\n\r\n").unwrap();
+    /// assert_eq!(head.priority().unwrap().urgency(), 5);
+    /// ```
+    pub fn priority(&mut self) -> Result<Priority, Error> {
+        let said = self.parser.priority(field_text(&self.lines, "Priority")?);
+        self.or_absent("Priority", said)
+    }
+
+    /// Reads the Priority field of a response (RFC 9218 section 8); the default, which sets nothing,
+    /// if it is absent or malformed.
+    ///
+    /// # Errors
+    ///
+    /// [`Error::OutOfMemory`] only.
+    ///
+    /// ```
+    /// let mut head = sf::Head::parse(sf::Parser::new(), "Priority: i=?0\r\n\r\n").unwrap();
+    /// assert_eq!(head.response_priority().unwrap().incremental, Some(false));
+    /// ```
+    pub fn response_priority(&mut self) -> Result<ResponsePriority, Error> {
+        let text = field_text(&self.lines, "Priority")?;
+        let said = self.parser.response_priority(text);
+        self.or_absent("Priority", said)
+    }
+
+    /// Reads the Cache-Status field of a response (RFC 9211 section 2); the path without hops if it
+    /// is absent or malformed, or if a member names no cache.
+    ///
+    /// # Errors
+    ///
+    /// [`Error::OutOfMemory`], and [`Error::TooLong`] of 4 GiB or more.
+    ///
+    /// ```
+    /// let mut head = sf::Head::parse(sf::Parser::new(), "Cache-Status: edge; hit\r\n\r\n").unwrap();
+    /// assert_eq!(head.path().unwrap().served_by(), Some(0));
+    /// ```
+    pub fn path(&mut self) -> Result<Path, Error> {
+        let said = self.parser.path(field_text(&self.lines, "Cache-Status")?);
+        self.or_absent("Cache-Status", said)
+    }
+
+    /// Reads a field of any name; `None` if it is absent or malformed.
+    ///
+    /// # Errors
+    ///
+    /// [`Error::OutOfMemory`], and [`Error::TooLong`] of 4 GiB or more.
+    ///
+    /// ```
+    /// use sf::{Dictionary, Head, Parser};
+    /// let mut head = Head::parse(Parser::new(), "Example: a=1\r\nexample: b\r\n\r\n").unwrap();
+    /// let field: Dictionary = head.field("Example")?.unwrap();
+    /// assert_eq!(field["a"].as_integer(), Some(1));
+    /// assert_eq!(head.field::<Dictionary>("Other")?, None);
+    /// # Ok::<(), sf::Error>(())
+    /// ```
+    pub fn field<T: FieldType>(&mut self, name: &'a str) -> Result<Option<T>, Error> {
+        if !has_field(&self.lines, name) {
+            return Ok(None);
+        }
+        let said = self.parser.parse(field_text(&self.lines, name)?);
+        self.or_absent(name, said.map(Some))
+    }
+
+    /// Decides what a cache does with the response: see [`Exchange::decide_in`]. The head is
+    /// incomplete if the exchange or this head says so.
+    ///
+    /// # Errors
+    ///
+    /// Those of [`Exchange::decide_in`].
+    ///
+    /// ```
+    /// use sf::{Cache, Exchange, Head, Obstacle, Parser};
+    /// let received = "HTTP/1.1 200 OK\r\nCache-Control: max-age=60\r\nAge 20\r\n\r\n";
+    /// let mut head = Head::parse(Parser::new(), received).unwrap();
+    /// let exchange = Exchange::at(Cache::Shared, 784_111_777).with_status(200);
+    /// let verdict = head.decide(&exchange, &["CDN-Cache-Control"]).unwrap();
+    /// assert_eq!(verdict.obstacle, Some(Obstacle::Line));
+    /// ```
+    pub fn decide(
+        &mut self,
+        exchange: &Exchange,
+        targets: &[&'a str],
+    ) -> Result<Verdict<'a>, Error> {
+        let is_incomplete = exchange.is_incomplete || self.is_incomplete;
+        let exchange = exchange.with_incomplete(is_incomplete);
+        let verdict = self.parser.decide(&exchange, targets, &self.lines)?;
+        for malformed in &verdict.malformed {
+            self.note(*malformed)?;
+        }
+        Ok(verdict)
+    }
+
+    /// Appends a hop to the Cache-Status field, or writes the hop alone if that is malformed: see
+    /// [`Hop::append_or_replace_in`].
+    ///
+    /// # Errors
+    ///
+    /// Those of [`Hop::append_or_replace_in`].
+    ///
+    /// ```
+    /// use sf::{Head, Hop, Outcome, Parser, TokenRef};
+    /// let mut head = Head::parse(Parser::new(), "Cache-Status: a; hit,\r\n\r\n").unwrap();
+    /// let hop = Hop::new(TokenRef::constant("edge")).with_outcome(Outcome::Hit);
+    /// assert_eq!(head.append_or_replace(&hop).unwrap().as_str(), "edge;hit");
+    /// assert_eq!(head.malformed()[0].offset, 21);
+    /// ```
+    pub fn append_or_replace(&mut self, hop: &Hop<'_>) -> Result<Appended, Error> {
+        let text = field_text(&self.lines, "Cache-Status")?;
+        let sent = self.parser.append_or_replace_hop(hop, [text])?;
+        if let Some(refusal) = sent.refusal() {
+            self.note(refusal.in_head(&self.lines, "Cache-Status"))?;
+        }
+        Ok(sent)
+    }
+
+    /// What a field says; the default if it is malformed, which is noted.
+    fn or_absent<T: Default>(&mut self, name: &'a str, said: Result<T, Error>) -> Result<T, Error> {
+        said.or_else(|error| {
+            if let Some(refusal) = error.refusal() {
+                self.note(refusal.in_head(&self.lines, name))?;
+            }
+            error.as_absent()
+        })
+    }
+
+    /// Notes a malformed field of this head, with the place in the line as it was received.
+    fn note(&mut self, malformed: Malformed<'a>) -> Result<(), Error> {
+        let line = self.lines[malformed.line];
+        let place = match malformed.fault {
+            Fault::Refused(refusal) => usize::try_from(refusal.offset).unwrap_or(usize::MAX),
+            _ => 0,
+        };
+        let offset = line.value_at.saturating_add(place);
+        let fault = match malformed.fault {
+            Fault::Refused(refusal) => Fault::Refused(Refusal {
+                offset: offset as u64,
+                ..refusal
+            }),
+            fault => fault,
+        };
+        let found = HeadFault {
+            field: malformed.field,
+            fault,
+            number: line.number,
+            line: line.received,
+            offset,
+        };
+        append(&mut self.malformed, &[found])
+    }
+}
+
+/// A line without its CR and LF.
+fn without_end(line: &[u8]) -> &[u8] {
+    let line = line.strip_suffix(b"\n").unwrap_or(line);
+    line.strip_suffix(b"\r").unwrap_or(line)
+}
+
+/// Whether a line is a status line or a request line (RFC 9112 sections 3 and 4).
+fn is_start_line(line: &[u8]) -> bool {
+    let is_of_response = is_version(line) && matches!(line.get(8), None | Some(b' '));
+    let end = line.len().checked_sub(9).map(|at| &line[at..]);
+    is_of_response || end.map_or(false, |end| end[0] == b' ' && is_version(&end[1..]))
+}
+
+/// Whether a text begins with an HTTP version (RFC 9112 section 2.3).
+fn is_version(text: &[u8]) -> bool {
+    let is_numbered = |rest: &[u8]| {
+        matches!(rest, [major, b'.', minor, ..]
+            if major.is_ascii_digit() && minor.is_ascii_digit())
+    };
+    text.strip_prefix(b"HTTP/").map_or(false, is_numbered)
 }

@@ -388,6 +388,45 @@ impl<'a> Hop<'a> {
         let outcome = outcome.into();
         Hop { outcome, ..self }
     }
+
+    /// The same with this `ttl`, or without one: see [`Verdict::ttl`](crate::Verdict::ttl).
+    ///
+    /// ```
+    /// use sf::{Hop, Integer, Outcome, TokenRef};
+    /// let hop = Hop::new(TokenRef::constant("edge")).with_outcome(Outcome::Hit);
+    /// assert_eq!(hop.with_ttl(Integer::from(-30)).to_string(), "edge;hit;ttl=-30");
+    /// ```
+    #[must_use]
+    pub fn with_ttl(self, ttl: impl Into<Option<Integer>>) -> Hop<'a> {
+        let ttl = ttl.into();
+        Hop { ttl, ..self }
+    }
+
+    /// The same with this cache key.
+    ///
+    /// ```
+    /// use sf::{Hop, StringRef, TokenRef};
+    /// let hop = Hop::new(TokenRef::constant("edge")).with_key(StringRef::constant("/a"));
+    /// assert_eq!(hop.to_string(), "edge;key=\"/a\"");
+    /// ```
+    #[must_use]
+    pub fn with_key(self, key: &'a StringRef) -> Hop<'a> {
+        let key = Some(key);
+        Hop { key, ..self }
+    }
+
+    /// The same with this further information, a Token or a String.
+    ///
+    /// ```
+    /// use sf::{Hop, TokenRef};
+    /// let hop = Hop::new(TokenRef::constant("edge")).with_detail(TokenRef::constant("MEMORY"));
+    /// assert_eq!(hop.to_string(), "edge;detail=MEMORY");
+    /// ```
+    #[must_use]
+    pub fn with_detail(self, detail: impl Into<Name<'a>>) -> Hop<'a> {
+        let detail = Some(detail.into());
+        Hop { detail, ..self }
+    }
 }
 
 impl<'a> Forwarded<'a> {

@@ -14,6 +14,7 @@ mod date;
 mod error;
 mod kind;
 mod line;
+mod malformed;
 mod number;
 mod seed;
 mod text;
@@ -34,9 +35,9 @@ mod buffer;
 #[cfg(feature = "alloc")]
 mod field;
 #[cfg(feature = "alloc")]
-mod head;
-#[cfg(feature = "alloc")]
 mod item;
+#[cfg(feature = "alloc")]
+mod joined;
 #[cfg(feature = "alloc")]
 mod keyed;
 #[cfg(feature = "alloc")]
@@ -54,6 +55,8 @@ mod directives;
 #[cfg(feature = "alloc")]
 mod exchange;
 mod fallback;
+#[cfg(feature = "alloc")]
+mod head;
 mod hop;
 #[cfg(feature = "alloc")]
 mod hop_text;
@@ -77,6 +80,7 @@ pub use fallback::{Fallback, FieldDate, LineRefusal};
 pub use hop::{Forward, Forwarded, FwdStatus, Hop, Name, Outcome};
 pub use kind::{Dialect, Kind};
 pub use line::{split_field_line, FieldLine};
+pub use malformed::{Fault, Malformed};
 pub use number::{Decimal, Integer};
 pub use parser::{trim, Parser};
 pub use policy::{Choice, Policy, Seconds};
@@ -89,11 +93,12 @@ pub use view::{Node, Nodes, Role, Space, View};
 pub use {
     bare::{BareItem, BareItemFromInput},
     error::RefusalInText,
-    exchange::{Exchange, Fault, Malformed, Obstacle, Verdict},
+    exchange::{Exchange, Obstacle, Verdict},
     field::List,
-    head::{field_text, has_field, join},
+    head::{Head, HeadFault, HeadLine},
     hop_text::Appended,
     item::{InnerList, Item, ListEntry},
+    joined::{field_text, has_field, join},
     keyed::{Dictionary, Iter, IterMut, Parameters},
     parser::FieldType,
     path::Path,

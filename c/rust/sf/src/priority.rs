@@ -44,6 +44,22 @@ impl Urgency {
             .ok_or(Error::Invalid)
     }
 
+    /// The urgency of a number that is known when the program is compiled.
+    ///
+    /// # Panics
+    ///
+    /// If it is above 7: in a constant, the program does not compile then.
+    ///
+    /// ```
+    /// const SOON: sf::Urgency = sf::Urgency::constant(1);
+    /// assert_eq!(SOON.get(), 1);
+    /// ```
+    #[must_use]
+    pub const fn constant(number: u8) -> Urgency {
+        assert!(number <= Urgency::LEAST.0, "an urgency above 7");
+        Urgency(number)
+    }
+
     /// Its number.
     ///
     /// ```
@@ -428,6 +444,53 @@ impl ResponsePriority {
         ResponsePriority {
             urgency: Some(priority.urgency()),
             incremental: Some(priority.incremental()),
+        }
+    }
+
+    /// Puts what this priority sets into the text of the Priority field of a response, and keeps its
+    /// other members: see [`Priority::change`].
+    ///
+    /// # Errors
+    ///
+    /// [`Error::Refused`] if the text is not a well-formed Dictionary.
+    ///
+    /// ```
+    /// use sf::{ResponsePriority, Urgency};
+    /// let priority = ResponsePriority { urgency: Some(Urgency::DEFAULT), incremental: None };
+    /// assert_eq!(priority.change("x, u=5").unwrap(), "x, u=3");
+    /// ```
+    #[cfg(feature = "std")]
+    pub fn change(self, text: impl AsRef<[u8]>) -> Result<alloc::string::String, Error> {
+        Parser::new().change_priority(self.as_set(), text)
+    }
+
+    /// Puts what this priority sets into the text by a dialect: see [`ResponsePriority::change`].
+    ///
+    /// # Errors
+    ///
+    /// [`Error::Refused`] if the text is not a well-formed Dictionary.
+    ///
+    /// ```
+    /// use sf::{Dialect, ResponsePriority};
+    /// let priority = ResponsePriority { urgency: None, incremental: Some(false) };
+    /// assert_eq!(priority.change_in(Dialect::Rfc8941, "u=1, i").unwrap(), "u=1, i=?0");
+    /// ```
+    #[cfg(feature = "std")]
+    pub fn change_in(
+        self,
+        dialect: Dialect,
+        text: impl AsRef<[u8]>,
+    ) -> Result<alloc::string::String, Error> {
+        let parser = Parser::new().with_dialect(dialect);
+        parser.change_priority(self.as_set(), text)
+    }
+
+    /// A priority of a request that sets the same.
+    #[cfg(feature = "std")]
+    fn as_set(self) -> Priority {
+        Priority {
+            urgency: self.urgency,
+            incremental: self.incremental,
         }
     }
 

@@ -255,19 +255,19 @@ fn malformed_fields_are_listed() {
         })
         .collect();
     let expected = [
-        ("Age", 2, None),
         ("ExampleCDN-Cache-Control", 3, Some(7)),
         ("Expires", 5, None),
         ("Date", 6, None),
         ("Expires", 8, None),
         ("Cache-Control", 9, Some(3)),
+        ("Age", 2, None),
     ];
     assert_eq!(found, expected);
     let shown: Vec<_> = verdict.malformed.iter().map(|it| it.to_string()).collect();
-    assert_eq!(shown[0], "Age: not a number of seconds");
-    assert_eq!(shown[2], "Expires: not an HTTP-date");
-    assert_eq!(shown[4], "Expires: there are several lines");
-    assert!(shown[5].starts_with("Cache-Control: byte 0x62 'b' at place 3, expected "));
+    assert_eq!(shown[1], "Expires: not an HTTP-date");
+    assert_eq!(shown[3], "Expires: there are several lines");
+    assert!(shown[4].starts_with("Cache-Control: byte 0x62 'b' at place 3, expected "));
+    assert_eq!(shown[5], "Age: not a number of seconds");
     assert_eq!(verdict.field, "Cache-Control");
     assert!(verdict.rules.policy.no_store && !verdict.may_store());
     // Of many lines the second is reported.

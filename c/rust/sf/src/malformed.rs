@@ -1,0 +1,108 @@
+//! What is malformed in the head of a message.
+
+use crate::line::is_of;
+use crate::{trim, FieldLine, Refusal};
+use core::fmt;
+
+/// A field that is malformed. Its `Display` is one line, such as for a log; [`Refusal::excerpt`] of
+/// the line's value shows the place of a refusal in it.
+///
+/// ```
+/// use sf::{Cache, Exchange, Fault};
+/// let head = [("Server", "x"), ("Cache-Control", "max-age=60"), ("Cache-Control", "a b")];
+/// let verdict = Exchange::at(Cache::Shared, 784_111_777).decide(&[], &head).unwrap();
+/// let malformed = verdict.malformed[0];
+/// assert_eq!((malformed.field, malformed.line), ("Cache-Control", 2));
+/// assert!(matches!(malformed.fault, Fault::Refused(refusal) if refusal.offset == 2));
+/// ```
+#[derive(Clone, Copy, Debug, PartialEq, Eq)]
+pub struct Malformed<'a> {
+    /// The name of the field.
+    pub field: &'a str,
+    /// The index of the line among those of the head, from 0.
+    pub line: usize,
+    /// What is wrong.
+    pub fault: Fault,
+}
+
+/// What is wrong with a field.
+///
+/// ```
+/// assert_eq!(sf::Fault::Repeated.to_string(), "there are several lines");
+/// ```
+#[derive(Clone, Copy, Debug, PartialEq, Eq)]
+#[non_exhaustive]
+pub enum Fault {
+    /// A targeted field that is no Dictionary, a line of `Cache-Control` that is no list of
+    /// directives, or a field that [`Refusal::in_head`] was asked for. The offset is one in the value
+    /// of the line.
+    Refused(Refusal),
+    /// The first line of `Expires` or of `Date` is no HTTP-date.
+    NotADate,
+    /// There is a second line of `Expires` or of `Date`. The lines after it are not reported.
+    Repeated,
+    /// The first member of `Age` is not one or more digits.
+    NotAnAge,
+    /// A line of a [`Head`](crate::Head) that is no field line: see
+    /// [`split_field_line`](crate::split_field_line()).
+    NotALine,
+}
+
+impl fmt::Display for Fault {
+    fn fmt(&self, f: &mut fmt::Formatter<'_>) -> fmt::Result {
+        match self {
+            Fault::Refused(refusal) => refusal.fmt(f),
+            Fault::NotADate => f.pad("not an HTTP-date"),
+            Fault::Repeated => f.pad("there are several lines"),
+            Fault::NotAnAge => f.pad("not a number of seconds"),
+            Fault::NotALine => f.pad("not a field line"),
+        }
+    }
+}
+
+impl fmt::Display for Malformed<'_> {
+    fn fmt(&self, f: &mut fmt::Formatter<'_>) -> fmt::Result {
+        write!(f, "{}: {}", self.field, self.fault)
+    }
+}
+
+impl Refusal {
+    /// The line of a head that this refusal is in, of the text of a field, which is its lines, as
+    /// [`field_text`] joins them. The place in it is one in the value of the line, from 0. Without
+    /// such a line both are 0.
+    ///
+    /// ```
+    /// let head = [("Server", "x"), ("Cache-Status", "a; hit"), ("cache-status", "7, b")];
+    /// let error = sf::Path::from_headers(&head).unwrap_err();
+    /// let malformed = error.refusal().unwrap().in_head(&head, "Cache-Status");
+    /// assert_eq!(malformed.line, 2);
+    /// assert!(matches!(malformed.fault, sf::Fault::Refused(refusal) if refusal.offset == 0));
+    /// ```
+    #[must_use]
+    pub fn in_head<H>(self, head: H, field: &str) -> Malformed<'_>
+    where
+        H: IntoIterator + Clone,
+        H::Item: FieldLine,
+    {
+        let lengths = head.clone().into_iter().filter(|line| is_of(line, field));
+        let place = self.place_in(lengths.map(|line| trim(line.value()).len()));
+        let lines = head.into_iter().enumerate();
+        let mut of_field = lines.filter(|(_, line)| is_of(line, field));
+        let (line, refusal) = match of_field.nth(place.line) {
+            None => (0, self.at_line(0, 0)),
+            Some((line, of_head)) => {
+                let value = of_head.value();
+                let end = spaces_before(value) + trim(value).len();
+                (line, self.at_line(spaces_before(value) + place.offset, end))
+            }
+        };
+        let fault = Fault::Refused(refusal);
+        Malformed { field, line, fault }
+    }
+}
+
+/// The number of spaces and tabs at the beginning of a value.
+pub(crate) fn spaces_before(value: &[u8]) -> usize {
+    let spaces = value.iter().take_while(|byte| matches!(byte, b' ' | b'\t'));
+    spaces.count()
+}
