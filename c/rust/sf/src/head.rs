@@ -242,6 +242,20 @@ impl<'a> Head<'a> {
     /// head.add_field("Priority", " u=1 ").unwrap();
     /// assert_eq!(head.lines()[0].value, b"u=1");
     /// ```
+    ///
+    /// These are the lines of a `HeaderMap` of the crate `http`:
+    ///
+    /// ```
+    /// # #[cfg(feature = "http")] {
+    /// let mut headers = http::HeaderMap::new();
+    /// headers.insert("priority", http::HeaderValue::from_static("u=1"));
+    /// let mut head = sf::Head::new(sf::Parser::new());
+    /// for (name, value) in &headers {
+    ///     head.add_field(name, value).unwrap();
+    /// }
+    /// assert_eq!(head.priority().unwrap().urgency(), 1);
+    /// # }
+    /// ```
     pub fn add_field<N, V>(&mut self, name: &'a N, value: &'a V) -> Result<(), Error>
     where
         N: AsRef<[u8]> + ?Sized,
