@@ -67,9 +67,9 @@ impl fmt::Display for Malformed<'_> {
 }
 
 impl Refusal {
-    /// The line of a head that this refusal is in, of the text of a field, which is its lines, as
-    /// [`field_text`] joins them. The place in it is one in the value of the line, from 0. Without
-    /// such a line both are 0.
+    /// The line of a head that this refusal is in, and the place in the value of that line, from 0.
+    /// What was refused is the text of the field, its lines joined as by
+    /// [`field_text`](crate::field_text()). If the head does not have the field, both are 0.
     ///
     /// ```
     /// let head = [("Server", "x"), ("Cache-Status", "a; hit"), ("cache-status", "7, b")];
