@@ -1270,9 +1270,11 @@ static inline sf_location sf_locate_in_head(const sf_refusal *refusal, const sf_
 
 /* == The fields of a head. == */
 
+/* These calls look up a field of a head, and read or write it. A malformed field counts as absent
+ * (RFC 9651 section 4.2), and is added to the faults of the head, by each call that reads it. */
+
 /*
- * These calls look a field of a head up and read it. A malformed field counts as absent (RFC 9651
- * section 4.2), and is a fault of the head:
+ * Reads the Priority field of a request, as sf_read_priority does:
  *
  *   sf_head_line head_lines[8];
  *   char bytes[64], message[SF_FAULT_SIZE(8, 40)];
@@ -1292,12 +1294,6 @@ static inline sf_location sf_locate_in_head(const sf_refusal *refusal, const sf_
  *       // line 3, place 12:
  *       // priority: i=,
  *       //             ^
- *
- * Each call adds its faults, also if another call found them before.
- */
-
-/*
- * Reads the Priority field of a request, as sf_read_priority does.
  *
  *   SF_OK     *client is written: with defaults for what is absent
  *   SF_SHORT  head->joined.required bytes are required
