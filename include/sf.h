@@ -1282,7 +1282,7 @@ static inline sf_location sf_locate_in_head(const sf_refusal *refusal, const sf_
  *   sf_buffer out = SF_BUFFER(message);
  *   sf_head head = sf_head_in(SF_HEAD_LINES(head_lines), SF_BUFFER(bytes));
  *   head.faults = SF_FAULTS(faults);
- *   sf_text rest = sf_cstr("GET / HTTP/1.1\r\nPriority: u=5\r\npriority: i=,\r\n\r\n");
+ *   sf_text rest = sf_cstr("GET / HTTP/1.1\r\nPriority: u=5\r\npriority: i=?2\r\n\r\n");
  *   sf_priority_flags client;
  *   if (sf_take_head(&head, &rest) != SF_OK ||
  *       sf_find_priority(&context, &head, &client) != SF_OK)
@@ -1290,10 +1290,10 @@ static inline sf_location sf_locate_in_head(const sf_refusal *refusal, const sf_
  *   for (size_t i = 0; i < head.faults.length; ++i)
  *     if (sf_show_fault(&faults[i], 40, &out) == SF_OK)
  *       printf("%.*s\n", SF_ARGS(out));
- *       // Priority: byte 0x2c ',' at place 12, expected a letter, a digit, or one of `"%(*-:?@`
- *       // line 3, place 12:
- *       // priority: i=,
- *       //             ^
+ *       // Priority: byte 0x32 '2' at place 13, expected `0` or `1`
+ *       // line 3, place 13:
+ *       // priority: i=?2
+ *       //              ^
  *
  *   SF_OK     *client is written: with defaults for what is absent
  *   SF_SHORT  head->joined.required bytes are required

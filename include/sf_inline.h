@@ -1490,38 +1490,47 @@ static inline sf_refusal sf_refusal_of_directives(sf_text value) {
   return refusal;
 }
 
-/* Adds a line of a head to what Cache-Control, Expires and Date say, and what is wrong with it to
- * the faults of the head. For the function below. */
-static inline void sf_add_line_of_head(sf_head *head, size_t index, sf_fallback_field field,
-                                       const char *name, sf_fallback *fallback,
-                                       size_t *refused_line) {
-  sf_refusal refusal;
-  sf_fallback before = *fallback;
-  uint32_t dates = field == SF_FALLBACK_EXPIRES ? before.expires.lines : before.date.lines, after;
-  sf_add_fallback_line(fallback, field, head->lines.at[index].value);
-  after = field == SF_FALLBACK_EXPIRES ? fallback->expires.lines : fallback->date.lines;
-  memset(&refusal, 0, sizeof refusal);
-  if (field == SF_FALLBACK_CACHE_CONTROL && fallback->is_refused && !before.is_refused) {
+/* Adds a line of Cache-Control, and notes it if it is the first that is refused. For the function
+ * below. */
+static inline void sf_add_directives(sf_head *head, size_t index, sf_fallback *fallback,
+                                     size_t *refused_line) {
+  uint32_t was_refused = fallback->is_refused;
+  sf_text value = head->lines.at[index].value;
+  sf_add_fallback_line(fallback, SF_FALLBACK_CACHE_CONTROL, value);
+  if (fallback->is_refused && !was_refused) {
+    sf_refusal refusal = sf_refusal_of_directives(value);
+    sf_note_value(head, "Cache-Control", SF_FAULT_REFUSED, index, &refusal);
     *refused_line = index;
-    refusal = sf_refusal_of_directives(head->lines.at[index].value);
-    sf_note_value(head, name, SF_FAULT_REFUSED, index, &refusal);
   }
-  if (field != SF_FALLBACK_CACHE_CONTROL && after > 1 && dates < 2)
-    sf_note_value(head, name, dates == 0 ? SF_FAULT_NOT_A_DATE : SF_FAULT_REPEATED, index,
-                  &refusal);
+}
+
+/* Adds a line of Expires or Date, after so many of it, and notes the first if it is no HTTP-date,
+ * and the second. For the function below. */
+static inline void sf_add_date(sf_head *head, size_t index, size_t before, sf_fallback *fallback,
+                               sf_fallback_field field) {
+  int is_expires = field == SF_FALLBACK_EXPIRES;
+  sf_refusal refusal;
+  memset(&refusal, 0, sizeof refusal);
+  sf_add_fallback_line(fallback, field, head->lines.at[index].value);
+  if (before == 1 || (before == 0 && (is_expires ? fallback->expires : fallback->date).lines > 1))
+    sf_note_value(head, is_expires ? "Expires" : "Date",
+                  before == 0 ? SF_FAULT_NOT_A_DATE : SF_FAULT_REPEATED, index, &refusal);
 }
 
 /* Returns what Cache-Control, Expires and Date of a head say, and which line is the first that is
  * refused. For the function below. */
 static inline sf_fallback sf_fallback_of(sf_head *head, size_t *refused_line) {
-  static const char *const names[] = {"Cache-Control", "Expires", "Date"};
   sf_fallback fallback = sf_fallback_begin();
-  size_t i, k;
-  for (i = 0; i < head->lines.length; ++i)
-    for (k = 0; k < 3; ++k)
-      if (sf_is_named(&head->lines.at[i], names[k]))
-        sf_add_line_of_head(head, i, (sf_fallback_field)(SF_FALLBACK_CACHE_CONTROL + k), names[k],
-                            &fallback, refused_line);
+  size_t i, expires = 0, dates = 0;
+  for (i = 0; i < head->lines.length; ++i) {
+    const sf_head_line *line = &head->lines.at[i];
+    if (sf_is_named(line, "Cache-Control"))
+      sf_add_directives(head, i, &fallback, refused_line);
+    else if (sf_is_named(line, "Expires"))
+      sf_add_date(head, i, expires++, &fallback, SF_FALLBACK_EXPIRES);
+    else if (sf_is_named(line, "Date"))
+      sf_add_date(head, i, dates++, &fallback, SF_FALLBACK_DATE);
+  }
   return fallback;
 }
 

@@ -17,15 +17,15 @@ use core::fmt;
 /// ```
 /// use sf::{Dialect, Head, Parser, Priority};
 /// # fn main() -> Result<(), sf::Error> {
-/// let received = b"GET / HTTP/1.1\r\nPriority: u=5\r\npriority: i=,\r\n\r\n";
+/// let received = b"GET / HTTP/1.1\r\nPriority: u=5\r\npriority: i=?2\r\n\r\n";
 /// let mut head = Head::parse(Parser::new().with_dialect(Dialect::Rfc8941), received)?;
 /// assert_eq!(head.priority()?, Priority::default());
 /// assert_eq!(
 ///     head.malformed()[0].excerpt(40).to_string(),
-///     "Priority: byte 0x2c ',' at place 12, expected a letter, a digit, or one of `\"%(*-:?@`\n\
-///      line 3, place 12:\n\
-///      priority: i=,\n\
-///      \x20           ^"
+///     "Priority: byte 0x32 '2' at place 13, expected `0` or `1`\n\
+///      line 3, place 13:\n\
+///      priority: i=?2\n\
+///      \x20            ^"
 /// );
 /// # Ok(())
 /// # }
@@ -110,7 +110,7 @@ impl<'a> HeadFault<'a> {
     /// head.decide(&Exchange::at(Cache::Shared, 784_111_777), &[]).unwrap();
     /// assert_eq!(
     ///     head.malformed()[0].excerpt(8).to_string(),
-    ///     "Age: not a number of seconds\nline 1, place 5:\ne: 1 day\n    ^"
+    ///     "Age: not a number of seconds\nline 1, place 5:\nge: 1 da\n    ^"
     /// );
     /// ```
     #[must_use]
@@ -396,7 +396,7 @@ impl<'a> Head<'a> {
     /// use sf::{Dictionary, Head, Parser};
     /// let mut head = Head::parse(Parser::new(), "Example: a=1\r\nexample: b\r\n\r\n").unwrap();
     /// let field: Dictionary = head.field("Example")?.unwrap();
-    /// assert_eq!(field["a"].as_integer(), Some(1));
+    /// assert_eq!(field["a"].as_item().unwrap().bare_item.as_integer(), Some(1));
     /// assert_eq!(head.field::<Dictionary>("Other")?, None);
     /// # Ok::<(), sf::Error>(())
     /// ```
@@ -504,9 +504,10 @@ fn without_end(line: &[u8]) -> &[u8] {
 
 /// Whether a line is a status line or a request line (RFC 9112 sections 3 and 4).
 fn is_start_line(line: &[u8]) -> bool {
-    let is_of_response = is_version(line) && matches!(line.get(8), None | Some(b' '));
-    let end = line.len().checked_sub(9).map(|at| &line[at..]);
-    is_of_response || end.map_or(false, |end| end[0] == b' ' && is_version(&end[1..]))
+    if is_version(line) {
+        return matches!(line.get(8), None | Some(b' '));
+    }
+    line.len() > 9 && line[line.len() - 9] == b' ' && is_version(&line[line.len() - 8..])
 }
 
 /// Whether a text begins with an HTTP version (RFC 9112 section 2.3).

@@ -177,7 +177,7 @@ fn faults_of_decisions() {
         (
             "Expires: Sun, 06 Nov 1994 08:49:37 GMT\nExpires: Sun, 06 Nov 1994 08:49:37 GMT\n\
              expires: x\n",
-            &["Expires: there are several lines\nline 2, place 9:\nExpires: Sun, 06 Nov 1994\n         ^"],
+            &["Expires: there are several lines\nline 2, place 9:\nExpires: Sun, 06 Nov 1994 \n         ^"],
         ),
         (
             "Date: x\nDate: Sun, 06 Nov 1994 08:49:37 GMT\nDate: x\n",
