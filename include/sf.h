@@ -560,6 +560,15 @@ static inline sf_text sf_node_key(const sf_tree *tree, const sf_node *node);
  * and decoded; the empty text for other types. */
 static inline sf_text sf_node_text(const sf_tree *tree, const sf_node *node);
 
+/*
+ * Returns the Item of an Inner List after this one, or the first if it is NULL; after the last,
+ * NULL.
+ * This loop visits each Item of an Inner List:
+ *
+ *   for (const sf_node *item = NULL; (item = sf_next_item(list, item)) != NULL;)
+ */
+static inline const sf_node *sf_next_item(const sf_node *list, const sf_node *item);
+
 /* Returns the member of a Dictionary that has this key (RFC 9651 section 3.2), or NULL. The key
  * ends with a NUL; sf_find takes one of a stated length. */
 static inline sf_node *sf_find_member(const sf_tree *tree, const char *key);
@@ -636,6 +645,13 @@ static inline sf_status sf_write_tree(sf_context *context, const sf_tree *tree, 
  */
 SF_USE_RESULT
 static inline sf_status sf_write_bare(sf_context *context, const sf_tree *tree, const sf_node *node,
+                                     sf_buffer *out);
+
+/* Writes an Item or an Inner List of a tree with its parameters, without the key of a member:
+ * ("a" "b");q=1. The results are those of sf_write_bare, but a parameter is SF_INVALID. While the
+ * call runs, the first node of the part is changed; after it the tree is as before. */
+SF_USE_RESULT
+static inline sf_status sf_write_part(sf_context *context, sf_tree *tree, const sf_node *node,
                                      sf_buffer *out);
 
 /* == Values that are built. == */
@@ -1109,6 +1125,9 @@ typedef struct sf_head_line {
   uint64_t number;  /* of the line, as messages have it: see sf_locate_in_head */
 } sf_head_line;
 
+/* The number of field lines that is large enough for a head of so many bytes. */
+#define SF_HEAD_LINES_SIZE(length) ((sizeof(char) * (length) + 1) / 3)
+
 /* A buffer for the field lines of a head. */
 typedef struct sf_head_lines {
   sf_head_line *at;
@@ -1129,15 +1148,17 @@ typedef enum sf_reason {
   SF_FAULT_REPEATED = 93,   /* there is a second line of Expires or Date */
   SF_FAULT_NOT_AN_AGE = 94, /* the first member of Age is not one or more digits (RFC 9111 section
                                5.1) */
-  SF_FAULT_NOT_A_LINE = 95  /* the line is no field line: see sf_add_head_line */
+  SF_FAULT_NOT_A_LINE = 95  /* the line is no field line: location.refusal says where and why; see
+                               sf_add_head_line */
 } sf_reason;
 
 /* A line or a field of a head that is malformed. */
 typedef struct sf_fault {
   const char *field;    /* the name by which the field was looked up; "" for SF_FAULT_NOT_A_LINE */
   uint32_t reason;      /* an sf_reason */
-  sf_location location; /* the line as it was received, and the place in it; if the reason is not
-                           SF_FAULT_REFUSED, that is where the value begins, or 0 */
+  sf_location location; /* the line as it was received, and the place in it. With the reasons
+                           between the first and the last, it is where the value begins, and the
+                           refusal says no more */
 } sf_fault;
 
 /* A buffer for faults. */
@@ -1158,15 +1179,19 @@ typedef struct sf_head {
   sf_buffer joined;       /* the fields of several lines that were looked up, joined */
   uint64_t number;        /* of the line that is added next; 1 at first: set it if the caller's file
                              or stream has another */
-  uint32_t is_incomplete; /* 1 if a line was refused: it may have had a directive, so
+  uint32_t status;        /* the status code, if the start line is a status line; otherwise 0 */
+  uint32_t is_request;    /* 1 if the start line is a request line, otherwise 0 */
+  uint32_t is_begun;      /* 1 after a line that is not empty, otherwise 0 */
+  uint32_t is_incomplete; /* 1 if a line was refused, otherwise 0. It may have had a directive, so
                              sf_decide_response does not permit to store the response */
+  uint32_t is_truncated;  /* 1 if sf_take_head returned SF_EMPTY last, otherwise 0; likewise */
   sf_faults faults;       /* what was found to be malformed, if the caller sets a buffer for it:
                              head.faults = SF_FAULTS(array); */
 } sf_head;
 
 /* Returns a head without lines, with these buffers, which must be valid as long as it is used. A
- * second buffer of as many bytes as the head has is always large enough if each field is looked up
- * once. */
+ * second buffer of as many bytes as the head has is always large enough if sf_find_field and
+ * sf_find_tree look up each field once: only they keep what they join. */
 static inline sf_head sf_head_in(sf_head_lines lines, sf_buffer joined);
 
 /*
@@ -1184,15 +1209,15 @@ static inline sf_text sf_take_line(sf_text *rest);
  * Adds a field line as it was received (RFC 9112 section 5), with or without its CR and LF. It is
  * not copied: it must be valid as long as the head is used.
  *
- *   SF_OK       the line is added; or it is the start line of the message (section 2.1), the first
- *               that was passed, which begins with HTTP/ or ends with an HTTP version: it is not
- *               added
+ *   SF_OK       the line is added; or it is the first one, and a status line or a request line
+ *               (sections 3 and 4), which sets head->status or head->is_request
  *   SF_EMPTY    it is empty: the head ends
  *   SF_REFUSED  it is no field line: it has no colon, or before it no name (RFC 9110 section 5.1);
- *               it has a CR, LF or NUL within (section 5.5); or it begins with white space, as one
- *               does that continues the line before (RFC 9112 section 5.2). A cache that skips such
- *               a line may miss a directive: head->is_incomplete is 1, and head->faults has the
- *               line. No sf_refusal is written
+ *               it has a CR, LF or NUL within (section 5.5); it begins with white space, as one
+ *               does that continues the line before (RFC 9112 section 5.2); or, in a request, there
+ *               is white space before the colon (section 5.1), which is skipped in a response. A
+ *               cache that skips such a line may miss a directive: head->is_incomplete is 1, and
+ *               head->faults has the line, and where and why. No context->refusal is written
  *   SF_SHORT    head->lines.required lines are required
  *
  * Unless SF_SHORT is returned, the line counts: head->number is one greater.
@@ -1202,10 +1227,11 @@ static inline sf_status sf_add_head_line(sf_head *head, sf_text line);
 
 /*
  * Adds the lines of a head by sf_add_head_line, up to the empty line that ends it, and takes them
- * off the text. A line that is no field line is in head->faults.
+ * off the text. A line that is no field line is in head->faults. Empty lines before the first other
+ * one are skipped (RFC 9112 section 2.2).
  *
  *   SF_OK     the head has ended: *rest is what comes after it
- *   SF_EMPTY  the text ended before the head did
+ *   SF_EMPTY  the text ended before the head did. Lines may be missing: head->is_truncated is 1
  *   SF_SHORT  head->lines.required lines are required; *rest begins with the line that is too many
  */
 SF_USE_RESULT
@@ -1270,8 +1296,8 @@ static inline sf_location sf_locate_in_head(const sf_refusal *refusal, const sf_
 
 /* == The fields of a head. == */
 
-/* These calls look up a field of a head, and read or write it. A malformed field counts as absent
- * (RFC 9651 section 4.2), and is added to the faults of the head, by each call that reads it. */
+/* These calls look up a structured field of a head, and read or write it. A malformed field counts
+ * as absent (RFC 9651 section 4.2), and is added to the faults of the head, once. */
 
 /*
  * Reads the Priority field of a request, as sf_read_priority does:
@@ -1345,7 +1371,7 @@ static inline sf_status sf_find_tree(sf_context *context, sf_kind kind, sf_head 
 /*
  * Writes the Cache-Status field to be sent in the place of the lines of a head, as
  * sf_append_or_write_hop does: with this hop as its last member, or this hop alone if what was
- * received is malformed.
+ * received is no well-formed List. A member that names no cache stays where it is.
  *
  *   SF_OK       the first out->length bytes of out are the text
  *   SF_SHORT    head->joined.required bytes are required for the lines, or, if that is 0,
@@ -1379,13 +1405,14 @@ static inline sf_status sf_check_field(sf_context *context, sf_kind kind, sf_hea
 static inline void sf_note_refusal(sf_head *head, const char *name, const sf_refusal *refusal);
 
 /* The size in bytes of a buffer that is large enough for each message of sf_show_fault of a field
- * whose name has this length, with this number of bytes of the line at most. */
+ * whose name has this length, such as that of the longest name, with this number of bytes of the
+ * line at most. */
 #define SF_FAULT_SIZE(name_length, most)                                                           \
   (SF_REFUSAL_EXCERPT_SIZE(most) + sizeof(char) * (name_length))
 
 /*
  * Writes the error message of a fault: the name of the field, what is wrong, the number of the line
- * and the place in it, and at most so many bytes of the line around the place, as
+ * and the place in it, from 0, and at most so many bytes of the line around the place, as
  * sf_show_excerpt_of_line does. A buffer of SF_FAULT_SIZE(strlen(fault->field), most) bytes is
  * always large enough. The results are those of sf_write_refusal.
  */
@@ -1464,10 +1491,12 @@ static inline sf_target sf_target_of(const char *name);
 /* What a cache knows of a response beside its head. Times are in seconds since 1970. */
 typedef struct sf_exchange {
   uint32_t cache;         /* an sf_cache */
-  uint32_t status;        /* the status code; 0 if it is not known, and then it is taken for a final
-                             one that is not heuristically cacheable */
+  uint32_t status;        /* the status code; 0 for that of the start line of the head. If that is
+                             not known either, it is taken for a final one that is not
+                             heuristically cacheable */
   uint32_t is_understood; /* 1 if the cache understands the status code and implements its
-                             requirements, otherwise 0: counts for 206, 304 and must-understand */
+                             requirements, otherwise 0: counts for 206, 304 and must-understand. For
+                             most caches it is 1 for 200 and the codes that they treat alike */
   uint32_t is_authorized; /* 1 if the request had Authorization, otherwise 0 */
   uint64_t requested;     /* when the request was sent */
   uint64_t received;      /* when the response was received */
@@ -1487,11 +1516,12 @@ typedef enum sf_obstacle {
                                permits it (3.5) */
   SF_BARRED_UNPERMITTED = 85, /* nothing permits it: no directive, no Expires, and the status code
                                  is not heuristically cacheable (RFC 9110 section 15.1) */
-  SF_BARRED_LINE = 86         /* a line of the head is no field line (sf_head.is_incomplete) */
+  SF_BARRED_HEAD = 86         /* a line of the head is no field line (sf_head.is_incomplete), or the
+                                 head did not end (is_truncated) */
 } sf_obstacle;
 
-/* Returns an obstacle in words, such as "the status code"; "" for SF_NO_OBSTACLE and for a number
- * that is no sf_obstacle. */
+/* Returns an obstacle in words, such as "the status code forbids it"; "" for SF_NO_OBSTACLE and for
+ * a number that is no sf_obstacle. */
 static inline const char *sf_obstacle_name(uint32_t obstacle);
 
 /* What a cache does with a response, by the whole of its head. */
@@ -1552,7 +1582,8 @@ typedef struct sf_verdict {
  *   SF_BAD_CALL   there is no such dialect or cache
  *   SF_NO_MEMORY
  *
- * Unless SF_OK is returned, *verdict is unchanged. What is malformed is in head->faults, too. The
+ * Unless SF_OK is returned, *verdict is unchanged. What is malformed is in head->faults, too: of
+ * Cache-Control the first such line, of Expires and Date the first line and the second. The
  * heuristics of section 4.2.2 are the caller's, and so are the method, directives of the request
  * and Vary (sections 3, 4 and 4.1). The fields that it joins are not kept in head->joined. Does not
  * allocate.
@@ -1561,6 +1592,27 @@ SF_USE_RESULT
 static inline sf_status sf_decide_response(sf_context *context, sf_head *head, sf_target *targets,
                                           size_t targets_length, const sf_exchange *exchange,
                                           sf_verdict *verdict);
+
+/* The size in bytes of a buffer that is large enough for each text of sf_write_verdict if the name
+ * of the field has this length. */
+#define SF_VERDICT_SIZE(name_length) (sizeof(char) * (name_length) + 128)
+
+/*
+ * Writes a verdict in words: the field, sf_reuse_name and the seconds, sf_cause_name, and the
+ * obstacle if that is no directive, such as
+ *
+ *   CDN-Cache-Control: fresh for 600 s (max-age); not stored: the head is incomplete
+ *
+ *   SF_OK     the first out->length bytes of out are the text
+ *   SF_SHORT  it has out->required bytes, more than the capacity
+ */
+SF_USE_RESULT
+static inline sf_status sf_write_verdict(const sf_verdict *verdict, sf_buffer *out);
+
+/* Returns the hop of a cache with this name that forwarded the request for this reason, with
+ * `stored` and `ttl` by the verdict: see sf_hop_named, and for SF_OTHER set why_token. */
+static inline sf_own_hop sf_hop_of_verdict(const char *name, sf_type type, sf_forward why,
+                                           const sf_verdict *verdict);
 
 /* == The parts of that decision. == */
 

@@ -501,6 +501,13 @@ static inline sf_node *sf_find_node(const sf_tree *tree, size_t from, size_t len
   return tree->nodes.at + from + index;
 }
 
+static inline const sf_node *sf_next_item(const sf_node *list, const sf_node *item) {
+  const sf_node *next = item == NULL ? list + 1 : item + item->size;
+  return list->type == SF_INNER_LIST && next < list + list->size && next->role == SF_INNER_ITEM
+             ? next
+             : NULL;
+}
+
 static inline sf_node *sf_find_member(const sf_tree *tree, const char *key) {
   return sf_find_node(tree, 0, tree->nodes.length, SF_MEMBER, sf_cstr(key));
 }
@@ -553,6 +560,24 @@ static inline sf_status sf_write_bare(sf_context *context, const sf_tree *tree, 
     status = sf_write(&context->seed, context->dialect, SF_ITEM, &item, 1, tree->text.at,
                       tree->text.length, tree->bytes.at, tree->bytes.length, out->at,
                       out->capacity, &required, &invalid);
+  return sf_wrote(out, status, required);
+}
+
+static inline sf_status sf_write_part(sf_context *context, sf_tree *tree, const sf_node *node,
+                                     sf_buffer *out) {
+  sf_node *first = tree->nodes.at + (node - tree->nodes.at), before = *first;
+  size_t required = 0, invalid = 0;
+  uint32_t status = SF_BAD_CALL;
+  if (tree->kind != 0 && (before.role == SF_PARAMETER || before.role == SF_INNER_PARAMETER))
+    return sf_wrote(out, SF_INVALID, 0);
+  first->key_at = 0;
+  first->key_length = 0;
+  first->role = SF_MEMBER;
+  if (tree->kind != 0)
+    status = sf_write(&context->seed, context->dialect, SF_LIST, first, before.size, tree->text.at,
+                      tree->text.length, tree->bytes.at, tree->bytes.length, out->at,
+                      out->capacity, &required, &invalid);
+  *first = before;
   return sf_wrote(out, status, required);
 }
 
@@ -1004,7 +1029,11 @@ static inline sf_head sf_head_in(sf_head_lines lines, sf_buffer joined) {
   head.joined = joined;
   head.joined.length = 0;
   head.number = 1;
+  head.status = 0;
+  head.is_request = 0;
+  head.is_begun = 0;
   head.is_incomplete = 0;
+  head.is_truncated = 0;
   head.faults = sf_faults_of(NULL, 0);
   return head;
 }
@@ -1024,6 +1053,7 @@ static inline sf_status sf_add_received(sf_head *head, sf_text name, sf_text val
   line->value = sf_trim(value.at, value.length);
   line->received = received;
   line->number = head->number++;
+  head->is_begun = 1;
   return SF_OK;
 }
 
@@ -1047,44 +1077,104 @@ static inline int sf_is_tchar(char c) {
          (c != 0 && strchr("!#$%&'*+-.^_`|~", c) != NULL);
 }
 
-static inline int sf_is_field_name(sf_text name) {
-  size_t i;
-  for (i = 0; i < name.length; ++i)
-    if (!sf_is_tchar(name.at[i]))
+/* Adds a byte to those that a refusal expects: for the functions below. */
+static inline void sf_expect(sf_refusal *refusal, unsigned byte) {
+  uint64_t *half = byte < 64 ? &refusal->expected_low : &refusal->expected_high;
+  *half |= UINT64_C(1) << byte % 64;
+}
+
+/* Splits a line at its colon, or says where it is no field line (RFC 9112 section 5): the place,
+ * and the bytes that may be there by the grammar. White space before the colon is skipped, but not
+ * in a request (section 5.1); in a value only CR, LF and NUL are refused (RFC 9110 section 5.5). For
+ * the functions below. */
+static inline int sf_split_line(sf_text line, int is_request, sf_text *name, sf_text *value,
+                                sf_refusal *refusal) {
+  size_t at = 0;
+  unsigned byte;
+  memset(refusal, 0, sizeof *refusal);
+  while (at < line.length && sf_is_tchar(line.at[at]))
+    ++at;
+  *name = sf_text_of(line.at, at);
+  while (!is_request && at > 0 && at < line.length && (line.at[at] == ' ' || line.at[at] == '\t'))
+    ++at;
+  if (at > 0 && at < line.length && line.at[at] == ':') {
+    *value = sf_text_of(line.at + at + 1, line.length - at - 1);
+    do
+      ++at;
+    while (at < line.length && line.at[at] != 0 && line.at[at] != '\r' && line.at[at] != '\n');
+    if (at == line.length)
+      return 1;
+    for (byte = ' '; byte <= '~'; ++byte)
+      sf_expect(refusal, byte);
+    sf_expect(refusal, '\t');
+    refusal->may_end = 1;
+  } else {
+    if (at > 0)
+      sf_expect(refusal, ':');
+    if (at > 0 && !is_request) {
+      sf_expect(refusal, ' ');
+      sf_expect(refusal, '\t');
+    }
+    for (byte = 0; byte < 128; ++byte)
+      if (at == name->length && sf_is_tchar((char)byte))
+        sf_expect(refusal, byte);
+  }
+  refusal->offset = at;
+  refusal->found = at < line.length ? (int32_t)(unsigned char)line.at[at] : (int32_t)SF_ENDED;
+  return 0;
+}
+
+/* Returns the length of the HTTP version that a text begins with, such as HTTP/1.1 or HTTP/2; 0 if
+ * there is none (RFC 9110 section 2.5): for the functions below. */
+static inline size_t sf_version_length(sf_text text) {
+  if (text.length < 6 || memcmp(text.at, "HTTP/", 5) != 0 || text.at[5] < '0' || text.at[5] > '9')
+    return 0;
+  return text.length > 7 && text.at[6] == '.' && text.at[7] >= '0' && text.at[7] <= '9' ? 8 : 6;
+}
+
+/* Returns the status code of a status line (RFC 9112 section 4); 0 if the line is none: for the
+ * functions below. */
+static inline uint32_t sf_code_of(sf_text line) {
+  size_t at = sf_version_length(line), i;
+  uint32_t code = 0;
+  if (at == 0 || line.length < at + 4 || line.at[at] != ' ' ||
+      (line.length > at + 4 && line.at[at + 4] != ' '))
+    return 0;
+  for (i = at + 1; i < at + 4; ++i) {
+    if (line.at[i] < '0' || line.at[i] > '9')
       return 0;
-  return name.length > 0;
+    code = code * 10 + (uint32_t)(line.at[i] - '0');
+  }
+  return code < 100 ? 0 : code;
 }
 
-static inline int sf_is_field_value(sf_text value) {
-  size_t i;
-  for (i = 0; i < value.length; ++i)
-    if (value.at[i] == 0 || value.at[i] == '\r' || value.at[i] == '\n')
-      return 0;
-  return 1;
+/* Returns whether a line is a request line (RFC 9112 section 3): for the functions below. */
+static inline int sf_is_request_line(sf_text line) {
+  size_t method = 0, version = line.length;
+  while (method < line.length && sf_is_tchar(line.at[method]))
+    ++method;
+  while (version > 0 && line.at[version - 1] != ' ')
+    --version;
+  return method > 0 && version > method + 2 && line.at[method] == ' ' && version < line.length &&
+         sf_version_length(sf_text_of(line.at + version, line.length - version)) ==
+             line.length - version;
 }
 
-/* Returns whether a text begins with an HTTP version (RFC 9112 section 2.3): for the functions
- * below. */
-static inline int sf_is_version(sf_text text) {
-  return text.length >= 8 && memcmp(text.at, "HTTP/", 5) == 0 && text.at[5] >= '0' &&
-         text.at[5] <= '9' && text.at[6] == '.' && text.at[7] >= '0' && text.at[7] <= '9';
-}
-
-/* Returns whether a line is a status line or a request line (RFC 9112 sections 3 and 4): likewise.
- */
-static inline int sf_is_start_line(sf_text line) {
-  if (sf_is_version(line))
-    return line.length == 8 || line.at[8] == ' ';
-  return line.length > 9 && line.at[line.length - 9] == ' ' &&
-         sf_is_version(sf_text_of(line.at + line.length - 8, 8));
-}
-
-/* Adds a fault to those of a head: for the functions below. */
+/* Adds a fault to those of a head, unless it is one of them: for the functions below. */
 static inline void sf_note_fault(sf_head *head, const char *field, sf_reason reason,
                                  const sf_location *location) {
+  size_t i;
+  sf_fault *fault;
+  for (i = 0; i < head->faults.length; ++i) {
+    fault = head->faults.at + i;
+    if (strcmp(fault->field, field) == 0 && fault->reason == (uint32_t)reason &&
+        fault->location.number == location->number &&
+        fault->location.refusal.offset == location->refusal.offset)
+      return;
+  }
   ++head->faults.required;
   if (head->faults.length < head->faults.capacity) {
-    sf_fault *fault = head->faults.at + head->faults.length++;
+    fault = head->faults.at + head->faults.length++;
     fault->field = field;
     fault->reason = (uint32_t)reason;
     fault->location = *location;
@@ -1092,26 +1182,26 @@ static inline void sf_note_fault(sf_head *head, const char *field, sf_reason rea
 }
 
 static inline sf_status sf_add_head_line(sf_head *head, sf_text line) {
-  size_t colon = 0;
+  int is_first = !head->is_begun;
   sf_text name, value;
   sf_location location;
   line.length -= line.length > 0 && line.at[line.length - 1] == '\n';
   line.length -= line.length > 0 && line.at[line.length - 1] == '\r';
-  while (colon < line.length && line.at[colon] != ':')
-    ++colon;
-  name = sf_text_of(line.at, colon);
-  value = colon == line.length ? name : sf_text_of(line.at + colon + 1, line.length - colon - 1);
-  if (colon < line.length && line.at[0] != ' ' && line.at[0] != '\t' &&
-      sf_is_field_name(sf_trim(name.at, name.length)) && sf_is_field_value(value))
+  if (line.length > 0 &&
+      sf_split_line(line, head->is_request != 0, &name, &value, &location.refusal))
     return sf_add_received(head, name, value, line);
-  memset(&location, 0, sizeof location);
   location.index = head->lines.length;
   location.number = head->number++;
   location.line = line;
   if (line.length == 0)
     return SF_EMPTY;
-  if (head->lines.length == 0 && !head->is_incomplete && sf_is_start_line(line))
-    return SF_OK;
+  head->is_begun = 1;
+  if (is_first) {
+    head->status = sf_code_of(line);
+    head->is_request = (uint32_t)sf_is_request_line(line);
+    if (head->status != 0 || head->is_request)
+      return SF_OK;
+  }
   head->is_incomplete = 1;
   sf_note_fault(head, "", SF_FAULT_NOT_A_LINE, &location);
   return SF_REFUSED;
@@ -1120,14 +1210,18 @@ static inline sf_status sf_add_head_line(sf_head *head, sf_text line) {
 static inline sf_status sf_take_head(sf_head *head, sf_text *rest) {
   while (rest->length > 0) {
     sf_text before = *rest;
+    int is_begun = head->is_begun != 0;
     sf_status status = sf_add_head_line(head, sf_take_line(rest));
-    if (status == SF_EMPTY)
+    if (status == SF_EMPTY && is_begun) {
+      head->is_truncated = 0;
       return SF_OK;
+    }
     if (status == SF_SHORT) {
       *rest = before;
       return status;
     }
   }
+  head->is_truncated = 1;
   return SF_EMPTY;
 }
 
@@ -1225,12 +1319,14 @@ static inline void sf_note_value(sf_head *head, const char *name, sf_reason reas
 }
 
 static inline sf_status sf_show_fault(const sf_fault *fault, size_t most, sf_buffer *out) {
-  const char *words = fault->reason == SF_FAULT_NOT_A_DATE   ? "not an HTTP-date"
-                      : fault->reason == SF_FAULT_REPEATED   ? "there are several lines"
-                      : fault->reason == SF_FAULT_NOT_AN_AGE ? "not a number of seconds"
-                      : fault->reason == SF_FAULT_NOT_A_LINE ? "not a field line"
-                                                             : NULL;
-  return sf_show_place(sf_cstr(fault->field), words, &fault->location, most, out);
+  int is_line = fault->reason == SF_FAULT_NOT_A_LINE;
+  const char *words =
+      fault->reason == SF_FAULT_NOT_A_DATE ? "not an HTTP-date, as Sun, 06 Nov 1994 08:49:37 GMT"
+      : fault->reason == SF_FAULT_REPEATED ? "there are several lines"
+      : fault->reason == SF_FAULT_NOT_AN_AGE ? "not a number of seconds"
+                                             : NULL;
+  return sf_show_place(sf_cstr(is_line ? "not a field line" : fault->field), words,
+                       &fault->location, most, out);
 }
 
 /* Returns the status of a call that looked up a field and read it with this status. One that is
@@ -1343,15 +1439,15 @@ static inline sf_exchange sf_exchange_of(sf_cache cache, uint64_t now) {
 static inline const char *sf_obstacle_name(uint32_t obstacle) {
   switch (obstacle) {
   case SF_BARRED_DIRECTIVE:
-    return "a directive";
+    return "a directive forbids it";
   case SF_BARRED_STATUS:
-    return "the status code";
+    return "the status code forbids it";
   case SF_BARRED_REQUEST:
-    return "Authorization";
+    return "the request had Authorization";
   case SF_BARRED_UNPERMITTED:
     return "nothing permits it";
-  case SF_BARRED_LINE:
-    return "a line of the head";
+  case SF_BARRED_HEAD:
+    return "the head is incomplete";
   default:
     return "";
   }
@@ -1359,20 +1455,21 @@ static inline const char *sf_obstacle_name(uint32_t obstacle) {
 
 /* Returns why a response may not be stored: for the function below. */
 static inline uint32_t sf_obstacle_of(const sf_decision *decision, const sf_exchange *exchange,
-                                      int is_incomplete, int has_expires) {
+                                      const sf_head *head, int has_expires) {
+  uint32_t status = exchange->status != 0 ? exchange->status : head->status;
   if (decision->reuse == SF_REUSE_NOT_STORED)
     return SF_BARRED_DIRECTIVE;
-  if (is_incomplete)
-    return SF_BARRED_LINE;
-  if (exchange->status != 0 && exchange->status < 200)
+  if (head->is_incomplete || head->is_truncated)
+    return SF_BARRED_HEAD;
+  if (status != 0 && status < 200)
     return SF_BARRED_STATUS;
-  if ((exchange->status == 206 || exchange->status == 304) && !exchange->is_understood)
+  if ((status == 206 || status == 304) && !exchange->is_understood)
     return SF_BARRED_STATUS;
   if (exchange->cache == SF_SHARED_CACHE && exchange->is_authorized && !decision->allows_authorized)
     return SF_BARRED_REQUEST;
   if (decision->allows_storing || has_expires)
     return SF_NO_OBSTACLE;
-  switch (exchange->status) {
+  switch (status) {
   case 200:
   case 203:
   case 204:
@@ -1479,10 +1576,8 @@ static inline sf_refusal sf_refusal_of_directives(sf_text value) {
     place = next;
   }
   for (byte = 0; byte < 128; ++byte)
-    if (sf_place_after(place, byte) != SF_PLACE_NONE) {
-      uint64_t *half = byte < 64 ? &refusal.expected_low : &refusal.expected_high;
-      *half |= UINT64_C(1) << byte % 64;
-    }
+    if (sf_place_after(place, byte) != SF_PLACE_NONE)
+      sf_expect(&refusal, byte);
   refusal.offset = at;
   refusal.found = at < value.length ? (int32_t)(unsigned char)value.at[at] : (int32_t)SF_ENDED;
   refusal.may_end = at < value.length && place != SF_PLACE_EQUALS && place != SF_PLACE_QUOTED &&
@@ -1600,8 +1695,7 @@ static inline sf_status sf_decide_response(sf_context *context, sf_head *head, s
     head->faults = faults;
     return status;
   }
-  verdict->obstacle =
-      sf_obstacle_of(&decision, exchange, head->is_incomplete != 0, response.has_lifetime);
+  verdict->obstacle = sf_obstacle_of(&decision, exchange, head, response.has_lifetime);
   verdict->may_store = verdict->obstacle == SF_NO_OBSTACLE;
   verdict->decision = decision;
   verdict->age = response.age;
@@ -1616,6 +1710,50 @@ static inline sf_status sf_decide_response(sf_context *context, sf_head *head, s
   verdict->is_expires_malformed = fallback.expires.lines > 1;
   verdict->is_date_malformed = fallback.date.lines > 1;
   return SF_OK;
+}
+
+/* Appends a string to a text: for the function below. */
+static inline void sf_put_words(sf_buffer *out, const char *words) {
+  size_t length = strlen(words), free = out->capacity - out->length;
+  if (length > 0 && out->length <= out->capacity && length <= free)
+    memcpy(out->at + out->length, words, length);
+  out->length += length;
+}
+
+static inline sf_status sf_write_verdict(const sf_verdict *verdict, sf_buffer *out) {
+  char seconds[32], *end;
+  const char *cause = sf_cause_name(verdict->decision.cause);
+  out->length = 0;
+  sf_put_words(out, verdict->field);
+  sf_put_words(out, ": ");
+  sf_put_words(out, sf_reuse_name(verdict->decision.reuse));
+  if (verdict->decision.reuse == SF_REUSE_FRESH) {
+    end = sf_put_number(seconds, " for ", verdict->decision.seconds);
+    memcpy(end, " s", 3);
+    sf_put_words(out, seconds);
+  }
+  if (*cause != 0) {
+    sf_put_words(out, " (");
+    sf_put_words(out, cause);
+    sf_put_words(out, ")");
+  }
+  if (verdict->obstacle != SF_NO_OBSTACLE && verdict->obstacle != SF_BARRED_DIRECTIVE) {
+    sf_put_words(out, "; not stored: ");
+    sf_put_words(out, sf_obstacle_name(verdict->obstacle));
+  }
+  return sf_wrote(out, out->length > out->capacity ? SF_SHORT : SF_OK, out->length);
+}
+
+static inline sf_own_hop sf_hop_of_verdict(const char *name, sf_type type, sf_forward why,
+                                           const sf_verdict *verdict) {
+  sf_own_hop own = sf_hop_named(name, type);
+  own.hop.outcome = SF_FORWARDED;
+  own.hop.why = (uint16_t)why;
+  own.hop.has_stored = 1;
+  own.hop.stored = verdict->may_store != 0;
+  own.hop.has_ttl = verdict->has_ttl != 0;
+  own.hop.ttl = verdict->ttl;
+  return own;
 }
 
 #endif

@@ -1,8 +1,8 @@
 /* A caching proxy's decisions on a request that it forwards, and on the response, by their fields
  * on standard input: a line "> Name: value" is of the request, and "< Name: value" of the response.
  *   printf '> Priority: u=5, i\n< Priority: u=1\n< CDN-Cache-Control: max-age=600\n' | proxy
- * prints the priority, "by CDN-Cache-Control: fresh for 600 s (max-age)", and the line to send on in
- * the place of those of Cache-Status. With the word private it is a private cache; with understood
+ * prints the priority, "CDN-Cache-Control: fresh for 600 s (max-age)", and the line to send on in the
+ * place of those of Cache-Status. With the word private it is a private cache; with understood
  * it understands the status code. What is malformed is told on standard error, with the number of
  * its line. Left out: method, status code, Authorization, Vary (RFC 9111 sections 3 and 4). Status 3
  * if memory, the input or the output fails, or the input is too long. */
@@ -76,26 +76,15 @@ int main(int count, char **words) {
     exchange.cache = strcmp(words[i], "private") == 0 ? SF_PRIVATE_CACHE : exchange.cache;
     exchange.is_understood |= strcmp(words[i], "understood") == 0;
   }
-  sf_verdict verdict = {0};
+  sf_verdict verdict;
   must(sf_decide_response(&context, &answered, targets, 2, &exchange, &verdict));
-  if (verdict.obstacle == SF_BARRED_LINE) {
-    verdict.field = sf_obstacle_name(SF_BARRED_LINE);
-    verdict.decision.reuse = SF_REUSE_NOT_STORED, verdict.decision.cause = 0;
-  }
-  static const char *const uses[] = {"don't store it", "fresh for", "stale",
-                                     "validate it before each use", "no lifetime"};
-  printf("by %s: %s", verdict.field, uses[verdict.decision.reuse - SF_REUSE_NOT_STORED]);
-  if (verdict.decision.reuse == SF_REUSE_FRESH)
-    printf(" %llu s", (unsigned long long)verdict.decision.seconds);
-  const char *cause = sf_cause_name(verdict.decision.cause);
-  printf(*cause == 0 ? "\n" : " (%s)\n", cause);
+  char verdict_text[SF_VERDICT_SIZE(32)];
+  sf_buffer said = SF_BUFFER(verdict_text), out = SF_BUFFER(path);
+  must(sf_write_verdict(&verdict, &said));
+  printf("%.*s\n", SF_ARGS(said));
 
   /* This cache's hop is the last of Cache-Status, or alone if what came is malformed. */
-  sf_own_hop own = sf_hop_named("ExampleCDN", SF_TOKEN);
-  own.hop.outcome = SF_FORWARDED, own.hop.why = SF_URI_MISS;
-  own.hop.has_stored = 1, own.hop.stored = verdict.may_store != 0;
-  own.hop.has_ttl = verdict.has_ttl != 0, own.hop.ttl = verdict.ttl;
-  sf_buffer out = SF_BUFFER(path);
+  sf_own_hop own = sf_hop_of_verdict("ExampleCDN", SF_TOKEN, SF_URI_MISS, &verdict);
   must(sf_add_hop(&context, &answered, &own, &out));
   printf("Cache-Status: %.*s\n", SF_ARGS(out));
   tell(&asked.faults);

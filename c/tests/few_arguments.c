@@ -626,51 +626,235 @@ static void heads(void) {
 static void whole_heads(void) {
   static const struct {
     const char *line;
-    sf_status status;
+    uint32_t status, is_request; /* both are 0 if it is no start line */
   } first[] = {
-      {"HTTP/1.1 200 OK", SF_OK},          {"HTTP/1.1 404", SF_OK},
-      {"HTTP/1.0", SF_OK},                 {"GET / HTTP/1.1", SF_OK},
-      {"GET http://a:80/ HTTP/1.1", SF_OK}, {"OPTIONS * HTTP/1.1\r\n", SF_OK},
-      {"HTTP/1.1x 200 OK", SF_REFUSED},    {"HTTP/1 200 OK", SF_REFUSED},
-      {"HTTP/x.1 200 OK", SF_REFUSED},     {"HTTP/1.x", SF_REFUSED},
-      {"http/1.1 200 OK", SF_REFUSED},     {"GET /", SF_REFUSED},
-      {"GET /HTTP/1.1", SF_REFUSED},       {"GET / HTTP/1.1 ", SF_REFUSED},
-      {"ICY 200 OK", SF_REFUSED},          {" HTTP/1.1", SF_REFUSED},
+      {"HTTP/1.1 200 OK", 200, 0},
+      {"HTTP/1.1 404", 404, 0},
+      {"HTTP/1.0 100 \r\n", 100, 0},
+      {"HTTP/2 999 ", 999, 0},
+      {"GET / HTTP/1.1", 0, 1},
+      {"GET http://a:80/ HTTP/1.1", 0, 1},
+      {"OPTIONS * HTTP/1.1\r\n", 0, 1},
+      {"GET /a b HTTP/3", 0, 1},
+      {"HTTP/1.1", 0, 0},
+      {"HTTP/1.1 ", 0, 0},
+      {"HTTP/1.1 20", 0, 0},
+      {"HTTP/1.1 2000 OK", 0, 0},
+      {"HTTP/1.1 2x0 OK", 0, 0},
+      {"HTTP/1.1 099 OK", 0, 0},
+      {"HTTP/1.1  200 OK", 0, 0},
+      {"HTTP/1.1x 200 OK", 0, 0},
+      {"HTTP/1. 200 OK", 0, 0},
+      {"HTTP/x.1 200 OK", 0, 0},
+      {"http/1.1 200 OK", 0, 0},
+      {"GET /", 0, 0},
+      {"GET /HTTP/1.1", 0, 0},
+      {"GET / HTTP/1.1 ", 0, 0},
+      {"GET / HTTP/1.1x", 0, 0},
+      {"GET  HTTP/1.1", 0, 0},
+      {"GET HTTP/1.1", 0, 0},
+      {"G\"T / HTTP/1.1", 0, 0},
+      {" / HTTP/1.1", 0, 0},
+      {"  HTTP/1.1", 0, 0},
+      {"ICY 200 OK", 0, 0},
   };
   sf_head_line lines[3];
   sf_fault faults[2];
   for (size_t i = 0; i < sizeof first / sizeof *first; ++i) {
+    int is_start = first[i].status != 0 || first[i].is_request;
     sf_head head = sf_head_in(SF_HEAD_LINES(lines), sf_buffer_of(NULL, 0));
-    CHECK(sf_add_head_line(&head, sf_cstr(first[i].line)) == first[i].status);
-    CHECK(head.lines.length == 0 && head.is_incomplete == (first[i].status == SF_REFUSED));
-    CHECK(head.number == 2);
-    /* a later line is no start line */
-    head = sf_head_in(SF_HEAD_LINES(lines), sf_buffer_of(NULL, 0));
-    CHECK(sf_add_head_line(&head, sf_cstr("a: b")) == SF_OK);
-    CHECK(sf_add_head_line(&head, sf_cstr(first[i].line)) == SF_REFUSED);
-    head = sf_head_in(SF_HEAD_LINES(lines), sf_buffer_of(NULL, 0));
-    CHECK(sf_add_head_line(&head, sf_cstr("a")) == SF_REFUSED);
-    CHECK(sf_add_head_line(&head, sf_cstr(first[i].line)) == SF_REFUSED);
+    CHECK(sf_add_head_line(&head, sf_cstr(first[i].line)) == (is_start ? SF_OK : SF_REFUSED));
+    CHECK(head.status == first[i].status && head.is_request == first[i].is_request);
+    CHECK(head.lines.length == 0 && head.is_incomplete == !is_start && head.number == 2);
+    /* only the first line is a start line */
+    CHECK(sf_add_head_line(&head, sf_cstr(first[i].line)) == SF_REFUSED && head.is_incomplete == 1);
+    CHECK(head.status == first[i].status && head.is_request == first[i].is_request);
+    for (int k = 0; k < 3; ++k) {
+      static const char *const before[] = {"a: b", "a", "\r\n"};
+      head = sf_head_in(SF_HEAD_LINES(lines), sf_buffer_of(NULL, 0));
+      sf_status status = k == 2 ? SF_EMPTY : k == 1 ? SF_REFUSED : SF_OK;
+      CHECK(sf_add_head_line(&head, sf_cstr(before[k])) == status);
+      CHECK(sf_add_head_line(&head, sf_cstr(first[i].line)) ==
+            (k == 2 && is_start ? SF_OK : SF_REFUSED));
+    }
   }
 
-  sf_text rest = sf_cstr("HTTP/1.1 200 OK\r\nAge: 1\r\nVia\r\n\tx\r\nVia: a\r\n\r\nDate: x\r\n");
+  /* the places where lines are no field lines, and some of the bytes that are expected there */
+  static const struct {
+    const char *line;
+    size_t length, at;
+    int32_t found;
+    uint32_t may_end;
+    const char *expected, *barred;
+  } rows[] = {
+      {"Age", 3, 3, -1, 0, ":a! \t", "\"("},          {"Age 20", 6, 4, '2', 0, ": \t", "2a"},
+      {" x", 2, 0, ' ', 0, "a0~", ": \t"},             {": x", 3, 0, ':', 0, "a0~", ": \t"},
+      {"a\xe9: x", 5, 1, 0xe9, 0, ":a ", "("},          {"a: b\0" "c", 6, 4, 0, 1, "c \t~", "\r\n\1"},
+      {"a:\r", 4, 2, '\r', 1, "c \t", "\r"},           {"a: b\n\n", 6, 4, '\n', 1, "c", "\n"},
+      {"a b: c", 6, 2, 'b', 0, ":", "b"},
+  };
+  for (size_t i = 0; i < sizeof rows / sizeof *rows; ++i) {
+    sf_head head = sf_head_in(SF_HEAD_LINES(lines), sf_buffer_of(NULL, 0));
+    head.faults = SF_FAULTS(faults);
+    CHECK(sf_add_head_line(&head, sf_cstr("HTTP/1.1 200")) == SF_OK);
+    CHECK(sf_add_head_line(&head, sf_text_of(rows[i].line, rows[i].length)) == SF_REFUSED);
+    const sf_refusal *refusal = &faults[0].location.refusal;
+    CHECK(head.faults.length == 1 && faults[0].location.number == 2);
+    CHECK(refusal->offset == rows[i].at && refusal->found == rows[i].found);
+    CHECK(refusal->may_end == rows[i].may_end);
+    for (const char *byte = rows[i].expected; *byte != 0; ++byte)
+      CHECK((*byte < 64 ? refusal->expected_low >> *byte : refusal->expected_high >> (*byte - 64)) & 1);
+    for (const char *byte = rows[i].barred; *byte != 0; ++byte)
+      CHECK(!((*byte < 64 ? refusal->expected_low >> *byte : refusal->expected_high >> (*byte - 64)) & 1));
+  }
+  /* white space before the colon: "A server MUST reject .. any received request message", and "a
+   * proxy MUST remove any such whitespace from a response message" (RFC 9112 section 5.1) */
+  for (int is_request = 0; is_request < 2; ++is_request) {
+    sf_head head = sf_head_in(SF_HEAD_LINES(lines), sf_buffer_of(NULL, 0));
+    head.faults = SF_FAULTS(faults);
+    CHECK(sf_add_head_line(&head, sf_cstr(is_request ? "GET / HTTP/1.1" : "HTTP/1.1 200")) == SF_OK);
+    CHECK(sf_add_head_line(&head, sf_cstr("Age \t: 1")) == (is_request ? SF_REFUSED : SF_OK));
+    CHECK(is_request ? faults[0].location.refusal.offset == 3 : is(lines[0].name, "Age"));
+    CHECK(sf_add_head_line(&head, sf_cstr("Age: 1")) == SF_OK);
+  }
+
+  sf_text rest = sf_cstr("\r\n\nHTTP/1.1 200 OK\r\nAge: 1\r\nVia\r\n\tx\r\nVia: a\r\n\r\nDate: x\r\n");
   sf_head head = sf_head_in(SF_HEAD_LINES(lines), sf_buffer_of(NULL, 0));
   head.faults = SF_FAULTS(faults);
   CHECK(sf_take_head(&head, &rest) == SF_OK && is(rest, "Date: x\r\n"));
-  CHECK(head.lines.length == 2 && is(lines[1].value, "a") && lines[1].number == 5);
-  CHECK(head.is_incomplete == 1 && head.number == 7);
-  CHECK(head.faults.length == 2 && head.faults.required == 2);
+  CHECK(head.lines.length == 2 && is(lines[1].value, "a") && lines[1].number == 7);
+  CHECK(head.is_incomplete == 1 && head.is_truncated == 0 && head.number == 9);
+  CHECK(head.faults.length == 2 && head.faults.required == 2 && head.status == 200);
   CHECK(faults[0].reason == SF_FAULT_NOT_A_LINE && *faults[0].field == 0);
-  CHECK(faults[0].location.number == 3 && is(faults[0].location.line, "Via"));
-  CHECK(faults[1].location.number == 4 && is(faults[1].location.line, "\tx"));
+  CHECK(faults[0].location.number == 5 && is(faults[0].location.line, "Via"));
+  CHECK(faults[1].location.number == 6 && is(faults[1].location.line, "\tx"));
   CHECK(sf_take_head(&head, &rest) == SF_EMPTY && rest.length == 0 && head.lines.length == 3);
+  CHECK(head.is_truncated == 1);
   rest = sf_cstr("b: c\n\n");
   CHECK(sf_take_head(&head, &rest) == SF_SHORT && is(rest, "b: c\n\n"));
-  CHECK(head.lines.required == 4 && head.number == 8);
+  CHECK(head.lines.required == 4 && head.number == 10);
+  head = sf_head_in(SF_HEAD_LINES(lines), sf_buffer_of(NULL, 0));
   rest = sf_text_of(NULL, 0);
-  CHECK(sf_take_head(&head, &rest) == SF_EMPTY && rest.at == NULL);
+  CHECK(sf_take_head(&head, &rest) == SF_EMPTY && rest.at == NULL && head.is_truncated == 1);
   rest = sf_cstr("\r\n");
-  CHECK(sf_take_head(&head, &rest) == SF_OK && rest.length == 0);
+  CHECK(sf_take_head(&head, &rest) == SF_EMPTY && rest.length == 0);
+  rest = sf_cstr("a: b\n\r\nc");
+  CHECK(sf_take_head(&head, &rest) == SF_OK && is(rest, "c") && head.is_truncated == 0);
+
+  /* a head that is cut off may have had another directive (RFC 9111 section 3.3), and the status code
+   * of the start line counts if the exchange has none */
+  static const struct {
+    const char *head;
+    uint32_t status, obstacle;
+  } stored[] = {
+      {"HTTP/1.1 200 OK\n\n", 0, SF_NO_OBSTACLE},
+      {"HTTP/1.1 200 OK\nAge: 1\n", 0, SF_BARRED_HEAD},
+      {"HTTP/1.1 200 OK\nCache-Control: no-store\n", 0, SF_BARRED_DIRECTIVE},
+      {"HTTP/1.1 500 No\n\n", 0, SF_BARRED_UNPERMITTED},
+      {"HTTP/1.1 103 Early\nCache-Control: max-age=1\n\n", 0, SF_BARRED_STATUS},
+      {"HTTP/1.1 500 No\n\n", 200, SF_NO_OBSTACLE},
+      {"HTTP/1.1 2x0 OK\n\n", 200, SF_BARRED_HEAD},
+  };
+  sf_context context = sf_context_of(seed, SF_RFC8941);
+  for (size_t i = 0; i < sizeof stored / sizeof *stored; ++i) {
+    sf_exchange exchange = sf_exchange_of(SF_SHARED_CACHE, 0);
+    sf_verdict verdict;
+    exchange.status = stored[i].status;
+    head = sf_head_in(SF_HEAD_LINES(lines), sf_buffer_of(NULL, 0));
+    rest = sf_cstr(stored[i].head);
+    (void)!sf_take_head(&head, &rest);
+    CHECK(sf_decide_response(&context, &head, NULL, 0, &exchange, &verdict) == SF_OK);
+    CHECK(verdict.obstacle == stored[i].obstacle);
+  }
+
+  /* a buffer of this many lines is large enough for each head, and for the shortest lines no less */
+  for (size_t length = 0; length < 12; ++length) {
+    static const char shortest[] = "a:\nb:\nc:\nd:";
+    sf_head_line more[4];
+    head = sf_head_in(sf_head_lines_of(more, SF_HEAD_LINES_SIZE(length)), sf_buffer_of(NULL, 0));
+    rest = sf_text_of(shortest, length);
+    CHECK(sf_take_head(&head, &rest) == SF_EMPTY);
+    CHECK(length % 3 != 2 || head.lines.length == head.lines.capacity);
+  }
+}
+
+/* Verdicts in words, and hops by them. */
+static void verdicts_in_words(void) {
+  static const struct {
+    const char *head, *words, *hop;
+  } rows[] = {
+      {"HTTP/1.1 200\nCache-Control: max-age=60\n\n", "Cache-Control: fresh for 60 s (max-age)",
+       "a;fwd=miss;ttl=60;stored"},
+      {"HTTP/1.1 200\nT: no-store\n\n", "T: not stored (no-store)", "a;fwd=miss;stored=?0"},
+      {"HTTP/1.1 200\nT: no-cache\n\n", "T: revalidate (no-cache)", "a;fwd=miss;stored"},
+      {"HTTP/1.1 500\n\n", "Cache-Control: unspecified; not stored: nothing permits it",
+       "a;fwd=miss;stored=?0"},
+      {"HTTP/1.1 206\nExpires: 0\n\n",
+       "Expires: stale (expires); not stored: the status code forbids it", "a;fwd=miss;ttl=0;stored=?0"},
+      {"HTTP/1.1 200\nT: max-age=99999999999\n", "T: fresh for 2147483648 s (max-age); not stored: the "
+       "head is incomplete", "a;fwd=miss;ttl=2147483648;stored=?0"},
+  };
+  sf_context context = sf_context_of(seed, SF_RFC8941);
+  sf_target target = sf_target_of("T");
+  for (size_t i = 0; i < sizeof rows / sizeof *rows; ++i) {
+    sf_head_line lines[2];
+    sf_exchange exchange = sf_exchange_of(SF_SHARED_CACHE, 784111777);
+    sf_verdict verdict;
+    sf_text rest = sf_cstr(rows[i].head);
+    char text[SF_VERDICT_SIZE(13)], field[128];
+    sf_buffer out = SF_BUFFER(text), exact = sf_buffer_of(field, strlen(rows[i].words));
+    sf_head head = sf_head_in(SF_HEAD_LINES(lines), sf_buffer_of(NULL, 0));
+    (void)!sf_take_head(&head, &rest);
+    CHECK(sf_decide_response(&context, &head, &target, 1, &exchange, &verdict) == SF_OK);
+    CHECK(sf_write_verdict(&verdict, &out) == SF_OK && is(sf_written(&out), rows[i].words));
+    CHECK(sf_write_verdict(&verdict, &exact) == SF_OK && exact.length == strlen(rows[i].words));
+    --exact.capacity;
+    CHECK(sf_write_verdict(&verdict, &exact) == SF_SHORT && exact.required == strlen(rows[i].words));
+    exact = sf_buffer_of(NULL, 0);
+    CHECK(sf_write_verdict(&verdict, &exact) == SF_SHORT && exact.length == 0);
+    sf_own_hop own = sf_hop_of_verdict("a", SF_TOKEN, SF_MISS, &verdict);
+    out = sf_buffer_of(field, sizeof field);
+    CHECK(sf_write_hop(&context, &own, &out) == SF_OK && is(sf_written(&out), rows[i].hop));
+  }
+}
+
+/* The Items of Inner Lists, and the texts of parts of a tree. */
+static void parts_of_trees(void) {
+  sf_context context = sf_context_of(seed, SF_RFC9651);
+  sf_node nodes[16];
+  char bytes[64], text[64];
+  sf_buffer out = SF_BUFFER(text);
+  sf_tree tree = sf_tree_in(SF_NODES(nodes), SF_BUFFER(bytes));
+  CHECK(sf_write_part(&context, &tree, nodes, &out) == SF_BAD_CALL);
+  CHECK(sf_write_bare(&context, &tree, nodes, &out) == SF_BAD_CALL);
+  CHECK(sf_read_tree(&context, SF_DICT, sf_cstr("a=(\"x\\\"y\";q=1 :YQ:  t);k=?0;l, b=1.50;m, c=()"), &tree) ==
+        SF_OK);
+  static const struct {
+    const char *bare, *part; /* NULL: SF_INVALID */
+  } rows[] = {
+      {NULL, "(\"x\\\"y\";q=1 :YQ==: t);k=?0;l"}, {"\"x\\\"y\"", "\"x\\\"y\";q=1"}, {"1", NULL},
+      {":YQ==:", ":YQ==:"}, {"t", "t"}, {"?0", NULL}, {"?1", NULL}, {"1.5", "1.5;m"}, {"?1", NULL}, {NULL, "()"},
+  };
+  CHECK(tree.nodes.length == sizeof rows / sizeof *rows);
+  for (size_t i = 0; i < tree.nodes.length; ++i) {
+    sf_node before = nodes[i];
+    CHECK(sf_write_bare(&context, &tree, &nodes[i], &out) == (rows[i].bare ? SF_OK : SF_INVALID));
+    CHECK(rows[i].bare == NULL ? out.length == 0 : is(sf_written(&out), rows[i].bare));
+    CHECK(sf_write_part(&context, &tree, &nodes[i], &out) == (rows[i].part ? SF_OK : SF_INVALID));
+    CHECK(rows[i].part == NULL ? out.length == 0 : is(sf_written(&out), rows[i].part));
+    CHECK(memcmp(&before, &nodes[i], offsetof(sf_node, coded) + 1) == 0);
+    if (rows[i].part != NULL) {
+      sf_buffer less = sf_buffer_of(text, strlen(rows[i].part) - 1);
+      CHECK(sf_write_part(&context, &tree, &nodes[i], &less) == SF_SHORT);
+      CHECK(less.required == strlen(rows[i].part));
+    }
+  }
+  const sf_node *items[4];
+  size_t count = 0;
+  for (const sf_node *item = NULL; (item = sf_next_item(&nodes[0], item)) != NULL;)
+    items[count++] = item;
+  CHECK(count == 3 && items[0] == &nodes[1] && items[1] == &nodes[3] && items[2] == &nodes[4]);
+  CHECK(sf_next_item(&nodes[7], NULL) == NULL && sf_next_item(&nodes[9], NULL) == NULL);
 }
 
 /* A message of a fault, compared with what is expected. */
@@ -706,7 +890,11 @@ static void fields_of_a_head(void) {
   head.faults = SF_FAULTS(faults);
   head.number = 7;
   CHECK(sf_take_head(&head, &rest) == SF_OK && head.faults.length == 1);
-  CHECK(says(&faults[0], 40, "not a field line\nline 13, place 0:\nFolded\n^"));
+  CHECK(says(&faults[0], 40,
+             "not a field line: the text ended at place 6, expected a key character, an upper-case "
+             "letter, `!`, `#`, `$`, `%`, `&`, `'`, `+`, `:`, `^`, a backquote, `|` or `~`\n"
+             "line 13, place 6:\nFolded\n      ^"));
+  CHECK(head.is_request == 1 && head.status == 0);
 
   sf_priority_flags client = {7, 7, 7, 7};
   CHECK(sf_find_priority(&context, &head, &client) == SF_OK && head.joined.length == 0);
@@ -718,42 +906,46 @@ static void fields_of_a_head(void) {
   CHECK(faults[1].location.number == 9 && faults[1].location.index == 1);
   CHECK(is(faults[1].location.line, "priority: i=,"));
   sf_response_priority_flags server = {7, 7, 7, 7};
-  CHECK(sf_find_response_priority(&context, &head, &server) == SF_OK && head.faults.length == 3);
+  /* a fault is there once */
+  CHECK(sf_find_response_priority(&context, &head, &server) == SF_OK && head.faults.length == 2);
   CHECK(!server.has_urgency && !server.has_incremental && server.urgency == 0);
 
   sf_node nodes[4];
   sf_tree tree = sf_tree_in(SF_NODES(nodes), SF_BUFFER(text));
   CHECK(sf_find_tree(&context, SF_DICT, &head, "Example", &tree) == SF_OK && tree.nodes.length == 0);
-  CHECK(says(&faults[3], 6, "Example: byte 0x32 '2' at place 16, expected `0` or `1`\n"
+  CHECK(says(&faults[2], 6, "Example: byte 0x32 '2' at place 16, expected `0` or `1`\n"
                             "line 10, place 16:\n1;b=?2\n     ^"));
   CHECK(sf_check_field(&context, SF_DICT, &head, "Example") == SF_REFUSED);
-  CHECK(head.faults.length == 5 && context.refusal.offset == 7);
-  CHECK(sf_check_field(&context, SF_ITEM, &head, "name") == SF_OK && head.faults.length == 5);
+  CHECK(head.faults.length == 3 && context.refusal.offset == 7);
+  CHECK(sf_check_field(&context, SF_ITEM, &head, "name") == SF_OK && head.faults.length == 3);
   CHECK(sf_find_tree(&context, SF_ITEM, &head, "name", &tree) == SF_OK && tree.nodes.length == 1);
   CHECK(nodes[0].type == SF_TOKEN && is(sf_node_text(&tree, nodes), "Value"));
   /* an absent Item is no empty text, which is malformed */
-  CHECK(sf_check_field(&context, SF_ITEM, &head, "Absent") == SF_OK && head.faults.length == 5);
+  CHECK(sf_check_field(&context, SF_ITEM, &head, "Absent") == SF_OK && head.faults.length == 3);
   CHECK(sf_find_tree(&context, SF_ITEM, &head, "Absent", &tree) == SF_OK && tree.nodes.length == 0);
   CHECK(sf_find_tree(&context, SF_LIST, &head, "Absent", &tree) == SF_OK && tree.nodes.length == 0);
-  CHECK(head.faults.length == 5);
+  CHECK(head.faults.length == 3);
 
   sf_hop hops[4];
   sf_hop_list list = sf_hop_list_in(SF_HOPS(hops), SF_BUFFER(text));
   CHECK(sf_find_hops(&context, &head, &list) == SF_OK && list.hops.length == 0 && !list.served);
-  CHECK(faults[5].location.number == 12 && faults[5].location.refusal.offset == 25);
-  CHECK(faults[5].location.refusal.found == '7' && head.joined.length == 0);
+  CHECK(faults[3].location.number == 12 && faults[3].location.refusal.offset == 25);
+  CHECK(faults[3].location.refusal.found == '7' && head.joined.length == 0);
   /* a member that names no cache stays where it is */
   sf_own_hop own = sf_hop_named("edge", SF_TOKEN);
   own.hop.outcome = SF_HIT;
   char sent[64];
   sf_buffer out = SF_BUFFER(sent);
-  CHECK(sf_add_hop(&context, &head, &own, &out) == SF_OK && head.faults.length == 6);
+  CHECK(sf_add_hop(&context, &head, &own, &out) == SF_OK && head.faults.length == 4);
   CHECK(is(sf_written(&out), "origin;fwd=miss, edge;hit, 7, edge;hit"));
 
   /* when there is no capacity for faults, they are counted */
-  head.faults.length = head.faults.capacity;
+  head.faults = sf_faults_of(faults, 1);
   CHECK(sf_find_priority(&context, &head, &client) == SF_OK);
-  CHECK(head.faults.length == 8 && head.faults.required == 7);
+  CHECK(sf_find_hops(&context, &head, &list) == SF_OK);
+  CHECK(head.faults.length == 1 && head.faults.required == 2);
+  head.faults = sf_faults_of(NULL, 0);
+  CHECK(sf_find_priority(&context, &head, &client) == SF_OK && head.faults.required == 1);
 
   /* buffers that are too small, and calls that fail, find nothing */
   head = sf_head_in(SF_HEAD_LINES(lines), sf_buffer_of(bytes, 7));
@@ -806,12 +998,12 @@ static void faults_of_decisions(void) {
       {"Age: 5\nAge: x\n", {NULL}},
       {"T: max-age=1\nCache-Control: a b\nExpires: 0\nDate: x\n", {NULL}}, /* they are not read */
       {"Expires:  0 \nDate: Sun\n",
-       {"Expires: not an HTTP-date\nline 1, place 10:\nExpires:  0 \n          ^",
-        "Date: not an HTTP-date\nline 2, place 6:\nDate: Sun\n      ^"}},
+       {"Expires: not an HTTP-date, as Sun, 06 Nov 1994 08:49:37 GMT\nline 1, place 10:\nExpires:  0 \n          ^",
+        "Date: not an HTTP-date, as Sun, 06 Nov 1994 08:49:37 GMT\nline 2, place 6:\nDate: Sun\n      ^"}},
       {"Expires: Sun, 06 Nov 1994 08:49:37 GMT\nExpires: Sun, 06 Nov 1994 08:49:37 GMT\nexpires: x\n",
        {"Expires: there are several lines\nline 2, place 9:\nExpires: Sun, 06 Nov 1994 \n         ^"}},
       {"Date: x\nDate: Sun, 06 Nov 1994 08:49:37 GMT\nDate: x\n",
-       {"Date: not an HTTP-date\nline 1, place 6:\nDate: x\n      ^",
+       {"Date: not an HTTP-date, as Sun, 06 Nov 1994 08:49:37 GMT\nline 1, place 6:\nDate: x\n      ^",
         "Date: there are several lines\nline 2, place 6:\nDate: Sun, 06 Nov 1994 08:\n      ^"}},
       {"Cache-Control: a b\nCache-Control: c d\n",
        {"Cache-Control: byte 0x62 'b' at place 17, expected `,`, a tab, a space or the end\n"
@@ -847,6 +1039,7 @@ static void faults_of_decisions(void) {
     head.faults = SF_FAULTS(faults);
     CHECK(sf_take_head(&head, &rest) == SF_EMPTY);
     CHECK(sf_decide_response(&context, &head, &target, 1, &exchange, &verdict) == SF_OK);
+    CHECK(sf_decide_response(&context, &head, &target, 1, &exchange, &verdict) == SF_OK); /* once */
     size_t count = 0;
     for (; count < MOST && rows[i].messages[count] != NULL; ++count)
       CHECK(count < head.faults.length && says(&faults[count], 26, rows[i].messages[count]));
@@ -1141,7 +1334,7 @@ static void storing(void) {
     CHECK(sf_decide_response(&context, &head, &target, 1, &exchange, &verdict) == SF_OK);
     CHECK(verdict.obstacle == (rows[i].obstacle == SF_BARRED_DIRECTIVE
                                    ? (uint32_t)SF_BARRED_DIRECTIVE
-                                   : (uint32_t)SF_BARRED_LINE));
+                                   : (uint32_t)SF_BARRED_HEAD));
     CHECK(verdict.may_store == 0);
   }
   /* beside a targeted field Expires does not count (RFC 9213 section 2.2) */
@@ -1180,8 +1373,11 @@ static void storing(void) {
   exchange.received = 784111717;
   CHECK(sf_decide_response(&context, &head, NULL, 0, &exchange, &verdict) == SF_OK);
   CHECK(verdict.decision.reuse == SF_REUSE_FRESH && verdict.decision.seconds == 60 - 20);
-  CHECK(strcmp(sf_obstacle_name(SF_BARRED_STATUS), "the status code") == 0);
-  CHECK(strcmp(sf_obstacle_name(SF_BARRED_LINE), "a line of the head") == 0);
+  CHECK(strcmp(sf_obstacle_name(SF_BARRED_DIRECTIVE), "a directive forbids it") == 0);
+  CHECK(strcmp(sf_obstacle_name(SF_BARRED_STATUS), "the status code forbids it") == 0);
+  CHECK(strcmp(sf_obstacle_name(SF_BARRED_REQUEST), "the request had Authorization") == 0);
+  CHECK(strcmp(sf_obstacle_name(SF_BARRED_UNPERMITTED), "nothing permits it") == 0);
+  CHECK(strcmp(sf_obstacle_name(SF_BARRED_HEAD), "the head is incomplete") == 0);
   CHECK(strcmp(sf_obstacle_name(SF_NO_OBSTACLE), "") == 0 && strcmp(sf_obstacle_name(0), "") == 0);
 }
 
@@ -1353,6 +1549,8 @@ int main(void) {
   ages();
   heads();
   whole_heads();
+  verdicts_in_words();
+  parts_of_trees();
   fields_of_a_head();
   faults_of_decisions();
   responses();

@@ -1,8 +1,7 @@
-//! What a proxy concludes from the heads of a request and its response, on standard input: a line
-//! `> Name: value` is of the request, and `< Name: value` of the response.
+//! What a proxy concludes from the heads of a request and its response, which are in two files as
+//! they were received: `head REQUEST RESPONSE`.
 
-use sf::{Cache, Dialect, Exchange, Head, Obstacle, Outcome, Parser, Path};
-use std::io::{self, Read};
+use sf::{Cache, Dialect, Exchange, Forward, Head, Outcome, Parser, Path, TokenRef};
 
 /// The targeted fields that this cache obeys, in order (RFC 9213 section 2.2).
 const TARGETS: [&str; 2] = ["ExampleCDN-Cache-Control", "CDN-Cache-Control"];
@@ -26,36 +25,30 @@ fn source(path: &Path) -> String {
 }
 
 fn main() -> Result<(), Box<dyn std::error::Error>> {
-    let mut input = Vec::new();
-    io::stdin().read_to_end(&mut input)?;
+    let mut files = std::env::args_os().skip(1);
+    let request = std::fs::read(files.next().unwrap_or_default())?;
+    let response = std::fs::read(files.next().unwrap_or_default())?;
     // The RFCs of the three fields cite RFC 8941, and RFC 9651 adds no types to them.
     let parser = Parser::new().with_dialect(Dialect::Rfc8941);
-    let (mut request, mut response) = (Head::new(parser), Head::new(parser));
-    for (index, line) in input.split(|byte| *byte == b'\n').enumerate() {
-        let (head, line) = match line {
-            [b'>', line @ ..] => (&mut request, line),
-            [b'<', line @ ..] => (&mut response, line),
-            _ => continue,
-        };
-        head.set_number(index + 1);
-        head.add_line(sf::trim(line))?;
-    }
+    let mut request = Head::parse(parser, &request)?;
+    let mut response = Head::parse(parser, &response)?;
 
-    let priority = request.priority()?;
-    let priority = priority.merged_with(response.response_priority()?);
-    let how = ["", ", incremental"][usize::from(priority.incremental())];
-    println!("urgency {}{how}", priority.urgency());
+    let client = request.priority()?;
+    let both = client.merged_with(response.response_priority()?);
+    let how = ["", ", incremental"][usize::from(both.incremental())];
+    println!("urgency {}{how}", both.urgency());
 
     println!("{}", source(&response.path()?));
 
     // What a shared cache does with the response (RFC 9213 and RFC 9111).
-    let exchange = Exchange::now(Cache::Shared).with_status(200);
+    let exchange =
+        Exchange::now(Cache::Shared).with_authorization(request.has_field("Authorization"));
     let verdict = response.decide(&exchange, &TARGETS)?;
-    match verdict.obstacle {
-        None => println!("store it by {verdict}"),
-        Some(Obstacle::Directive) => println!("don't store it by {verdict}"),
-        Some(obstacle) => println!("don't store it by {obstacle}"),
-    }
+    println!("{verdict}");
+
+    // The field that it sends on, in the place of the lines that were received.
+    let hop = verdict.hop(TokenRef::constant("ExampleCDN"), Forward::UriMiss);
+    println!("Cache-Status: {}", response.append_or_replace(&hop)?);
 
     for malformed in request.malformed().iter().chain(response.malformed()) {
         eprintln!("{}", malformed.excerpt(60));

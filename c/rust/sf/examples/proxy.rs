@@ -4,7 +4,7 @@
 //! cache, the status code, and `understood` if the cache understands it. Left out: method,
 //! `Authorization`, `Vary`, the time since the request.
 
-use sf::{Cache, Dialect, Exchange, Forward, Forwarded, Head, Hop, Obstacle, Parser, Reuse};
+use sf::{Cache, Dialect, Exchange, Forward, Head, Parser};
 use std::io::{self, Read};
 
 /// This cache.
@@ -40,21 +40,9 @@ fn main() -> Result<(), Box<dyn std::error::Error>> {
     let mut exchange = Exchange::now(cache).with_understood(has_word("understood"));
     exchange.status = words.iter().find_map(|word| word.parse().ok());
     let verdict = response.decide(&exchange, &TARGETS)?;
-    let by = verdict.decision.cause.map(|cause| format!(" ({cause})"));
-    let how = match verdict.decision.reuse {
-        Reuse::NotStored => "don't store it".to_string(),
-        Reuse::Fresh { seconds } => format!("fresh for {seconds} s"),
-        Reuse::Stale => "stale".to_string(),
-        Reuse::Revalidate => "validate it before each use".to_string(),
-        Reuse::Unspecified => "no lifetime".to_string(),
-    };
-    match verdict.obstacle {
-        Some(Obstacle::Line) => println!("by {}: don't store it", Obstacle::Line),
-        _ => println!("by {}: {how}{}", verdict.field, by.unwrap_or_default()),
-    }
+    println!("{verdict}");
 
-    let forwarded = Forwarded::new(Forward::UriMiss).with_stored(verdict.may_store());
-    let hop = Hop::new(NAME).with_outcome(forwarded).with_ttl(verdict.ttl);
+    let hop = verdict.hop(NAME, Forward::UriMiss);
     println!("Cache-Status: {}", response.append_or_replace(&hop)?);
 
     for malformed in request.malformed().iter().chain(response.malformed()) {

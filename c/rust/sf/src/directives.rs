@@ -1,5 +1,6 @@
 //! The place where a line of `Cache-Control` is malformed. The library decides whether it is.
 
+use crate::line::is_tchar;
 use crate::Refusal;
 
 /// What the bytes before a place are.
@@ -62,11 +63,6 @@ impl State {
 /// Whether a byte is white space (RFC 9110 section 5.6.3).
 fn is_ows(byte: u8) -> bool {
     matches!(byte, b' ' | b'\t')
-}
-
-/// Whether a byte is one of a token (RFC 9110 section 5.6.2).
-fn is_tchar(byte: u8) -> bool {
-    byte.is_ascii_alphanumeric() || b"!#$%&'*+-.^_`|~".contains(&byte)
 }
 
 /// The refusal of a line that is no list of directives. White space around it is no part of it.

@@ -6,7 +6,7 @@ use crate::malformed::{Fault, Malformed};
 use crate::Dialect;
 use crate::{
     age, field_text, Cache, CacheRules, Cause, Decision, Error, Fallback, FieldDate, FieldLine,
-    Integer, Parser, Response, Reuse, Seconds,
+    Forward, Forwarded, Hop, Integer, Name, Parser, Response, Reuse, Seconds,
 };
 use alloc::vec::Vec;
 use core::fmt;
@@ -46,8 +46,8 @@ pub struct Exchange {
     pub is_understood: bool,
     /// Whether the request had `Authorization` (section 3.5).
     pub is_authorized: bool,
-    /// Whether a line of the head is no field line ([`crate::split_field_line`]): it may have had a
-    /// directive.
+    /// Whether a line of the head is no field line ([`crate::split_field_line`]), or the head did not
+    /// end: a directive may be missing.
     pub is_incomplete: bool,
     /// When the request was sent: `request_time` (section 4.2.3).
     pub requested: u64,
@@ -110,7 +110,8 @@ impl Exchange {
         }
     }
 
-    /// The same with whether the cache understands the status code.
+    /// The same with whether the cache understands the status code and implements its requirements,
+    /// as most caches do for 200.
     ///
     /// ```
     /// use sf::{Cache, Exchange};
@@ -142,8 +143,8 @@ impl Exchange {
         }
     }
 
-    /// The same with whether a line of the head is no field line. Such a line may have had a
-    /// directive, so the response is not stored.
+    /// The same with whether a line of the head is no field line, or the head did not end. A
+    /// directive may be missing, so the response is not stored.
     ///
     /// ```
     /// use sf::{Cache, Exchange, Obstacle};
@@ -152,7 +153,7 @@ impl Exchange {
     ///     .with_status(200)
     ///     .with_incomplete(lines.contains(&None));
     /// let verdict = exchange.decide(&[], lines.into_iter().flatten()).unwrap();
-    /// assert_eq!(verdict.obstacle, Some(Obstacle::Line));
+    /// assert_eq!(verdict.obstacle, Some(Obstacle::Incomplete));
     /// ```
     #[must_use]
     pub const fn with_incomplete(self, is_incomplete: bool) -> Exchange {
@@ -267,7 +268,7 @@ impl Exchange {
             return Some(Obstacle::Directive);
         }
         if self.is_incomplete {
-            return Some(Obstacle::Line);
+            return Some(Obstacle::Incomplete);
         }
         if !self.is_storable() {
             return Some(Obstacle::Status);
@@ -283,7 +284,7 @@ impl Exchange {
 }
 
 /// What a cache does with a response, by the whole of its head: see [`Exchange::decide`]. Its
-/// `Display` is the field that decides, and the decision.
+/// `Display` is the field that decides, the decision, and the obstacle if that is no directive.
 ///
 /// ```
 /// use sf::{Cache, Exchange};
@@ -365,24 +366,24 @@ pub enum Obstacle {
     /// Nothing permits it: no directive, no `Expires`, and the status code is not heuristically
     /// cacheable (RFC 9110 section 15.1).
     Unpermitted,
-    /// A line of the head is no field line ([`Exchange::is_incomplete`]).
-    Line,
+    /// A line of the head is no field line, or the head did not end ([`Exchange::is_incomplete`]).
+    Incomplete,
 }
 
 impl Obstacle {
     /// The obstacle in words: those of `sf_obstacle_name`.
     ///
     /// ```
-    /// assert_eq!(sf::Obstacle::Status.as_str(), "the status code");
+    /// assert_eq!(sf::Obstacle::Status.as_str(), "the status code forbids it");
     /// ```
     #[must_use]
     pub fn as_str(self) -> &'static str {
         match self {
-            Obstacle::Directive => "a directive",
-            Obstacle::Status => "the status code",
-            Obstacle::Authorization => "Authorization",
+            Obstacle::Directive => "a directive forbids it",
+            Obstacle::Status => "the status code forbids it",
+            Obstacle::Authorization => "the request had Authorization",
             Obstacle::Unpermitted => "nothing permits it",
-            Obstacle::Line => "a line of the head",
+            Obstacle::Incomplete => "the head is incomplete",
         }
     }
 }
@@ -413,6 +414,22 @@ impl Verdict<'_> {
         self.obstacle.is_none()
     }
 
+    /// The hop of a cache with this name that forwarded the request for this reason, with `stored`
+    /// and `ttl` by this verdict.
+    ///
+    /// ```
+    /// use sf::{Cache, Exchange, Forward, TokenRef};
+    /// let head = [("Cache-Control", "max-age=60"), ("Age", "20")];
+    /// let verdict = Exchange::at(Cache::Shared, 784_111_777).decide(&[], &head).unwrap();
+    /// let hop = verdict.hop(TokenRef::constant("ExampleCDN"), Forward::UriMiss);
+    /// assert_eq!(hop.to_string(), "ExampleCDN;fwd=uri-miss;ttl=40;stored");
+    /// ```
+    #[must_use]
+    pub fn hop<'n>(&self, name: impl Into<Name<'n>>, why: Forward<'n>) -> Hop<'n> {
+        let forwarded = Forwarded::new(why).with_stored(self.may_store());
+        Hop::new(name).with_outcome(forwarded).with_ttl(self.ttl)
+    }
+
     /// For how many seconds the response stays fresh, if it is fresh.
     ///
     /// ```
@@ -429,7 +446,11 @@ impl Verdict<'_> {
 
 impl fmt::Display for Verdict<'_> {
     fn fmt(&self, f: &mut fmt::Formatter<'_>) -> fmt::Result {
-        write!(f, "{}: {}", self.field, self.decision)
+        write!(f, "{}: {}", self.field, self.decision)?;
+        match self.obstacle {
+            None | Some(Obstacle::Directive) => Ok(()),
+            Some(obstacle) => write!(f, "; not stored: {obstacle}"),
+        }
     }
 }
 

@@ -2,10 +2,11 @@
 
 use crate::buffer::append;
 use crate::error::Excerpt;
-use crate::malformed::{spaces_before, Fault, Malformed};
+use crate::line::{is_tchar, spaces_before, split, without_end};
+use crate::malformed::{Fault, Malformed};
 use crate::{
-    field_text, has_field, split_field_line, trim, Appended, Error, Exchange, FieldLine, FieldType,
-    Hop, Parser, Path, Priority, Refusal, ResponsePriority, Verdict,
+    field_text, has_field, trim, Appended, Error, Exchange, FieldLine, FieldType, Hop, Parser,
+    Path, Priority, Refusal, ResponsePriority, Verdict,
 };
 use alloc::vec::Vec;
 use core::fmt;
@@ -37,6 +38,11 @@ pub struct Head<'a> {
     malformed: Vec<HeadFault<'a>>,
     /// The number of the line that is added next.
     number: usize,
+    /// The status code of the start line.
+    status: Option<u16>,
+    is_request: bool,
+    /// Whether a line was added that is not empty.
+    is_begun: bool,
     is_incomplete: bool,
     content: Option<&'a [u8]>,
 }
@@ -81,8 +87,11 @@ impl FieldLine for HeadLine<'_> {
 /// use sf::{Fault, Head, Parser};
 /// let head = Head::parse(Parser::new(), "Age 20\r\n\r\n").unwrap();
 /// let malformed = head.malformed()[0];
-/// assert_eq!((malformed.field, malformed.fault), ("", Fault::NotALine));
-/// assert_eq!(malformed.to_string(), "line 1: not a field line");
+/// assert!(matches!(malformed.fault, Fault::NotALine(refusal) if refusal.offset == 4));
+/// assert_eq!(
+///     malformed.to_string(),
+///     "line 1: not a field line: byte 0x32 '2' at place 4, expected `:`, a tab or a space"
+/// );
 /// ```
 #[derive(Clone, Copy, Debug, PartialEq, Eq)]
 #[non_exhaustive]
@@ -151,12 +160,17 @@ impl<'a> Head<'a> {
             lines: Vec::new(),
             malformed: Vec::new(),
             number: 1,
+            status: None,
+            is_request: false,
+            is_begun: false,
             is_incomplete: false,
             content: None,
         }
     }
 
-    /// The head that a text begins with: its lines up to the empty line that ends it.
+    /// The head that a text begins with: its lines up to the empty line that ends it. Empty lines
+    /// before the first other one are skipped (RFC 9112 section 2.2). If there is no empty line at
+    /// the end, lines may be missing: the head is incomplete.
     ///
     /// # Errors
     ///
@@ -165,6 +179,7 @@ impl<'a> Head<'a> {
     /// ```
     /// let head = sf::Head::parse(sf::Parser::new(), "HTTP/1.1 200 OK\r\nAge: 1\r\n\r\nabc").unwrap();
     /// assert_eq!((head.lines().len(), head.content()), (1, Some(b"abc".as_slice())));
+    /// assert!(sf::Head::parse(sf::Parser::new(), "HTTP/1.1 200 OK\r\nAge").unwrap().is_incomplete());
     /// ```
     pub fn parse<T: AsRef<[u8]> + ?Sized>(parser: Parser, text: &'a T) -> Result<Head<'a>, Error> {
         let mut head = Head::new(parser);
@@ -173,20 +188,21 @@ impl<'a> Head<'a> {
             let end = rest.iter().position(|byte| *byte == b'\n');
             let (line, after) = rest.split_at(end.map_or(rest.len(), |end| end + 1));
             rest = after;
-            if without_end(line).is_empty() {
+            if head.is_begun && without_end(line).is_empty() {
                 head.content = Some(rest);
-                break;
+                return Ok(head);
             }
             head.add_line(line)?;
         }
+        head.is_incomplete = true;
         Ok(head)
     }
 
     /// Adds a field line as it was received (RFC 9112 section 5), with or without its CR and LF, and
-    /// returns whether it is one: see [`split_field_line`]. The start line of the message, the first
-    /// that is given, which begins with `HTTP/` or ends with an HTTP version, and an empty line are
-    /// skipped. Another line that is no field line makes the head incomplete, and is one of
-    /// [`Head::malformed`].
+    /// returns whether it is one: see [`split_field_line`](crate::split_field_line()). The first
+    /// line may be the start line, a status line or a request line; it is not added, and nor is an
+    /// empty line. Another line that is no field line makes the head incomplete, and is one of
+    /// [`Head::malformed`]; in a request also a line with white space before its colon.
     ///
     /// # Errors
     ///
@@ -200,35 +216,47 @@ impl<'a> Head<'a> {
     /// ```
     pub fn add_line<T: AsRef<[u8]> + ?Sized>(&mut self, line: &'a T) -> Result<bool, Error> {
         let received = without_end(line.as_ref());
-        let number = self.number;
-        if let Some((name, value)) = split_field_line(received) {
-            let colon = received.iter().position(|byte| *byte == b':');
-            let after = colon.map_or(received.len(), |colon| colon + 1);
-            let line = HeadLine {
-                name,
-                value,
-                received,
-                number,
-                value_at: after + spaces_before(&received[after..]),
-            };
-            append(&mut self.lines, &[line])?;
-            self.number += 1;
-            return Ok(true);
+        let is_first = !self.is_begun;
+        let refusal = match split(received, self.is_request) {
+            Ok(parts) => {
+                self.push(HeadLine {
+                    name: parts.name,
+                    value: parts.value,
+                    received,
+                    number: self.number,
+                    value_at: parts.value_at,
+                })?;
+                return Ok(true);
+            }
+            Err(refusal) => refusal,
+        };
+        if is_first && !received.is_empty() {
+            self.status = status_of(received);
+            self.is_request = is_request_line(received);
         }
-        let is_first = self.lines.is_empty() && !self.is_incomplete;
-        if !(received.is_empty() || is_first && is_start_line(received)) {
+        let is_start = is_first && (self.status.is_some() || self.is_request);
+        if !received.is_empty() && !is_start {
             let fault = HeadFault {
                 field: "",
-                fault: Fault::NotALine,
-                number,
+                fault: Fault::NotALine(refusal),
+                number: self.number,
                 line: received,
-                offset: 0,
+                offset: usize::try_from(refusal.offset).unwrap_or(usize::MAX),
             };
             append(&mut self.malformed, &[fault])?;
             self.is_incomplete = true;
         }
+        self.is_begun |= !received.is_empty();
         self.number += 1;
         Ok(false)
+    }
+
+    /// Adds a field line.
+    fn push(&mut self, line: HeadLine<'a>) -> Result<(), Error> {
+        append(&mut self.lines, &[line])?;
+        self.number += 1;
+        self.is_begun = true;
+        Ok(())
     }
 
     /// Adds a field line by its name and its value, of which white space around it is no part.
@@ -268,9 +296,7 @@ impl<'a> Head<'a> {
             number: self.number,
             value_at: spaces_before(value.as_ref()),
         };
-        append(&mut self.lines, &[line])?;
-        self.number += 1;
-        Ok(())
+        self.push(line)
     }
 
     /// Sets the number of the line that is added next, for messages: 1 at first, and then one more
@@ -298,8 +324,30 @@ impl<'a> Head<'a> {
         &self.lines
     }
 
-    /// Whether a line is no field line: it may have had a directive, so [`Head::decide`] does not
-    /// permit to store the response.
+    /// Whether the head has the field of this name, in any case.
+    ///
+    /// ```
+    /// let head = sf::Head::parse(sf::Parser::new(), "Authorization: a\r\n\r\n").unwrap();
+    /// assert!(head.has_field("authorization") && !head.has_field("Age"));
+    /// ```
+    #[must_use]
+    pub fn has_field(&self, name: &str) -> bool {
+        has_field(&self.lines, name)
+    }
+
+    /// The status code of the start line, if that is a status line.
+    ///
+    /// ```
+    /// let head = sf::Head::parse(sf::Parser::new(), "HTTP/2 404\r\n\r\n").unwrap();
+    /// assert_eq!(head.status(), Some(404));
+    /// ```
+    #[must_use]
+    pub fn status(&self) -> Option<u16> {
+        self.status
+    }
+
+    /// Whether a line is no field line, or the text of [`Head::parse`] ended before the head did. A
+    /// directive may be missing, so [`Head::decide`] does not permit to store the response.
     ///
     /// ```
     /// let head = sf::Head::parse(sf::Parser::new(), "Cache-Control no-store\r\n\r\n").unwrap();
@@ -324,7 +372,7 @@ impl<'a> Head<'a> {
     }
 
     /// What was found to be malformed so far, in the order in which it was found: lines that are no
-    /// field lines, and fields. A field that is read twice is there twice.
+    /// field lines, and fields that were read.
     ///
     /// ```
     /// let mut head = sf::Head::parse(sf::Parser::new(), "Priority: u=\r\n\r\n").unwrap();
@@ -401,15 +449,16 @@ impl<'a> Head<'a> {
     /// # Ok::<(), sf::Error>(())
     /// ```
     pub fn field<T: FieldType>(&mut self, name: &'a str) -> Result<Option<T>, Error> {
-        if !has_field(&self.lines, name) {
+        if !self.has_field(name) {
             return Ok(None);
         }
         let said = self.parser.parse(field_text(&self.lines, name)?);
         self.or_absent(name, said.map(Some))
     }
 
-    /// Decides what a cache does with the response: see [`Exchange::decide_in`]. The head is
-    /// incomplete if the exchange or this head says so.
+    /// Decides what a cache does with the response: see [`Exchange::decide_in`]. If the exchange has
+    /// no status code, that of the start line counts. The head is incomplete if the exchange or this
+    /// head says so.
     ///
     /// # Errors
     ///
@@ -421,15 +470,18 @@ impl<'a> Head<'a> {
     /// let mut head = Head::parse(Parser::new(), received).unwrap();
     /// let exchange = Exchange::at(Cache::Shared, 784_111_777).with_status(200);
     /// let verdict = head.decide(&exchange, &["CDN-Cache-Control"]).unwrap();
-    /// assert_eq!(verdict.obstacle, Some(Obstacle::Line));
+    /// assert_eq!(verdict.obstacle, Some(Obstacle::Incomplete));
     /// ```
     pub fn decide(
         &mut self,
         exchange: &Exchange,
         targets: &[&'a str],
     ) -> Result<Verdict<'a>, Error> {
-        let is_incomplete = exchange.is_incomplete || self.is_incomplete;
-        let exchange = exchange.with_incomplete(is_incomplete);
+        let exchange = Exchange {
+            status: exchange.status.or(self.status),
+            is_incomplete: exchange.is_incomplete || self.is_incomplete,
+            ..*exchange
+        };
         let verdict = self.parser.decide(&exchange, targets, &self.lines)?;
         for malformed in &verdict.malformed {
             self.note(*malformed)?;
@@ -437,8 +489,9 @@ impl<'a> Head<'a> {
         Ok(verdict)
     }
 
-    /// Appends a hop to the Cache-Status field, or writes the hop alone if that is malformed: see
-    /// [`Hop::append_or_replace_in`].
+    /// Appends a hop to the Cache-Status field, or writes the hop alone if the field is no
+    /// well-formed List: see [`Hop::append_or_replace_in`]. A member that names no cache stays where
+    /// it is.
     ///
     /// # Errors
     ///
@@ -492,29 +545,42 @@ impl<'a> Head<'a> {
             line: line.received,
             offset,
         };
+        if self.malformed.contains(&found) {
+            return Ok(());
+        }
         append(&mut self.malformed, &[found])
     }
 }
 
-/// A line without its CR and LF.
-fn without_end(line: &[u8]) -> &[u8] {
-    let line = line.strip_suffix(b"\n").unwrap_or(line);
-    line.strip_suffix(b"\r").unwrap_or(line)
-}
-
-/// Whether a line is a status line or a request line (RFC 9112 sections 3 and 4).
-fn is_start_line(line: &[u8]) -> bool {
-    if is_version(line) {
-        return matches!(line.get(8), None | Some(b' '));
+/// The status code of a status line (RFC 9112 section 4).
+fn status_of(line: &[u8]) -> Option<u16> {
+    let rest = &line[version_length(line)?..];
+    match *rest {
+        [b' ', a @ b'1'..=b'9', b @ b'0'..=b'9', c @ b'0'..=b'9']
+        | [b' ', a @ b'1'..=b'9', b @ b'0'..=b'9', c @ b'0'..=b'9', b' ', ..] => {
+            let digits = [a, b, c].map(|digit| u16::from(digit - b'0'));
+            Some(digits[0] * 100 + digits[1] * 10 + digits[2])
+        }
+        _ => None,
     }
-    line.len() > 9 && line[line.len() - 9] == b' ' && is_version(&line[line.len() - 8..])
 }
 
-/// Whether a text begins with an HTTP version (RFC 9112 section 2.3).
-fn is_version(text: &[u8]) -> bool {
-    let is_numbered = |rest: &[u8]| {
-        matches!(rest, [major, b'.', minor, ..]
-            if major.is_ascii_digit() && minor.is_ascii_digit())
-    };
-    text.strip_prefix(b"HTTP/").map_or(false, is_numbered)
+/// Whether a line is a request line (RFC 9112 section 3).
+fn is_request_line(line: &[u8]) -> bool {
+    let method = line.iter().take_while(|byte| is_tchar(**byte)).count();
+    let last = line.iter().rposition(|byte| *byte == b' ');
+    let version = last.map_or(&[][..], |space| &line[space + 1..]);
+    let is_versioned = !version.is_empty() && version_length(version) == Some(version.len());
+    let has_target = last.map_or(false, |space| space > method + 1);
+    method > 0 && line.get(method) == Some(&b' ') && has_target && is_versioned
+}
+
+/// The length of the HTTP version that a text begins with, such as `HTTP/1.1` or `HTTP/2` (RFC 9110
+/// section 2.5).
+fn version_length(text: &[u8]) -> Option<usize> {
+    match text.strip_prefix(b"HTTP/")? {
+        [major, b'.', minor, ..] if major.is_ascii_digit() && minor.is_ascii_digit() => Some(8),
+        [major, ..] if major.is_ascii_digit() => Some(6),
+        _ => None,
+    }
 }

@@ -1,6 +1,6 @@
 //! What is malformed in the head of a message.
 
-use crate::line::is_of;
+use crate::line::{is_of, spaces_before};
 use crate::{trim, FieldLine, Refusal};
 use core::fmt;
 
@@ -34,8 +34,9 @@ pub struct Malformed<'a> {
 #[non_exhaustive]
 pub enum Fault {
     /// A targeted field that is no Dictionary, a line of `Cache-Control` that is no list of
-    /// directives, or a field that [`Refusal::in_head`] was asked for. The offset is one in the value
-    /// of the line.
+    /// directives, or another structured field that was read. The offset is one in the value of the
+    /// line if this is of a [`Malformed`], and one in the whole line if it is of a
+    /// [`HeadFault`](crate::HeadFault).
     Refused(Refusal),
     /// The first line of `Expires` or of `Date` is no HTTP-date.
     NotADate,
@@ -45,17 +46,17 @@ pub enum Fault {
     NotAnAge,
     /// A line of a [`Head`](crate::Head) that is no field line: see
     /// [`split_field_line`](crate::split_field_line()).
-    NotALine,
+    NotALine(Refusal),
 }
 
 impl fmt::Display for Fault {
     fn fmt(&self, f: &mut fmt::Formatter<'_>) -> fmt::Result {
         match self {
             Fault::Refused(refusal) => refusal.fmt(f),
-            Fault::NotADate => f.pad("not an HTTP-date"),
+            Fault::NotADate => f.pad("not an HTTP-date, as Sun, 06 Nov 1994 08:49:37 GMT"),
             Fault::Repeated => f.pad("there are several lines"),
             Fault::NotAnAge => f.pad("not a number of seconds"),
-            Fault::NotALine => f.pad("not a field line"),
+            Fault::NotALine(refusal) => write!(f, "not a field line: {refusal}"),
         }
     }
 }
@@ -99,10 +100,4 @@ impl Refusal {
         let fault = Fault::Refused(refusal);
         Malformed { field, line, fault }
     }
-}
-
-/// The number of spaces and tabs at the beginning of a value.
-pub(crate) fn spaces_before(value: &[u8]) -> usize {
-    let spaces = value.iter().take_while(|byte| matches!(byte, b' ' | b'\t'));
-    spaces.count()
 }

@@ -264,7 +264,10 @@ fn malformed_fields_are_listed() {
     ];
     assert_eq!(found, expected);
     let shown: Vec<_> = verdict.malformed.iter().map(|it| it.to_string()).collect();
-    assert_eq!(shown[1], "Expires: not an HTTP-date");
+    assert_eq!(
+        shown[1],
+        "Expires: not an HTTP-date, as Sun, 06 Nov 1994 08:49:37 GMT"
+    );
     assert_eq!(shown[3], "Expires: there are several lines");
     assert!(shown[4].starts_with("Cache-Control: byte 0x62 'b' at place 3, expected "));
     assert_eq!(shown[5], "Age: not a number of seconds");

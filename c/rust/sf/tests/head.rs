@@ -15,77 +15,147 @@ fn messages(head: &Head<'_>, most: usize) -> Vec<String> {
 /// The first lines of messages (RFC 9112 sections 2.1, 3 and 4).
 #[test]
 fn start_lines() {
-    let good = [
-        "HTTP/1.1 200 OK",
-        "HTTP/1.1 404",
-        "HTTP/1.0",
+    let status_lines = [
+        ("HTTP/1.1 200 OK", 200),
+        ("HTTP/1.1 404", 404),
+        ("HTTP/1.0 100 \r\n", 100),
+        ("HTTP/2 999 ", 999),
+    ];
+    let request_lines = [
         "GET / HTTP/1.1",
         "GET http://a:80/ HTTP/1.1",
         "OPTIONS * HTTP/1.1\r\n",
+        "GET /a b HTTP/3",
     ];
-    let bad = [
+    let others = [
+        "HTTP/1.1",
+        "HTTP/1.1 ",
+        "HTTP/1.1 20",
+        "HTTP/1.1 2000 OK",
+        "HTTP/1.1 2x0 OK",
+        "HTTP/1.1 099 OK",
+        "HTTP/1.1  200 OK",
         "HTTP/1.1x 200 OK",
-        "HTTP/1 200 OK",
+        "HTTP/1. 200 OK",
         "HTTP/x.1 200 OK",
-        "HTTP/1.x",
         "http/1.1 200 OK",
         "GET /",
         "GET /HTTP/1.1",
         "GET / HTTP/1.1 ",
+        "GET / HTTP/1.1x",
+        "GET  HTTP/1.1",
+        "GET HTTP/1.1",
+        "G\"T / HTTP/1.1",
+        " / HTTP/1.1",
+        "  HTTP/1.1",
         "ICY 200 OK",
-        " HTTP/1.1",
     ];
-    for (lines, is_start) in [(&good[..], true), (&bad[..], false)] {
-        for line in lines {
+    let statuses = status_lines.map(|(line, status)| (line, Some(status), false));
+    let requests = request_lines.map(|line| (line, None, true));
+    let no_start = others.map(|line| (line, None, false));
+    for (line, status, is_request) in [&statuses[..], &requests[..], &no_start[..]].concat() {
+        let is_start = status.is_some() || is_request;
+        let mut head = Head::new(parser());
+        assert!(!head.add_line(line).unwrap());
+        assert_eq!(
+            (head.status(), head.is_incomplete()),
+            (status, !is_start),
+            "{line}"
+        );
+        assert_eq!(head.malformed().len(), usize::from(!is_start));
+        // In a request, no white space may be before the colon (RFC 9112 section 5.1).
+        assert_eq!(head.add_line("Age \t: 1").unwrap(), !is_request);
+        // Only the first line is a start line.
+        let count = head.malformed().len();
+        assert!(!head.add_line(line).unwrap() && head.is_incomplete());
+        assert_eq!((head.status(), head.malformed().len()), (status, count + 1));
+        for before in ["a: b", "a"] {
             let mut head = Head::new(parser());
-            assert!(!head.add_line(line).unwrap());
-            assert_eq!(head.is_incomplete(), !is_start, "{line}");
-            assert_eq!(head.malformed().len(), usize::from(!is_start));
-            // A later line is no start line.
-            for before in ["a: b", "a"] {
-                let mut head = Head::new(parser());
-                head.add_line(before).unwrap();
-                let count = head.malformed().len();
-                assert!(!head.add_line(line).unwrap() && head.is_incomplete());
-                assert_eq!(head.malformed().len(), count + 1);
-            }
+            head.add_line(before).unwrap();
+            let count = head.malformed().len();
+            assert!(!head.add_line(line).unwrap() && head.status().is_none());
+            assert_eq!(head.malformed().len(), count + 1);
         }
+        let mut head = Head::new(parser());
+        assert!(!head.add_line("\r\n").unwrap() && !head.add_line(line).unwrap());
+        assert_eq!(head.status(), status);
+    }
+}
+
+/// Where lines are no field lines, and some of the bytes that are expected there.
+#[test]
+fn lines_that_are_no_field_lines() {
+    let rows: [(&[u8], u64, Option<u8>, bool, &[u8], &[u8]); 9] = [
+        (b"Age", 3, None, false, b":a! \t", b"\"("),
+        (b"Age 20", 4, Some(b'2'), false, b": \t", b"2a"),
+        (b" x", 0, Some(b' '), false, b"a0~", b": \t"),
+        (b": x", 0, Some(b':'), false, b"a0~", b": \t"),
+        (b"a\xe9: x", 1, Some(0xe9), false, b":a ", b"("),
+        (b"a: b\0c", 4, Some(0), true, b"c \t~", b"\r\n\0\x01"),
+        (b"a: b\r\r\n", 4, Some(b'\r'), true, b"c \t", b"\r"),
+        (b"a: b\n\n", 4, Some(b'\n'), true, b"c", b"\n"),
+        (b"a b: c", 2, Some(b'b'), false, b":", b"b"),
+    ];
+    for (line, offset, found, may_end, expected, barred) in rows {
+        let mut head = Head::new(parser());
+        head.add_line("HTTP/1.1 200").unwrap();
+        assert!(!head.add_line(line).unwrap());
+        assert_eq!(sf::split_field_line(line), None);
+        let one = head.malformed()[0];
+        assert_eq!((one.number, one.offset as u64), (2, offset));
+        let refusal = match one.fault {
+            Fault::NotALine(refusal) => refusal,
+            fault => panic!("{fault:?}"),
+        };
+        assert_eq!((refusal.offset, refusal.found), (offset, found));
+        assert_eq!(refusal.may_end, may_end);
+        assert!(
+            expected.iter().all(|byte| refusal.expects(*byte)),
+            "{refusal:?}"
+        );
+        assert!(
+            !barred.iter().any(|byte| refusal.expects(*byte)),
+            "{refusal:?}"
+        );
     }
 }
 
 #[test]
 fn lines_of_a_head() {
-    let text = "HTTP/1.1 200 OK\r\nAge: 1\r\nVia\r\n\tx\r\nVia: \ta \r\n\r\nDate: x\r\n";
+    let text = "\r\n\nHTTP/1.1 200 OK\r\nAge: 1\r\nVia\r\n\tx\r\nVia: \ta \r\n\r\nDate: x\r\n";
     let head = Head::parse(parser(), text).unwrap();
     assert_eq!(head.content(), Some(b"Date: x\r\n".as_slice()));
-    assert_eq!(head.lines().len(), 2);
+    assert_eq!((head.lines().len(), head.status()), (2, Some(200)));
     let (age, via) = (head.lines()[0], head.lines()[1]);
     assert_eq!(
         (age.name, age.value, age.number),
-        (&b"Age"[..], &b"1"[..], 2)
+        (&b"Age"[..], &b"1"[..], 4)
     );
     assert_eq!((via.value, via.received), (&b"a"[..], &b"Via: \ta "[..]));
-    assert_eq!(via.number, 5);
+    assert_eq!(via.number, 7);
+    let found: Vec<_> = head
+        .malformed()
+        .iter()
+        .map(|one| (one.number, one.line))
+        .collect();
+    assert_eq!(found, [(5, &b"Via"[..]), (6, &b"\tx"[..])]);
     assert_eq!(
-        messages(&head, 9),
-        [
-            "not a field line\nline 3, place 0:\nVia\n^",
-            "not a field line\nline 4, place 0:\n?x\n^"
-        ]
+        messages(&head, 9)[0],
+        "not a field line: the text ended at place 3, expected a key character, an upper-case letter, \
+         `!`, `#`, `$`, `%`, `&`, `'`, `+`, `:`, `^`, a backquote, `|`, `~`, a tab or a space\n\
+         line 5, place 3:\nVia\n   ^"
     );
     for (text, lines, content) in [
         ("", 0, None),
-        ("\r\n", 0, Some("")),
-        ("\nabc", 0, Some("abc")),
+        ("\r\n", 0, None),
+        ("\nabc: d\n\n", 1, Some("")),
         ("a: b", 1, None),
         ("a: b\n\r\n\r\n", 1, Some("\r\n")),
     ] {
         let head = Head::parse(parser(), text).unwrap();
-        assert_eq!(
-            (head.lines().len(), head.content()),
-            (lines, content.map(str::as_bytes))
-        );
-        assert!(!head.is_incomplete());
+        let seen = (head.lines().len(), head.content());
+        assert_eq!(seen, (lines, content.map(str::as_bytes)));
+        assert_eq!(head.is_incomplete(), content.is_none());
     }
 }
 
@@ -114,7 +184,6 @@ fn fields_of_a_head() {
         found,
         [
             ("Priority", 2, 12),
-            ("Priority", 2, 12),
             ("Example", 3, 16),
             ("Cache-Status", 5, 25)
         ]
@@ -128,7 +197,7 @@ fn fields_of_a_head() {
     let hop = Hop::new(TokenRef::constant("edge")).with_outcome(Outcome::Hit);
     let sent = head.append_or_replace(&hop).unwrap();
     assert_eq!(sent.as_str(), "origin;fwd=miss, edge;hit, 7, edge;hit");
-    assert_eq!(head.malformed().len(), 4);
+    assert_eq!(head.malformed().len(), 3);
 
     let mut head = Head::parse(parser(), "Cache-Status: a; hit,\r\n\r\n").unwrap();
     assert_eq!(head.append_or_replace(&hop).unwrap().as_str(), "edge;hit");
@@ -169,8 +238,8 @@ fn faults_of_decisions() {
         (
             "Expires:  0 \nDate: Sun\n",
             &[
-                "Expires: not an HTTP-date\nline 1, place 10:\nExpires:  0 \n          ^",
-                "Date: not an HTTP-date\nline 2, place 6:\nDate: Sun\n      ^",
+                "Expires: not an HTTP-date, as Sun, 06 Nov 1994 08:49:37 GMT\nline 1, place 10:\nExpires:  0 \n          ^",
+                "Date: not an HTTP-date, as Sun, 06 Nov 1994 08:49:37 GMT\nline 2, place 6:\nDate: Sun\n      ^",
             ],
         ),
         (
@@ -181,7 +250,7 @@ fn faults_of_decisions() {
         (
             "Date: x\nDate: Sun, 06 Nov 1994 08:49:37 GMT\nDate: x\n",
             &[
-                "Date: not an HTTP-date\nline 1, place 6:\nDate: x\n      ^",
+                "Date: not an HTTP-date, as Sun, 06 Nov 1994 08:49:37 GMT\nline 1, place 6:\nDate: x\n      ^",
                 "Date: there are several lines\nline 2, place 6:\nDate: Sun, 06 Nov 1994 08:\n      ^",
             ],
         ),
@@ -193,19 +262,65 @@ fn faults_of_decisions() {
     ];
     let exchange = Exchange::at(Cache::Shared, 784_111_777).with_status(200);
     for (text, expected) in rows {
-        let mut head = Head::parse(parser(), text).unwrap();
+        let text = format!("{text}\n");
+        let mut head = Head::parse(parser(), &text).unwrap();
         let verdict = head.decide(&exchange, &["T"]).unwrap();
+        assert_eq!(head.decide(&exchange, &["T"]).unwrap(), verdict); // the faults are there once
         assert_eq!(messages(&head, 26), *expected, "{text}");
         assert_eq!(
             verdict,
             parser().decide(&exchange, &["T"], head.lines()).unwrap()
         );
     }
-    let mut head = Head::parse(parser(), "Cache-Control: max-age=60\nAge 1\n").unwrap();
-    let verdict = head.decide(&exchange, &[]).unwrap();
-    assert_eq!(verdict.obstacle, Some(Obstacle::Line));
-    let mut head = Head::parse(parser(), "Cache-Control: max-age=60\n").unwrap();
+}
+
+/// What forbids to store a response beside its directives.
+#[test]
+fn obstacles() {
+    let rows = [
+        ("HTTP/1.1 200 OK\n\n", None, None),
+        (
+            "HTTP/1.1 200 OK\nAge: 1\n",
+            None,
+            Some(Obstacle::Incomplete),
+        ),
+        (
+            "HTTP/1.1 200 OK\nAge 1\n\n",
+            None,
+            Some(Obstacle::Incomplete),
+        ),
+        (
+            "HTTP/1.1 200 OK\nCache-Control: no-store\n",
+            None,
+            Some(Obstacle::Directive),
+        ),
+        ("HTTP/1.1 500 No\n\n", None, Some(Obstacle::Unpermitted)),
+        (
+            "HTTP/1.1 103 Early\nCache-Control: max-age=1\n\n",
+            None,
+            Some(Obstacle::Status),
+        ),
+        ("HTTP/1.1 500 No\n\n", Some(200), None),
+        ("HTTP/1.1 2x0 OK\n\n", Some(200), Some(Obstacle::Incomplete)),
+    ];
+    for (text, status, obstacle) in rows {
+        let exchange = Exchange {
+            status,
+            ..Exchange::at(Cache::Shared, 784_111_777)
+        };
+        let mut head = Head::parse(parser(), text).unwrap();
+        assert_eq!(
+            head.decide(&exchange, &[]).unwrap().obstacle,
+            obstacle,
+            "{text}"
+        );
+    }
+    let mut head = Head::parse(parser(), "Cache-Control: max-age=60\n\n").unwrap();
+    let exchange = Exchange::at(Cache::Shared, 784_111_777);
     let verdict = head.decide(&exchange.with_incomplete(true), &[]).unwrap();
-    assert_eq!(verdict.obstacle, Some(Obstacle::Line));
+    assert_eq!(
+        verdict.to_string(),
+        "Cache-Control: fresh for 60 s (max-age); not stored: the head is incomplete"
+    );
     assert!(head.decide(&exchange, &[]).unwrap().may_store());
 }
