@@ -635,7 +635,8 @@ static inline sf_status sf_write_tree(sf_context *context, const sf_tree *tree, 
 
 /*
  * Writes the bare item of a node of a tree, without its key and its parameters, as it is in a
- * canonical text: "a", :YQ==: or ?1.
+ * canonical text: "a", :YQ==: or ?1. If the tree is as sf_read_tree made it, a buffer of
+ * SF_CANONICAL_SIZE(tree->text.length) bytes is large enough.
  *
  *   SF_OK        the first out->length bytes of out are the text
  *   SF_SHORT     it has out->required bytes, more than the capacity
@@ -648,8 +649,9 @@ static inline sf_status sf_write_bare(sf_context *context, const sf_tree *tree, 
                                      sf_buffer *out);
 
 /* Writes an Item or an Inner List of a tree with its parameters, without the key of a member:
- * ("a" "b");q=1. The results are those of sf_write_bare, but a parameter is SF_INVALID. While the
- * call runs, the first node of the part is changed; after it the tree is as before. */
+ * ("a" "b");q=1. The results and the size are those of sf_write_bare, but a parameter is
+ * SF_INVALID. While the call runs, the first node of the part is changed; after it the tree is as
+ * before. */
 SF_USE_RESULT
 static inline sf_status sf_write_part(sf_context *context, sf_tree *tree, const sf_node *node,
                                      sf_buffer *out);
@@ -920,7 +922,8 @@ typedef enum sf_outcome {
   SF_CONFLICT = 3   /* hit is true and fwd is present, though the RFC allows only one of them */
 } sf_outcome;
 
-/* Returns the name of an outcome, for messages; "?" if there is no such outcome. */
+/* Returns the name of an outcome, for messages: "unsaid", "hit", "forwarded" or "hit and
+ * forwarded"; "?" if there is no such outcome. */
 static inline const char *sf_outcome_name(uint32_t outcome);
 
 /* Returns whether a status code is a valid one, from 100 to 599: RFC 9110 section 15 calls all
@@ -1148,24 +1151,26 @@ typedef enum sf_reason {
   SF_FAULT_REPEATED = 93,   /* there is a second line of Expires or Date */
   SF_FAULT_NOT_AN_AGE = 94, /* the first member of Age is not one or more digits (RFC 9111 section
                                5.1) */
-  SF_FAULT_NOT_A_LINE = 95  /* the line is no field line: location.refusal says where and why; see
+  SF_FAULT_NOT_A_LINE = 95, /* the line is no field line: location.refusal says where and why; see
                                sf_add_head_line */
+  SF_FAULT_NO_END = 96      /* the head does not end with an empty line: see sf_take_head */
 } sf_reason;
 
 /* A line or a field of a head that is malformed. */
 typedef struct sf_fault {
-  const char *field;    /* the name by which the field was looked up; "" for SF_FAULT_NOT_A_LINE */
+  const char *field;    /* the name by which the field was looked up; "" for SF_FAULT_NOT_A_LINE and
+                           SF_FAULT_NO_END */
   uint32_t reason;      /* an sf_reason */
-  sf_location location; /* the line as it was received, and the place in it. With the reasons
-                           between the first and the last, it is where the value begins, and the
-                           refusal says no more */
+  sf_location location; /* the line as it was received, and the place in it. Unless the reason is
+                           SF_FAULT_REFUSED or SF_FAULT_NOT_A_LINE, that is where the value begins,
+                           and the refusal says no more; for SF_FAULT_NO_END the line is empty */
 } sf_fault;
 
 /* A buffer for faults. */
 typedef struct sf_faults {
   sf_fault *at;
   size_t capacity;
-  size_t length;   /* how many were kept: the first ones */
+  size_t length;   /* how many were kept, those that were found first, in the order of the lines */
   size_t required; /* how many were found */
 } sf_faults;
 
@@ -1231,7 +1236,8 @@ static inline sf_status sf_add_head_line(sf_head *head, sf_text line);
  * one are skipped (RFC 9112 section 2.2).
  *
  *   SF_OK     the head has ended: *rest is what comes after it
- *   SF_EMPTY  the text ended before the head did. Lines may be missing: head->is_truncated is 1
+ *   SF_EMPTY  the text ended before the head did. Lines may be missing: head->is_truncated is 1,
+ *             and head->faults tells
  *   SF_SHORT  head->lines.required lines are required; *rest begins with the line that is too many
  */
 SF_USE_RESULT
@@ -1440,7 +1446,8 @@ typedef enum sf_reuse {
                                 allows_storing permits it, and a heuristic may apply (4.2.2) */
 } sf_reuse;
 
-/* Returns the name of an sf_reuse, such as "fresh"; "?" if there is no such one. */
+/* Returns the name of an sf_reuse: "not stored", "fresh", "stale", "revalidate" or "unspecified";
+ * "?" if there is no such one. */
 static inline const char *sf_reuse_name(uint32_t reuse);
 
 /* The directive that decided (RFC 9111 section 5.2.2). */
@@ -1495,9 +1502,9 @@ typedef struct sf_exchange {
                              not known either, it is taken for a final one that is not
                              heuristically cacheable */
   uint32_t is_understood; /* 1 if the cache understands the status code and implements its
-                             requirements, otherwise 0: counts for 206, 304 and must-understand. For
-                             most caches it is 1 for 200 and the codes that they treat alike */
-  uint32_t is_authorized; /* 1 if the request had Authorization, otherwise 0 */
+                             requirements, otherwise 0: counts for 206, 304 and must-understand.
+                             Most caches understand 200; with 0, fewer responses are stored */
+  uint32_t is_authorized; /* 1 if the request had Authorization, otherwise 0: see sf_set_request */
   uint64_t requested;     /* when the request was sent */
   uint64_t received;      /* when the response was received */
   uint64_t now;           /* when the response would be used */
@@ -1506,6 +1513,10 @@ typedef struct sf_exchange {
 /* Returns an exchange at one time: a response to a request that was sent just now, and that would
  * be used now. Of its other members, which are 0, set what is known. */
 static inline sf_exchange sf_exchange_of(sf_cache cache, uint64_t now);
+
+/* Sets is_authorized of an exchange by the head of the request: to 1 if it has Authorization, or
+ * may have had it, since a line of it is no field line or it did not end. Returns nothing. */
+static inline void sf_set_request(sf_exchange *exchange, const sf_head *request);
 
 /* Why a response may not be stored (RFC 9111 section 3). */
 typedef enum sf_obstacle {
@@ -1516,8 +1527,8 @@ typedef enum sf_obstacle {
                                permits it (3.5) */
   SF_BARRED_UNPERMITTED = 85, /* nothing permits it: no directive, no Expires, and the status code
                                  is not heuristically cacheable (RFC 9110 section 15.1) */
-  SF_BARRED_HEAD = 86         /* a line of the head is no field line (sf_head.is_incomplete), or the
-                                 head did not end (is_truncated) */
+  SF_BARRED_HEAD = 86         /* a line of the head is no field line (sf_head.is_incomplete), the
+                                 head did not end (is_truncated), or it is that of a request */
 } sf_obstacle;
 
 /* Returns an obstacle in words, such as "the status code forbids it"; "" for SF_NO_OBSTACLE and for
@@ -1537,7 +1548,7 @@ typedef struct sf_verdict {
                            has_ttl is 0 */
   uint32_t has_ttl;     /* 1 if a lifetime decided, otherwise 0, as by no-cache */
   const char *field;    /* the name of the field that decides: that of a target, otherwise Expires
-                           or Cache-Control; Cache-Control, too, if the head has none of them */
+                           or Cache-Control; NULL if the head has none of them */
   size_t target;        /* index of that target; the length of the target list if none decides */
   uint32_t is_refused;  /* 1 if no target decides and a line of Cache-Control is malformed, so that
                            it counts as no-store; otherwise 0 */
@@ -1598,10 +1609,13 @@ static inline sf_status sf_decide_response(sf_context *context, sf_head *head, s
 #define SF_VERDICT_SIZE(name_length) (sizeof(char) * (name_length) + 128)
 
 /*
- * Writes a verdict in words: the field, sf_reuse_name and the seconds, sf_cause_name, and the
- * obstacle if that is no directive, such as
+ * Writes a verdict in words: the field, unless it is NULL; sf_reuse_name and the seconds;
+ * sf_cause_name, or "malformed" if is_refused is 1; and the obstacle if that is no directive. Such
+ * as
  *
  *   CDN-Cache-Control: fresh for 600 s (max-age); not stored: the head is incomplete
+ *
+ * If the text does not have "not stored", the response may be stored.
  *
  *   SF_OK     the first out->length bytes of out are the text
  *   SF_SHORT  it has out->required bytes, more than the capacity

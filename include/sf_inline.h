@@ -1085,8 +1085,8 @@ static inline void sf_expect(sf_refusal *refusal, unsigned byte) {
 
 /* Splits a line at its colon, or says where it is no field line (RFC 9112 section 5): the place,
  * and the bytes that may be there by the grammar. White space before the colon is skipped, but not
- * in a request (section 5.1); in a value only CR, LF and NUL are refused (RFC 9110 section 5.5). For
- * the functions below. */
+ * in a request (section 5.1); in a value only CR, LF and NUL are refused (RFC 9110 section 5.5).
+ * For the functions below. */
 static inline int sf_split_line(sf_text line, int is_request, sf_text *name, sf_text *value,
                                 sf_refusal *refusal) {
   size_t at = 0;
@@ -1160,25 +1160,24 @@ static inline int sf_is_request_line(sf_text line) {
              line.length - version;
 }
 
-/* Adds a fault to those of a head, unless it is one of them: for the functions below. */
+/* Adds a fault to those of a head, in the order of the lines, unless it is one of them: for the
+ * functions below. */
 static inline void sf_note_fault(sf_head *head, const char *field, sf_reason reason,
                                  const sf_location *location) {
-  size_t i;
-  sf_fault *fault;
-  for (i = 0; i < head->faults.length; ++i) {
-    fault = head->faults.at + i;
-    if (strcmp(fault->field, field) == 0 && fault->reason == (uint32_t)reason &&
-        fault->location.number == location->number &&
-        fault->location.refusal.offset == location->refusal.offset)
+  sf_fault *faults = head->faults.at;
+  size_t i = head->faults.length;
+  for (; i > 0 && faults[i - 1].location.number >= location->number; --i)
+    if (strcmp(faults[i - 1].field, field) == 0 && faults[i - 1].reason == (uint32_t)reason &&
+        faults[i - 1].location.refusal.offset == location->refusal.offset)
       return;
-  }
   ++head->faults.required;
-  if (head->faults.length < head->faults.capacity) {
-    fault = head->faults.at + head->faults.length++;
-    fault->field = field;
-    fault->reason = (uint32_t)reason;
-    fault->location = *location;
-  }
+  if (head->faults.length >= head->faults.capacity)
+    return;
+  for (i = head->faults.length++; i > 0 && faults[i - 1].location.number > location->number; --i)
+    faults[i] = faults[i - 1];
+  faults[i].field = field;
+  faults[i].reason = (uint32_t)reason;
+  faults[i].location = *location;
 }
 
 static inline sf_status sf_add_head_line(sf_head *head, sf_text line) {
@@ -1208,6 +1207,7 @@ static inline sf_status sf_add_head_line(sf_head *head, sf_text line) {
 }
 
 static inline sf_status sf_take_head(sf_head *head, sf_text *rest) {
+  sf_location location;
   while (rest->length > 0) {
     sf_text before = *rest;
     int is_begun = head->is_begun != 0;
@@ -1222,6 +1222,11 @@ static inline sf_status sf_take_head(sf_head *head, sf_text *rest) {
     }
   }
   head->is_truncated = 1;
+  memset(&location, 0, sizeof location);
+  location.index = head->lines.length;
+  location.number = head->number;
+  location.line = sf_text_of("", 0);
+  sf_note_fault(head, "", SF_FAULT_NO_END, &location);
   return SF_EMPTY;
 }
 
@@ -1318,15 +1323,32 @@ static inline void sf_note_value(sf_head *head, const char *name, sf_reason reas
   sf_note_fault(head, name, reason, &location);
 }
 
+/* Returns in words why a line is no field line: for the function below. */
+static inline const char *sf_line_fault(const sf_location *location) {
+  const sf_refusal *refusal = &location->refusal;
+  int is_space = refusal->found == ' ' || refusal->found == '\t';
+  if (location->line.length >= 5 && memcmp(location->line.at, "HTTP/", 5) == 0)
+    return "neither a status line nor a field line";
+  if (refusal->may_end)
+    return "not a field line: a CR, LF or NUL in the value";
+  if (refusal->offset == 0)
+    return is_space ? "not a field line: it continues the line before"
+                    : "not a field line: no name";
+  return is_space && memchr(location->line.at, ':', location->line.length) != NULL
+             ? "not a field line: white space before the colon"
+             : "not a field line: no colon after the name";
+}
+
 static inline sf_status sf_show_fault(const sf_fault *fault, size_t most, sf_buffer *out) {
-  int is_line = fault->reason == SF_FAULT_NOT_A_LINE;
   const char *words =
-      fault->reason == SF_FAULT_NOT_A_DATE ? "not an HTTP-date, as Sun, 06 Nov 1994 08:49:37 GMT"
-      : fault->reason == SF_FAULT_REPEATED ? "there are several lines"
-      : fault->reason == SF_FAULT_NOT_AN_AGE ? "not a number of seconds"
+      fault->reason == SF_FAULT_NOT_A_DATE
+          ? "expected an HTTP-date, such as Sun, 06 Nov 1994 08:49:37 GMT"
+      : fault->reason == SF_FAULT_REPEATED   ? "there are several lines"
+      : fault->reason == SF_FAULT_NOT_AN_AGE ? "expected a number of seconds"
+      : fault->reason == SF_FAULT_NOT_A_LINE ? sf_line_fault(&fault->location)
+      : fault->reason == SF_FAULT_NO_END     ? "the head does not end with an empty line"
                                              : NULL;
-  return sf_show_place(sf_cstr(is_line ? "not a field line" : fault->field), words,
-                       &fault->location, most, out);
+  return sf_show_place(sf_cstr(fault->field), words, &fault->location, most, out);
 }
 
 /* Returns the status of a call that looked up a field and read it with this status. One that is
@@ -1436,6 +1458,11 @@ static inline sf_exchange sf_exchange_of(sf_cache cache, uint64_t now) {
   return exchange;
 }
 
+static inline void sf_set_request(sf_exchange *exchange, const sf_head *request) {
+  exchange->is_authorized =
+      request->is_incomplete || request->is_truncated || sf_has_field(request, "Authorization");
+}
+
 static inline const char *sf_obstacle_name(uint32_t obstacle) {
   switch (obstacle) {
   case SF_BARRED_DIRECTIVE:
@@ -1459,7 +1486,7 @@ static inline uint32_t sf_obstacle_of(const sf_decision *decision, const sf_exch
   uint32_t status = exchange->status != 0 ? exchange->status : head->status;
   if (decision->reuse == SF_REUSE_NOT_STORED)
     return SF_BARRED_DIRECTIVE;
-  if (head->is_incomplete || head->is_truncated)
+  if (head->is_incomplete || head->is_truncated || head->is_request)
     return SF_BARRED_HEAD;
   if (status != 0 && status < 200)
     return SF_BARRED_STATUS;
@@ -1700,9 +1727,10 @@ static inline sf_status sf_decide_response(sf_context *context, sf_head *head, s
   verdict->decision = decision;
   verdict->age = response.age;
   sf_set_ttl(verdict, &choice.rules, &response, exchange->cache == SF_SHARED_CACHE);
-  verdict->field = choice.index < targets_length       ? targets[choice.index].name
-                   : decision.cause == SF_BY_EXPIRES ? "Expires"
-                                                     : "Cache-Control";
+  verdict->field = choice.index < targets_length              ? targets[choice.index].name
+                   : decision.cause == SF_BY_EXPIRES        ? "Expires"
+                   : sf_has_field(head, "Cache-Control") ? "Cache-Control"
+                                                            : NULL;
   verdict->target = choice.index;
   verdict->is_refused = fallback.is_refused;
   verdict->refused_line = refused_line;
@@ -1722,10 +1750,13 @@ static inline void sf_put_words(sf_buffer *out, const char *words) {
 
 static inline sf_status sf_write_verdict(const sf_verdict *verdict, sf_buffer *out) {
   char seconds[32], *end;
-  const char *cause = sf_cause_name(verdict->decision.cause);
+  const char *cause =
+      verdict->is_refused ? "malformed" : sf_cause_name(verdict->decision.cause);
   out->length = 0;
-  sf_put_words(out, verdict->field);
-  sf_put_words(out, ": ");
+  if (verdict->field != NULL) {
+    sf_put_words(out, verdict->field);
+    sf_put_words(out, ": ");
+  }
   sf_put_words(out, sf_reuse_name(verdict->decision.reuse));
   if (verdict->decision.reuse == SF_REUSE_FRESH) {
     end = sf_put_number(seconds, " for ", verdict->decision.seconds);

@@ -5,8 +5,8 @@ use crate::malformed::{Fault, Malformed};
 #[cfg(feature = "std")]
 use crate::Dialect;
 use crate::{
-    age, field_text, Cache, CacheRules, Cause, Decision, Error, Fallback, FieldDate, FieldLine,
-    Forward, Forwarded, Hop, Integer, Name, Parser, Response, Reuse, Seconds,
+    age, field_text, has_field, Cache, CacheRules, Cause, Decision, Error, Fallback, FieldDate,
+    FieldLine, Forward, Forwarded, Head, Hop, Integer, Name, Parser, Response, Reuse, Seconds,
 };
 use alloc::vec::Vec;
 use core::fmt;
@@ -25,7 +25,7 @@ use core::fmt;
 /// ];
 /// let exchange = Exchange::at(Cache::Shared, 784_111_777).with_status(200);
 /// let verdict = exchange.decide(&targets, &head).unwrap();
-/// assert_eq!(verdict.field, "CDN-Cache-Control");
+/// assert_eq!(verdict.field, Some("CDN-Cache-Control"));
 /// assert_eq!(verdict.decision.reuse, Reuse::Fresh { seconds: 580 });
 /// assert!(verdict.may_store());
 /// assert_eq!(
@@ -111,7 +111,7 @@ impl Exchange {
     }
 
     /// The same with whether the cache understands the status code and implements its requirements,
-    /// as most caches do for 200.
+    /// as most caches do for 200. Without it, fewer responses are stored.
     ///
     /// ```
     /// use sf::{Cache, Exchange};
@@ -141,6 +141,19 @@ impl Exchange {
             is_authorized,
             ..self
         }
+    }
+
+    /// The same with whether the request had `Authorization`, by its head. If a line of that head is no
+    /// field line, or it did not end, it may have had the field, and so it counts.
+    ///
+    /// ```
+    /// use sf::{Cache, Exchange, Head, Parser};
+    /// let request = Head::parse(Parser::new(), "GET / HTTP/1.1\r\nAuthorization: a\r\n\r\n").unwrap();
+    /// assert!(Exchange::at(Cache::Shared, 784_111_777).with_request(&request).is_authorized);
+    /// ```
+    #[must_use]
+    pub fn with_request(self, request: &Head<'_>) -> Exchange {
+        self.with_authorization(request.is_incomplete() || request.has_field("Authorization"))
     }
 
     /// The same with whether a line of the head is no field line, or the head did not end. A
@@ -223,8 +236,8 @@ impl Exchange {
     /// let field = |dialect| {
     ///     exchange.decide_in(dialect, &["CDN-Cache-Control"], &head).unwrap().field
     /// };
-    /// assert_eq!(field(Dialect::Rfc8941), "Cache-Control");
-    /// assert_eq!(field(Dialect::Rfc9651), "CDN-Cache-Control");
+    /// assert_eq!(field(Dialect::Rfc8941), Some("Cache-Control"));
+    /// assert_eq!(field(Dialect::Rfc9651), Some("CDN-Cache-Control"));
     /// ```
     #[cfg(feature = "std")]
     pub fn decide_in<'a, H>(
@@ -305,8 +318,8 @@ pub struct Verdict<'a> {
     /// response may not be stored, this is what the directives alone say.
     pub decision: Decision,
     /// The name of the field that decides: one of the target list, otherwise `Expires` or
-    /// `Cache-Control`; `Cache-Control`, too, if the head has none of them.
-    pub field: &'a str,
+    /// `Cache-Control`; `None` if the head has none of them.
+    pub field: Option<&'a str>,
     /// The index of that field in the target list; `None` if none of it decides.
     pub target: Option<usize>,
     /// The directives of that field.
@@ -414,6 +427,12 @@ impl Verdict<'_> {
         self.obstacle.is_none()
     }
 
+    /// Whether no target decides and `Cache-Control` is malformed, so that it counts as `no-store`.
+    fn is_refused(&self) -> bool {
+        let mut names = self.malformed.iter().map(|malformed| malformed.field);
+        self.target.is_none() && names.any(|name| name == "Cache-Control")
+    }
+
     /// The hop of a cache with this name that forwarded the request for this reason, with `stored`
     /// and `ttl` by this verdict.
     ///
@@ -446,7 +465,14 @@ impl Verdict<'_> {
 
 impl fmt::Display for Verdict<'_> {
     fn fmt(&self, f: &mut fmt::Formatter<'_>) -> fmt::Result {
-        write!(f, "{}: {}", self.field, self.decision)?;
+        if let Some(field) = self.field {
+            write!(f, "{field}: ")?;
+        }
+        if self.is_refused() {
+            write!(f, "{} (malformed)", self.decision.reuse)?;
+        } else {
+            write!(f, "{}", self.decision)?;
+        }
         match self.obstacle {
             None | Some(Obstacle::Directive) => Ok(()),
             Some(obstacle) => write!(f, "; not stored: {obstacle}"),
@@ -487,6 +513,7 @@ impl Parser {
             let fallback = Fallback::read(head.clone(), &mut malformed)?;
             (fallback.rules(), fallback.lifetime(exchange.received))
         };
+        let has_cache_control = has_field(head.clone(), "Cache-Control");
         let age = age_of(head, &mut malformed)?;
         let response = Response {
             age: age.saturating_add(exchange.since_request()),
@@ -495,9 +522,9 @@ impl Parser {
         };
         let decision = rules.decide(exchange.cache, response);
         let field = match (obeyed, decision.cause) {
-            (Some((index, _)), _) => targets[index],
-            (None, Some(Cause::Expires)) => "Expires",
-            (None, _) => "Cache-Control",
+            (Some((index, _)), _) => Some(targets[index]),
+            (None, Some(Cause::Expires)) => Some("Expires"),
+            (None, _) => has_cache_control.then_some("Cache-Control"),
         };
         Ok(Verdict {
             obstacle: exchange.obstacle(&decision, response.lifetime.is_some()),

@@ -88,15 +88,12 @@ impl FieldLine for HeadLine<'_> {
 /// let head = Head::parse(Parser::new(), "Age 20\r\n\r\n").unwrap();
 /// let malformed = head.malformed()[0];
 /// assert!(matches!(malformed.fault, Fault::NotALine(refusal) if refusal.offset == 4));
-/// assert_eq!(
-///     malformed.to_string(),
-///     "line 1: not a field line: byte 0x32 '2' at place 4, expected `:`, a tab or a space"
-/// );
+/// assert_eq!(malformed.to_string(), "line 1: not a field line: no colon after the name");
 /// ```
 #[derive(Clone, Copy, Debug, PartialEq, Eq)]
 #[non_exhaustive]
 pub struct HeadFault<'a> {
-    /// The name of the field; empty for a line that is no field line.
+    /// The name of the field; empty for a line that is no field line, and for a head without an end.
     pub field: &'a str,
     /// What is wrong. The offset of a refusal is one in the line.
     pub fault: Fault,
@@ -119,7 +116,7 @@ impl<'a> HeadFault<'a> {
     /// head.decide(&Exchange::at(Cache::Shared, 784_111_777), &[]).unwrap();
     /// assert_eq!(
     ///     head.malformed()[0].excerpt(8).to_string(),
-    ///     "Age: not a number of seconds\nline 1, place 5:\nge: 1 da\n    ^"
+    ///     "Age: expected a number of seconds\nline 1, place 5:\nge: 1 da\n    ^"
     /// );
     /// ```
     #[must_use]
@@ -195,6 +192,14 @@ impl<'a> Head<'a> {
             head.add_line(line)?;
         }
         head.is_incomplete = true;
+        let fault = HeadFault {
+            field: "",
+            fault: Fault::NoEnd,
+            number: head.number,
+            line: b"",
+            offset: 0,
+        };
+        append(&mut head.malformed, &[fault])?;
         Ok(head)
     }
 
@@ -236,9 +241,10 @@ impl<'a> Head<'a> {
         }
         let is_start = is_first && (self.status.is_some() || self.is_request);
         if !received.is_empty() && !is_start {
+            let is_version = received.starts_with(b"HTTP/");
             let fault = HeadFault {
                 field: "",
-                fault: Fault::NotALine(refusal),
+                fault: [Fault::NotALine(refusal), Fault::NotAStatusLine][usize::from(is_version)],
                 number: self.number,
                 line: received,
                 offset: usize::try_from(refusal.offset).unwrap_or(usize::MAX),
@@ -371,8 +377,8 @@ impl<'a> Head<'a> {
         self.content
     }
 
-    /// What was found to be malformed so far, in the order in which it was found: lines that are no
-    /// field lines, and fields that were read.
+    /// What was found to be malformed so far, in the order of the lines: lines that are no field
+    /// lines, and fields that were read.
     ///
     /// ```
     /// let mut head = sf::Head::parse(sf::Parser::new(), "Priority: u=\r\n\r\n").unwrap();
@@ -458,7 +464,7 @@ impl<'a> Head<'a> {
 
     /// Decides what a cache does with the response: see [`Exchange::decide_in`]. If the exchange has
     /// no status code, that of the start line counts. The head is incomplete if the exchange or this
-    /// head says so.
+    /// head says so, or if it is that of a request.
     ///
     /// # Errors
     ///
@@ -479,7 +485,7 @@ impl<'a> Head<'a> {
     ) -> Result<Verdict<'a>, Error> {
         let exchange = Exchange {
             status: exchange.status.or(self.status),
-            is_incomplete: exchange.is_incomplete || self.is_incomplete,
+            is_incomplete: exchange.is_incomplete || self.is_incomplete || self.is_request,
             ..*exchange
         };
         let verdict = self.parser.decide(&exchange, targets, &self.lines)?;
@@ -548,7 +554,12 @@ impl<'a> Head<'a> {
         if self.malformed.contains(&found) {
             return Ok(());
         }
-        append(&mut self.malformed, &[found])
+        append(&mut self.malformed, &[found])?;
+        let is_before = |one: &HeadFault<'_>| one.number <= found.number;
+        let others = self.malformed.len() - 1;
+        let before = self.malformed[..others].iter().rposition(is_before);
+        self.malformed[before.map_or(0, |last| last + 1)..].rotate_right(1);
+        Ok(())
     }
 }
 

@@ -290,12 +290,12 @@ impl<'a> From<Forwarded<'a>> for Outcome<'a> {
 }
 
 impl<'a> Outcome<'a> {
-    /// Its name, which its `Display` is, too: the words of `sf_outcome_name`.
+    /// Its name: the words of `sf_outcome_name`. Its `Display` has the reason, too.
     ///
     /// ```
     /// let forwarded = sf::Forwarded::new(sf::Forward::Miss);
     /// assert_eq!(sf::Outcome::from(forwarded).as_str(), "forwarded");
-    /// assert_eq!(sf::Outcome::Conflict(forwarded).to_string(), "hit and forwarded");
+    /// assert_eq!(sf::Outcome::Conflict(forwarded).as_str(), "hit and forwarded");
     /// ```
     #[must_use]
     pub fn as_str(self) -> &'static str {
@@ -323,9 +323,20 @@ impl<'a> Outcome<'a> {
     }
 }
 
+/// The outcome, and the reason if the request was forwarded.
+///
+/// ```
+/// let path = sf::Path::parse("a; fwd=uri-miss, b; hit").unwrap();
+/// let outcomes: Vec<_> = path.hops().map(|hop| hop.outcome.to_string()).collect();
+/// assert_eq!(outcomes, ["forwarded (uri-miss)", "hit"]);
+/// ```
 impl fmt::Display for Outcome<'_> {
     fn fmt(&self, f: &mut fmt::Formatter<'_>) -> fmt::Result {
-        f.pad(self.as_str())
+        f.write_str(self.as_str())?;
+        match self.forwarded() {
+            Some(forwarded) => write!(f, " ({})", forwarded.why),
+            None => Ok(()),
+        }
     }
 }
 

@@ -47,17 +47,38 @@ pub enum Fault {
     /// A line of a [`Head`](crate::Head) that is no field line: see
     /// [`split_field_line`](crate::split_field_line()).
     NotALine(Refusal),
+    /// A line of a [`Head`](crate::Head) that begins with `HTTP/`, and is neither its status line
+    /// nor a field line.
+    NotAStatusLine,
+    /// A [`Head`](crate::Head) that does not end with an empty line.
+    NoEnd,
 }
 
 impl fmt::Display for Fault {
     fn fmt(&self, f: &mut fmt::Formatter<'_>) -> fmt::Result {
         match self {
             Fault::Refused(refusal) => refusal.fmt(f),
-            Fault::NotADate => f.pad("not an HTTP-date, as Sun, 06 Nov 1994 08:49:37 GMT"),
+            Fault::NotADate => {
+                f.pad("expected an HTTP-date, such as Sun, 06 Nov 1994 08:49:37 GMT")
+            }
             Fault::Repeated => f.pad("there are several lines"),
-            Fault::NotAnAge => f.pad("not a number of seconds"),
-            Fault::NotALine(refusal) => write!(f, "not a field line: {refusal}"),
+            Fault::NotAnAge => f.pad("expected a number of seconds"),
+            Fault::NotALine(refusal) => write!(f, "not a field line: {}", line_fault(refusal)),
+            Fault::NotAStatusLine => f.pad("neither a status line nor a field line"),
+            Fault::NoEnd => f.pad("the head does not end with an empty line"),
         }
+    }
+}
+
+/// Why a line is no field line, in words.
+fn line_fault(refusal: &Refusal) -> &'static str {
+    let is_space = matches!(refusal.found, Some(b' ' | b'\t'));
+    match refusal {
+        Refusal { may_end: true, .. } => "a CR, LF or NUL in the value",
+        Refusal { offset: 0, .. } if is_space => "it continues the line before",
+        Refusal { offset: 0, .. } => "no name",
+        _ if is_space => "white space before the colon",
+        _ => "no colon after the name",
     }
 }
 

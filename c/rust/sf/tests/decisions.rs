@@ -74,7 +74,8 @@ fn rows_of_the_table() {
             // A row that no target decides is from Cache-Control, also if Expires beside it decides.
             let by_expires = want.ends_with(" expires") && from == "Cache-Control";
             let field = if by_expires { "Expires" } else { from.as_str() };
-            assert_eq!(verdict.field, field, "{row}");
+            let is_there = field != "Cache-Control" || sf::has_field(head, field);
+            assert_eq!(verdict.field, is_there.then_some(field), "{row}");
             match verdict.decision.reuse {
                 Reuse::Fresh { seconds } => {
                     assert_eq!(verdict.ttl, seconds.try_into().ok(), "{row}");
@@ -266,12 +267,12 @@ fn malformed_fields_are_listed() {
     let shown: Vec<_> = verdict.malformed.iter().map(|it| it.to_string()).collect();
     assert_eq!(
         shown[1],
-        "Expires: not an HTTP-date, as Sun, 06 Nov 1994 08:49:37 GMT"
+        "Expires: expected an HTTP-date, such as Sun, 06 Nov 1994 08:49:37 GMT"
     );
     assert_eq!(shown[3], "Expires: there are several lines");
     assert!(shown[4].starts_with("Cache-Control: byte 0x62 'b' at place 3, expected "));
-    assert_eq!(shown[5], "Age: not a number of seconds");
-    assert_eq!(verdict.field, "Cache-Control");
+    assert_eq!(shown[5], "Age: expected a number of seconds");
+    assert_eq!(verdict.field, Some("Cache-Control"));
     assert!(verdict.rules.policy.no_store && !verdict.may_store());
     // Of many lines the second is reported.
     let lines = [("Date", "0"); 100];
@@ -475,7 +476,7 @@ fn each_call_has_a_dialect() {
     let by = |dialect| NOW.decide_in(dialect, &TARGETS, &head).unwrap();
     assert_eq!(
         (by(old).field, by(old).malformed.len()),
-        ("Cache-Control", 1)
+        (Some("Cache-Control"), 1)
     );
     assert_eq!(by(new), NOW.decide(&TARGETS, &head).unwrap());
 }

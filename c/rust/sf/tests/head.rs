@@ -85,7 +85,8 @@ fn start_lines() {
 /// Where lines are no field lines, and some of the bytes that are expected there.
 #[test]
 fn lines_that_are_no_field_lines() {
-    let rows: [(&[u8], u64, Option<u8>, bool, &[u8], &[u8]); 9] = [
+    type Row<'a> = (&'a [u8], u64, Option<u8>, bool, &'a [u8], &'a [u8]);
+    let rows: [Row<'_>; 9] = [
         (b"Age", 3, None, false, b":a! \t", b"\"("),
         (b"Age 20", 4, Some(b'2'), false, b": \t", b"2a"),
         (b" x", 0, Some(b' '), false, b"a0~", b": \t"),
@@ -141,9 +142,7 @@ fn lines_of_a_head() {
     assert_eq!(found, [(5, &b"Via"[..]), (6, &b"\tx"[..])]);
     assert_eq!(
         messages(&head, 9)[0],
-        "not a field line: the text ended at place 3, expected a key character, an upper-case letter, \
-         `!`, `#`, `$`, `%`, `&`, `'`, `+`, `:`, `^`, a backquote, `|`, `~`, a tab or a space\n\
-         line 5, place 3:\nVia\n   ^"
+        "not a field line: no colon after the name\nline 5, place 3:\nVia\n   ^"
     );
     for (text, lines, content) in [
         ("", 0, None),
@@ -226,20 +225,20 @@ fn faults_of_decisions() {
             &[
                 "T: the text ended at place 14, expected a lower-case letter, `*`, a tab or a \
                  space\nline 1, place 14:\nT: max-age=60,\n              ^",
-                "Age: not a number of seconds\nline 2, place 6:\nAge: ?90x \n      ^",
+                "Age: expected a number of seconds\nline 2, place 6:\nAge: ?90x \n      ^",
             ],
         ),
         (
             "Age:\nAge: 5\n",
-            &["Age: not a number of seconds\nline 1, place 4:\nAge:\n    ^"],
+            &["Age: expected a number of seconds\nline 1, place 4:\nAge:\n    ^"],
         ),
         ("Age: 5\nAge: x\n", &[]),
         ("T: max-age=1\nCache-Control: a b\nExpires: 0\nDate: x\n", &[]), // they are not read
         (
             "Expires:  0 \nDate: Sun\n",
             &[
-                "Expires: not an HTTP-date, as Sun, 06 Nov 1994 08:49:37 GMT\nline 1, place 10:\nExpires:  0 \n          ^",
-                "Date: not an HTTP-date, as Sun, 06 Nov 1994 08:49:37 GMT\nline 2, place 6:\nDate: Sun\n      ^",
+                "Expires: expected an HTTP-date, such as Sun, 06 Nov 1994 08:49:37 GMT\nline 1, place 10:\nExpires:  0 \n          ^",
+                "Date: expected an HTTP-date, such as Sun, 06 Nov 1994 08:49:37 GMT\nline 2, place 6:\nDate: Sun\n      ^",
             ],
         ),
         (
@@ -250,7 +249,7 @@ fn faults_of_decisions() {
         (
             "Date: x\nDate: Sun, 06 Nov 1994 08:49:37 GMT\nDate: x\n",
             &[
-                "Date: not an HTTP-date, as Sun, 06 Nov 1994 08:49:37 GMT\nline 1, place 6:\nDate: x\n      ^",
+                "Date: expected an HTTP-date, such as Sun, 06 Nov 1994 08:49:37 GMT\nline 1, place 6:\nDate: x\n      ^",
                 "Date: there are several lines\nline 2, place 6:\nDate: Sun, 06 Nov 1994 08:\n      ^",
             ],
         ),
@@ -322,5 +321,59 @@ fn obstacles() {
         verdict.to_string(),
         "Cache-Control: fresh for 60 s (max-age); not stored: the head is incomplete"
     );
+    // Without a field, and with a malformed one, of which the directives count as `no-store`.
+    for (text, shown) in [
+        ("HTTP/1.1 200\n\n", "unspecified"),
+        (
+            "HTTP/1.1 500\n\n",
+            "unspecified; not stored: nothing permits it",
+        ),
+        (
+            "HTTP/1.1 200\nCache-Control:\n\n",
+            "Cache-Control: unspecified",
+        ),
+        (
+            "HTTP/1.1 200\nCache-Control: a b\n\n",
+            "Cache-Control: not stored (malformed)",
+        ),
+        ("HTTP/1.1 200\nExpires: 0\n\n", "Expires: stale (expires)"),
+    ] {
+        let mut head = Head::parse(parser(), text).unwrap();
+        assert_eq!(head.decide(&exchange, &[]).unwrap().to_string(), shown);
+    }
+    let words: Vec<_> = [" x", ": x", "a b: c", "a: \0", "Age"]
+        .iter()
+        .map(|line| {
+            let mut head = Head::new(parser());
+            head.add_line(*line).unwrap();
+            head.malformed()[0].to_string()
+        })
+        .collect();
+    assert_eq!(
+        words,
+        [
+            "line 1: not a field line: it continues the line before",
+            "line 1: not a field line: no name",
+            "line 1: not a field line: no colon after the name",
+            "line 1: not a field line: a CR, LF or NUL in the value",
+            "line 1: not a field line: no colon after the name",
+        ]
+    );
     assert!(head.decide(&exchange, &[]).unwrap().may_store());
+    let head = Head::parse(parser(), "GET / HTTP/1.1\nAge : 1\n").unwrap();
+    assert_eq!(
+        messages(&head, 9),
+        [
+            "not a field line: white space before the colon\nline 2, place 3:\nAge : 1\n   ^",
+            "the head does not end with an empty line\nline 3, place 0:\n\n^"
+        ]
+    );
+    // What the request may have had counts.
+    assert!(exchange.with_request(&head).is_authorized && !exchange.is_authorized);
+    let text = "GET / HTTP/1.1\nCache-Control: max-age=60\n\n";
+    let mut head = Head::parse(parser(), text).unwrap();
+    assert!(!exchange.with_request(&head).is_authorized);
+    // The head of a request is none of a response.
+    let verdict = head.decide(&exchange, &[]).unwrap();
+    assert_eq!(verdict.obstacle, Some(Obstacle::Incomplete));
 }
