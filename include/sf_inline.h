@@ -549,34 +549,39 @@ static inline sf_status sf_set_text(sf_tree *tree, sf_node *node, sf_type type, 
 
 static inline sf_status sf_write_bare(sf_context *context, const sf_tree *tree, const sf_node *node,
                                      sf_buffer *out) {
-  sf_node item = *node;
+  sf_node item;
   size_t required = 0, invalid = 0;
-  uint32_t status = SF_BAD_CALL;
+  uint32_t status;
+  if (tree->kind == 0)
+    return sf_wrote(out, SF_BAD_CALL, 0);
+  item = *node;
   item.key_at = 0;
   item.key_length = 0;
   item.size = 1;
   item.role = SF_MEMBER;
-  if (tree->kind != 0)
-    status = sf_write(&context->seed, context->dialect, SF_ITEM, &item, 1, tree->text.at,
-                      tree->text.length, tree->bytes.at, tree->bytes.length, out->at,
-                      out->capacity, &required, &invalid);
+  status = sf_write(&context->seed, context->dialect, SF_ITEM, &item, 1, tree->text.at,
+                    tree->text.length, tree->bytes.at, tree->bytes.length, out->at, out->capacity,
+                    &required, &invalid);
   return sf_wrote(out, status, required);
 }
 
 static inline sf_status sf_write_part(sf_context *context, sf_tree *tree, const sf_node *node,
                                      sf_buffer *out) {
-  sf_node *first = tree->nodes.at + (node - tree->nodes.at), before = *first;
+  sf_node *first, before;
   size_t required = 0, invalid = 0;
-  uint32_t status = SF_BAD_CALL;
-  if (tree->kind != 0 && (before.role == SF_PARAMETER || before.role == SF_INNER_PARAMETER))
+  uint32_t status;
+  if (tree->kind == 0)
+    return sf_wrote(out, SF_BAD_CALL, 0);
+  if (node->role == SF_PARAMETER || node->role == SF_INNER_PARAMETER)
     return sf_wrote(out, SF_INVALID, 0);
+  first = tree->nodes.at + (node - tree->nodes.at);
+  before = *first;
   first->key_at = 0;
   first->key_length = 0;
   first->role = SF_MEMBER;
-  if (tree->kind != 0)
-    status = sf_write(&context->seed, context->dialect, SF_LIST, first, before.size, tree->text.at,
-                      tree->text.length, tree->bytes.at, tree->bytes.length, out->at,
-                      out->capacity, &required, &invalid);
+  status = sf_write(&context->seed, context->dialect, SF_LIST, first, before.size, tree->text.at,
+                    tree->text.length, tree->bytes.at, tree->bytes.length, out->at, out->capacity,
+                    &required, &invalid);
   *first = before;
   return sf_wrote(out, status, required);
 }

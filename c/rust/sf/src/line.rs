@@ -77,6 +77,7 @@ pub(crate) struct Parts<'a> {
     /// The value without the white space around it.
     pub(crate) value: &'a [u8],
     /// Where the value begins in the line.
+    #[cfg_attr(not(feature = "alloc"), allow(dead_code))] // a head asks for it
     pub(crate) value_at: usize,
 }
 
