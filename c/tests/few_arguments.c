@@ -895,6 +895,7 @@ static void parts_of_trees(void) {
   char bytes[64], text[64];
   sf_buffer out = SF_BUFFER(text);
   sf_tree tree = sf_tree_in(SF_NODES(nodes), SF_BUFFER(bytes));
+  memset(nodes, 0, sizeof nodes);
   CHECK(sf_write_part(&context, &tree, nodes, &out) == SF_BAD_CALL);
   CHECK(sf_write_bare(&context, &tree, nodes, &out) == SF_BAD_CALL);
   CHECK(sf_read_tree(&context, SF_DICT, sf_cstr("a=(\"x\\\"y\";q=1 :YQ:  t);k=?0;l, b=1.50;m, c=()"), &tree) ==
@@ -1161,6 +1162,7 @@ static void responses(void) {
       if (by_clock)
         exchange.now = row->response.age < UINT64_MAX - then ? then + row->response.age : UINT64_MAX;
       sf_verdict verdict;
+      memset(&verdict, 0, sizeof verdict);
       CHECK(sf_decide_response(&context, &head, targets, 2, &exchange, &verdict) == SF_OK);
       CHECK(verdict.decision.reuse == row->decision.reuse);
       CHECK(verdict.decision.cause == row->decision.cause);
