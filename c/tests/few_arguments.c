@@ -995,6 +995,16 @@ static void fields_of_a_head(void) {
   CHECK(sf_add_hop(&context, &head, &own, &out) == SF_OK && head.faults.length == 4);
   CHECK(is(sf_written(&out), "origin;fwd=miss, edge;hit, 7, edge;hit"));
 
+  /* what another function refuses, of a text that sf_find_field returned */
+  sf_text found;
+  CHECK(sf_find_field(&head, "example", &found) == SF_OK);
+  CHECK(sf_check_text(&context, SF_LIST, found) == SF_REFUSED && context.refusal.offset == 1);
+  sf_note_refusal(&head, "example", &context.refusal);
+  CHECK(head.faults.length == 5 && faults[2].location.refusal.offset == 10);
+  CHECK(strcmp(faults[1].field, "Example") == 0 && strcmp(faults[2].field, "example") == 0);
+  CHECK(sf_is_named(&lines[2], "EXAMPLE") && !sf_is_named(&lines[2], "Exampl"));
+  CHECK(!sf_is_named(&lines[2], "Examples") && !sf_is_named(&lines[2], ""));
+
   /* when there is no capacity for faults, they are counted */
   head.faults = sf_faults_of(faults, 1);
   CHECK(sf_find_priority(&context, &head, &client) == SF_OK);
