@@ -1339,9 +1339,8 @@ static inline const char *sf_line_fault(const sf_location *location) {
   if (refusal->offset == 0)
     return is_space ? "not a field line: it continues the line before"
                     : "not a field line: no name";
-  return is_space && memchr(location->line.at, ':', location->line.length) != NULL
-             ? "not a field line: white space before the colon"
-             : "not a field line: no colon after the name";
+  return is_space ? "not a field line: white space after the name"
+                  : "not a field line: no colon after the name";
 }
 
 static inline sf_status sf_show_fault(const sf_fault *fault, size_t most, sf_buffer *out) {

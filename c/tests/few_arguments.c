@@ -832,7 +832,7 @@ static void whole_heads(void) {
   head.faults = SF_FAULTS(faults);
   CHECK(sf_add_head_line(&head, sf_cstr("GET / HTTP/1.1")) == SF_OK);
   CHECK(sf_add_head_line(&head, sf_cstr("a : b")) == SF_REFUSED);
-  CHECK(says(&faults[0], 40, "not a field line: white space before the colon\nline 2, place 1:\na : b\n ^"));
+  CHECK(says(&faults[0], 40, "not a field line: white space after the name\nline 2, place 1:\na : b\n ^"));
 
   /* a buffer of this many lines is large enough for each head, and for the shortest lines no less */
   for (size_t length = 0; length < 12; ++length) {

@@ -241,10 +241,13 @@ impl<'a> Head<'a> {
         }
         let is_start = is_first && (self.status.is_some() || self.is_request);
         if !received.is_empty() && !is_start {
-            let is_version = received.starts_with(b"HTTP/");
             let fault = HeadFault {
                 field: "",
-                fault: [Fault::NotALine(refusal), Fault::NotAStatusLine][usize::from(is_version)],
+                fault: if received.starts_with(b"HTTP/") {
+                    Fault::NotAStatusLine
+                } else {
+                    Fault::NotALine(refusal)
+                },
                 number: self.number,
                 line: received,
                 offset: usize::try_from(refusal.offset).unwrap_or(usize::MAX),

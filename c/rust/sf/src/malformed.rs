@@ -77,7 +77,7 @@ fn line_fault(refusal: &Refusal) -> &'static str {
         Refusal { may_end: true, .. } => "a CR, LF or NUL in the value",
         Refusal { offset: 0, .. } if is_space => "it continues the line before",
         Refusal { offset: 0, .. } => "no name",
-        _ if is_space => "white space before the colon",
+        _ if is_space => "white space after the name",
         _ => "no colon after the name",
     }
 }

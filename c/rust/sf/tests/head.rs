@@ -364,7 +364,7 @@ fn obstacles() {
     assert_eq!(
         messages(&head, 9),
         [
-            "not a field line: white space before the colon\nline 2, place 3:\nAge : 1\n   ^",
+            "not a field line: white space after the name\nline 2, place 3:\nAge : 1\n   ^",
             "the head does not end with an empty line\nline 3, place 0:\n\n^"
         ]
     );
