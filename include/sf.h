@@ -1171,7 +1171,7 @@ typedef struct sf_faults {
   sf_fault *at;
   size_t capacity;
   size_t length;   /* how many were kept, those that were found first, in the order of the lines */
-  size_t required; /* how many were found */
+  size_t required; /* how many were found; one that was not kept may be counted again */
 } sf_faults;
 
 /* Return a buffer over the caller's faults, with their number, and over an array of them. */
@@ -1189,14 +1189,14 @@ typedef struct sf_head {
   uint32_t is_begun;      /* 1 after a line that is not empty, otherwise 0 */
   uint32_t is_incomplete; /* 1 if a line was refused, otherwise 0. It may have had a directive, so
                              sf_decide_response does not permit to store the response */
-  uint32_t is_truncated;  /* 1 if sf_take_head returned SF_EMPTY last, otherwise 0; likewise */
+  uint32_t is_truncated;  /* 1 from SF_EMPTY of sf_take_head until SF_OK, otherwise 0; likewise */
   sf_faults faults;       /* what was found to be malformed, if the caller sets a buffer for it:
                              head.faults = SF_FAULTS(array); */
 } sf_head;
 
 /* Returns a head without lines, with these buffers, which must be valid as long as it is used. A
- * second buffer of as many bytes as the head has is always large enough if sf_find_field and
- * sf_find_tree look up each field once: only they keep what they join. */
+ * second buffer of as many bytes as the head has is always large enough if no field is looked up
+ * again after sf_find_field or sf_find_tree looked it up: only they keep what they join. */
 static inline sf_head sf_head_in(sf_head_lines lines, sf_buffer joined);
 
 /*
@@ -1216,11 +1216,11 @@ static inline sf_text sf_take_line(sf_text *rest);
  *
  *   SF_OK       the line is added; or it is the first one, and a status line or a request line
  *               (sections 3 and 4), which sets head->status or head->is_request
- *   SF_EMPTY    it is empty: the head ends
+ *   SF_EMPTY    it is empty: the head ends, unless it has not begun
  *   SF_REFUSED  it is no field line: it has no colon, or before it no name (RFC 9110 section 5.1);
  *               it has a CR, LF or NUL within (section 5.5); it begins with white space, as one
  *               does that continues the line before (RFC 9112 section 5.2); or, in a request, there
- *               is white space before the colon (section 5.1), which is skipped in a response. A
+ *               is white space before the colon (section 5.1), which is skipped otherwise. A
  *               cache that skips such a line may miss a directive: head->is_incomplete is 1, and
  *               head->faults has the line, and where and why. No context->refusal is written
  *   SF_SHORT    head->lines.required lines are required
@@ -1276,8 +1276,8 @@ static inline sf_status sf_find_field(sf_head *head, const char *name, sf_text *
 /*
  * Returns the line that a refusal is in, and the refusal in it, of the text of a field of a head,
  * as sf_find_field joins it. The index is that of the line in head->lines, 0 if the head does not
- * have the field; the line and the place in it are those of the line as it was received, with the
- * name of the field; the number is that of the line in the caller's file or stream:
+ * have the field; the line and the place in it are those of sf_head_line.received, so mostly with
+ * the name of the field; the number is that of the line in the caller's file or stream:
  *
  *   sf_head_line head_lines[8];
  *   char bytes[64];
@@ -1302,8 +1302,8 @@ static inline sf_location sf_locate_in_head(const sf_refusal *refusal, const sf_
 
 /* == The fields of a head. == */
 
-/* These calls look up a structured field of a head, and read or write it. A malformed field counts
- * as absent (RFC 9651 section 4.2), and is added to the faults of the head, once. */
+/* These calls look up a structured field of a head, and read, check or write it. A malformed field
+ * counts as absent (RFC 9651 section 4.2), except for sf_check_field; head->faults has it, once. */
 
 /*
  * Reads the Priority field of a request, as sf_read_priority does:
@@ -1461,7 +1461,7 @@ typedef enum sf_cause {
   SF_BY_S_MAXAGE = 57,         /* s-maxage, in a shared cache (5.2.2.10) */
   SF_BY_INVALID_MAX_AGE = 58,  /* a max-age that can't be used (4.2.1) */
   SF_BY_INVALID_S_MAXAGE = 59, /* an s-maxage that can't be used (4.2.1) */
-  SF_BY_EXPIRES = 60,          /* sf_response.lifetime, which is by Expires (5.3) */
+  SF_BY_EXPIRES = 60,          /* sf_response.lifetime, by Expires (5.3) or a heuristic */
   SF_BY_MUST_REVALIDATE = 61,  /* must-revalidate (5.2.2.2) */
   SF_BY_PROXY_REVALIDATE = 62  /* proxy-revalidate, in a shared cache (5.2.2.8) */
 } sf_cause;
@@ -1525,8 +1525,8 @@ typedef enum sf_obstacle {
   SF_BARRED_STATUS = 83,    /* the status code is not final, or is 206 or 304 and not understood */
   SF_BARRED_REQUEST = 84,   /* the request had Authorization, the cache is shared, and no directive
                                permits it (3.5) */
-  SF_BARRED_UNPERMITTED = 85, /* nothing permits it: no directive, no Expires, and the status code
-                                 is not heuristically cacheable (RFC 9110 section 15.1) */
+  SF_BARRED_UNPERMITTED = 85, /* nothing permits it: no directive or Expires that counts; the status
+                                 code is not heuristically cacheable (RFC 9110 section 15.1) */
   SF_BARRED_HEAD = 86         /* a line of the head is no field line (sf_head.is_incomplete), the
                                  head did not end (is_truncated), or it is that of a request */
 } sf_obstacle;
@@ -1542,13 +1542,13 @@ typedef struct sf_verdict {
   sf_decision decision; /* how it may be used, for how long it is fresh, and the directive that is
                            the cause; of a response that may not be stored, what the directives
                            alone say */
-  uint64_t age;         /* its age in seconds, to be sent as Age when it is used (4) */
+  uint64_t age;         /* its age in seconds, at most 2^31, to be sent as Age when used (4) */
   int64_t ttl;          /* the lifetime that decided, less the age, both at most 2^31, for
                            sf_hop.ttl: if negative, for how long the response has been stale; 0 if
                            has_ttl is 0 */
   uint32_t has_ttl;     /* 1 if a lifetime decided, otherwise 0, as by no-cache */
   const char *field;    /* the name of the field that decides: that of a target, otherwise Expires
-                           or Cache-Control; NULL if the head has none of them */
+                           or Cache-Control; NULL if no target decides and the head has neither */
   size_t target;        /* index of that target; the length of the target list if none decides */
   uint32_t is_refused;  /* 1 if no target decides and a line of Cache-Control is malformed, so that
                            it counts as no-store; otherwise 0 */
@@ -1594,8 +1594,8 @@ typedef struct sf_verdict {
  *   SF_NO_MEMORY
  *
  * Unless SF_OK is returned, *verdict is unchanged. What is malformed is in head->faults, too: of
- * Cache-Control the first such line, of Expires and Date the first line and the second. The
- * heuristics of section 4.2.2 are the caller's, and so are the method, directives of the request
+ * Cache-Control the first such line, of Expires and Date the first if malformed, and the second.
+ * The heuristics of section 4.2.2 are the caller's; so are the method, directives of the request
  * and Vary (sections 3, 4 and 4.1). The fields that it joins are not kept in head->joined. Does not
  * allocate.
  */
@@ -1609,7 +1609,7 @@ static inline sf_status sf_decide_response(sf_context *context, sf_head *head, s
 #define SF_VERDICT_SIZE(name_length) (sizeof(char) * (name_length) + 128)
 
 /*
- * Writes a verdict in words: the field, unless it is NULL; sf_reuse_name and the seconds;
+ * Writes a verdict in words: the field, unless it is NULL; sf_reuse_name and, if fresh, seconds;
  * sf_cause_name, or "malformed" if is_refused is 1; and the obstacle if that is no directive. Such
  * as
  *

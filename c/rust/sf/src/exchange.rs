@@ -38,8 +38,8 @@ use core::fmt;
 pub struct Exchange {
     /// Who uses what the cache stores.
     pub cache: Cache,
-    /// The status code. `None` if it is not known: it is taken for a final one that is not
-    /// heuristically cacheable.
+    /// The status code. If it is `None`, that of a [`Head`]'s start line counts; without one, it
+    /// is taken for a final one that is not heuristically cacheable.
     pub status: Option<u16>,
     /// Whether the cache understands the status code and implements its requirements, which counts
     /// for 206, 304 and `must-understand` (RFC 9111 sections 3 and 5.2.2.3).
@@ -216,7 +216,7 @@ impl Exchange {
     /// Decides what the cache does with the response, with its targeted fields by a dialect. The
     /// head is its field lines, each a name and a value, as in a slice of pairs or a `&HeaderMap` of
     /// the crate `http`; lines of other fields may be among them. The target list has the names of
-    /// the fields, in order (RFC 9213 section 2.2); without one, `Cache-Control` decides.
+    /// the fields, in order (RFC 9213 section 2.2); without one, a [`Fallback`] decides.
     ///
     /// The first field of the target list that is there, well-formed and not empty is obeyed,
     /// otherwise `Cache-Control` with `Expires` and `Date`, as a [`Fallback`] reads them. The age of
@@ -225,8 +225,7 @@ impl Exchange {
     ///
     /// # Errors
     ///
-    /// [`Error::OutOfMemory`], and [`Error::TooLong`] if a targeted field is. Malformed fields are no
-    /// error: [`Verdict::malformed`] has them.
+    /// [`Error::OutOfMemory`] only. Malformed fields are no error: [`Verdict::malformed`] has them.
     ///
     /// ```
     /// use sf::{Cache, Dialect, Exchange};
@@ -318,11 +317,11 @@ pub struct Verdict<'a> {
     /// response may not be stored, this is what the directives alone say.
     pub decision: Decision,
     /// The name of the field that decides: one of the target list, otherwise `Expires` or
-    /// `Cache-Control`; `None` if the head has none of them.
+    /// `Cache-Control`; `None` if no target decides and the head has neither.
     pub field: Option<&'a str>,
     /// The index of that field in the target list; `None` if none of it decides.
     pub target: Option<usize>,
-    /// The directives of that field.
+    /// The directives of that target; otherwise those of `Cache-Control`.
     pub rules: CacheRules,
     /// What else counted: the age when the response is used, to be sent in `Age` (RFC 9111 section
     /// 4), and the lifetime by `Expires`.
@@ -376,10 +375,11 @@ pub enum Obstacle {
     /// The request had `Authorization`, the cache is shared, and no directive permits it (section
     /// 3.5).
     Authorization,
-    /// Nothing permits it: no directive, no `Expires`, and the status code is not heuristically
-    /// cacheable (RFC 9110 section 15.1).
+    /// Nothing permits it: no directive, no `Expires` that counts, and the status code is not
+    /// heuristically cacheable (RFC 9110 section 15.1).
     Unpermitted,
-    /// A line of the head is no field line, or the head did not end ([`Exchange::is_incomplete`]).
+    /// A line of the head is no field line, or the head did not end ([`Exchange::is_incomplete`]);
+    /// or the [`Head`] is that of a request.
     Incomplete,
 }
 
@@ -409,8 +409,8 @@ impl fmt::Display for Obstacle {
 
 impl Verdict<'_> {
     /// Whether the response may be stored (RFC 9111 section 3): by the directives, `Expires`, the
-    /// status code and `Authorization`. Whether the cache understands the method is the caller's to
-    /// know.
+    /// status code, `Authorization` and whether the head is complete. Whether the cache understands
+    /// the method is the caller's to know.
     ///
     /// ```
     /// use sf::{Cache, Exchange};

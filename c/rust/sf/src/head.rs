@@ -12,8 +12,8 @@ use alloc::vec::Vec;
 use core::fmt;
 
 /// The head of a request or a response: its field lines, which it borrows, and what is malformed in
-/// it. Its methods look a field up and read it by the dialect of a parser. A field that is malformed
-/// counts as absent (RFC 9651 section 4.2), and [`Head::malformed`] has it.
+/// it. Its methods look a field up and read it by the dialect of a parser. A malformed structured
+/// field counts as absent (RFC 9651 section 4.2), and [`Head::malformed`] has it.
 ///
 /// ```
 /// use sf::{Dialect, Head, Parser, Priority};
@@ -101,7 +101,7 @@ pub struct HeadFault<'a> {
     pub number: usize,
     /// The line as it was received: [`HeadLine::received`].
     pub line: &'a [u8],
-    /// The place in the line: the offset of a refusal; otherwise, where the value begins, or 0.
+    /// The place in the line: where it is refused; otherwise, where the value begins, or 0.
     pub offset: usize,
 }
 
@@ -355,8 +355,8 @@ impl<'a> Head<'a> {
         self.status
     }
 
-    /// Whether a line is no field line, or the text of [`Head::parse`] ended before the head did. A
-    /// directive may be missing, so [`Head::decide`] does not permit to store the response.
+    /// Whether a line but the start line is no field line, or the text of [`Head::parse`] ended
+    /// before the head did. A directive may be missing, so [`Head::decide`] forbids storing.
     ///
     /// ```
     /// let head = sf::Head::parse(sf::Parser::new(), "Cache-Control no-store\r\n\r\n").unwrap();
@@ -381,7 +381,7 @@ impl<'a> Head<'a> {
     }
 
     /// What was found to be malformed so far, in the order of the lines: lines that are no field
-    /// lines, and fields that were read.
+    /// lines, a missing end, and fields that were read.
     ///
     /// ```
     /// let mut head = sf::Head::parse(sf::Parser::new(), "Priority: u=\r\n\r\n").unwrap();
@@ -432,7 +432,7 @@ impl<'a> Head<'a> {
     ///
     /// # Errors
     ///
-    /// [`Error::OutOfMemory`], and [`Error::TooLong`] of 4 GiB or more.
+    /// [`Error::OutOfMemory`] only.
     ///
     /// ```
     /// let mut head = sf::Head::parse(sf::Parser::new(), "Cache-Status: edge; hit\r\n\r\n").unwrap();

@@ -43,7 +43,7 @@ pub(crate) fn is_of(line: &impl FieldLine, name: &str) -> bool {
     trim(line.name()).eq_ignore_ascii_case(name.as_bytes())
 }
 
-/// Splits a field line as it was received (RFC 9112 section 5), with its CR and LF or without both,
+/// Splits a field line as it was received (RFC 9112 section 5), with or without its CR and LF,
 /// into its name and its value. `None` if it is no field line: it has no colon, as a status line, or
 /// before it no name (RFC 9110 section 5.1); it has a CR, LF or NUL within (section 5.5); or it
 /// begins with white space, as a line does that continues the one before (RFC 9112 section 5.2).

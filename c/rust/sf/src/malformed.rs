@@ -34,8 +34,8 @@ pub struct Malformed<'a> {
 #[non_exhaustive]
 pub enum Fault {
     /// A targeted field that is no Dictionary, a line of `Cache-Control` that is no list of
-    /// directives, or another structured field that was read. The offset is one in the value of the
-    /// line if this is of a [`Malformed`], and one in the whole line if it is of a
+    /// directives, or another structured field that is refused. The offset is in the value of the
+    /// line if this is of a [`Malformed`], and in the whole line if it is of a
     /// [`HeadFault`](crate::HeadFault).
     Refused(Refusal),
     /// The first line of `Expires` or of `Date` is no HTTP-date.
