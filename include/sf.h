@@ -1367,8 +1367,8 @@ static inline sf_status sf_find_hops(sf_context *context, sf_head *head, sf_hop_
  *             tree->bytes.required
  *   SF_TOO_MANY, SF_TOO_LONG, SF_NO_MEMORY, SF_BAD_CALL
  *
- * Unless SF_OK is returned, the tree is empty. The text of the tree is in the lines of the head, or
- * in head->joined: it must be valid as long as the tree is used.
+ * Unless SF_OK is returned, the tree is empty, and head->joined is as before. The text of the tree
+ * is in the lines of the head, or in head->joined: it must be valid as long as the tree is used.
  */
 SF_USE_RESULT
 static inline sf_status sf_find_tree(sf_context *context, sf_kind kind, sf_head *head,

@@ -1409,12 +1409,15 @@ static inline sf_status sf_find_hops(sf_context *context, sf_head *head, sf_hop_
 
 static inline sf_status sf_find_tree(sf_context *context, sf_kind kind, sf_head *head,
                                     const char *name, sf_tree *tree) {
+  size_t begin = head->joined.length;
   sf_text text;
   sf_status status = sf_find_field(head, name, &text);
   *tree = sf_tree_in(sf_nodes_of(tree->nodes.at, tree->nodes.capacity),
                      sf_buffer_of(tree->bytes.at, tree->bytes.capacity));
   if (status == SF_OK && (kind != SF_ITEM || sf_has_field(head, name)))
     status = sf_read_tree(context, kind, text, tree);
+  if (status != SF_OK)
+    head->joined.length = begin;
   return sf_found(context, head, name, status);
 }
 
@@ -1706,14 +1709,11 @@ static inline sf_status sf_decide_response(sf_context *context, sf_head *head, s
   sf_status status;
   size_t refused_line = 0;
   uint32_t is_age_malformed = 0;
-  sf_faults faults = head->faults;
   if (context->dialect != SF_RFC9651 && context->dialect != SF_RFC8941)
     return SF_BAD_CALL;
   status = sf_choose_target(context, head, targets, targets_length, &choice);
-  if (status != SF_OK && status != SF_EMPTY) {
-    head->faults = faults;
+  if (status != SF_OK && status != SF_EMPTY)
     return status;
-  }
   if (status == SF_EMPTY) {
     fallback = sf_fallback_of(head, &refused_line);
     choice.rules = fallback.rules;
@@ -1722,10 +1722,8 @@ static inline sf_status sf_decide_response(sf_context *context, sf_head *head, s
   response.age = sf_current_age(sf_age_of(head, &is_age_malformed), exchange);
   response.is_understood = exchange->is_understood != 0;
   status = (sf_status)sf_decide(&choice.rules, exchange->cache, &response, &decision);
-  if (status != SF_OK) {
-    head->faults = faults;
+  if (status != SF_OK)
     return status;
-  }
   verdict->obstacle = sf_obstacle_of(&decision, exchange, head, response.has_lifetime);
   verdict->may_store = verdict->obstacle == SF_NO_OBSTACLE;
   verdict->decision = decision;

@@ -975,6 +975,11 @@ static void fields_of_a_head(void) {
   CHECK(sf_check_field(&context, SF_ITEM, &head, "name") == SF_OK && head.faults.length == 3);
   CHECK(sf_find_tree(&context, SF_ITEM, &head, "name", &tree) == SF_OK && tree.nodes.length == 1);
   CHECK(nodes[0].type == SF_TOKEN && is(sf_node_text(&tree, nodes), "Value"));
+  /* what a call joined that failed is not kept */
+  tree.nodes.capacity = 0;
+  CHECK(sf_find_tree(&context, SF_LIST, &head, "Cache-Status", &tree) == SF_TOO_MANY);
+  CHECK(tree.nodes.length == 0 && head.joined.length == 0);
+  tree.nodes.capacity = 4;
   /* an absent Item is no empty text, which is malformed */
   CHECK(sf_check_field(&context, SF_ITEM, &head, "Absent") == SF_OK && head.faults.length == 3);
   CHECK(sf_find_tree(&context, SF_ITEM, &head, "Absent", &tree) == SF_OK && tree.nodes.length == 0);
@@ -1111,7 +1116,7 @@ static void faults_of_decisions(void) {
     for (; count < MOST && rows[i].messages[count] != NULL; ++count)
       CHECK(count < head.faults.length && says(&faults[count], 26, rows[i].messages[count]));
     CHECK(head.faults.length == count && head.faults.required == count);
-    /* a call that fails finds nothing */
+    /* a call that fails finds nothing more */
     exchange.cache = 0;
     CHECK(sf_decide_response(&context, &head, &target, 1, &exchange, &verdict) == SF_BAD_CALL);
     CHECK(head.faults.length == count && head.faults.required == count);
@@ -1131,6 +1136,16 @@ static void faults_of_decisions(void) {
     for (const char *byte = places[i].barred; *byte != 0; ++byte)
       CHECK(!((*byte < 64 ? refusal->expected_low >> *byte : refusal->expected_high >> (*byte - 64)) & 1));
   }
+  /* a call that fails loses no fault of a later line */
+  sf_head head = sf_head_in(SF_HEAD_LINES(lines), sf_buffer_of(NULL, 0));
+  head.faults = SF_FAULTS(faults);
+  CHECK(sf_add_field_line(&head, sf_cstr(target.name), sf_cstr("a,")) == SF_OK);
+  CHECK(sf_add_field_line(&head, sf_cstr("Example"), sf_cstr("b,")) == SF_OK);
+  CHECK(sf_check_field(&context, SF_LIST, &head, "Example") == SF_REFUSED);
+  exchange.cache = 0;
+  CHECK(sf_decide_response(&context, &head, &target, 1, &exchange, &verdict) == SF_BAD_CALL);
+  CHECK(head.faults.length == 2 && strcmp(faults[0].field, target.name) == 0);
+  CHECK(strcmp(faults[1].field, "Example") == 0 && faults[1].location.number == 2);
 }
 
 /* A head with these lines of the fields of a row, and with an Age unless it is NULL. */

@@ -280,7 +280,11 @@ impl fmt::Display for Excerpt<'_> {
             let is_printable = matches!(byte, b' '..=b'~');
             write!(f, "{}", if is_printable { char::from(*byte) } else { '?' })?;
         }
-        write!(f, "\n{:>1$}", '^', at - from + 1)
+        f.write_str("\n")?;
+        for _ in from..at {
+            f.write_str(" ")?;
+        }
+        f.write_str("^")
     }
 }
 

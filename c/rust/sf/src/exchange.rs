@@ -323,8 +323,8 @@ pub struct Verdict<'a> {
     pub target: Option<usize>,
     /// The directives of that target; otherwise those of `Cache-Control`.
     pub rules: CacheRules,
-    /// What else counted: the age when the response is used, to be sent in `Age` (RFC 9111 section
-    /// 4), and the lifetime by `Expires`.
+    /// What else counted: the age when the response is used, at most 2^31, to be sent in `Age` (RFC
+    /// 9111 section 4), and the lifetime by `Expires`.
     pub response: Response,
     /// The lifetime that decided, less the age, both at most 2^31: the `ttl` of a hop (RFC 9211
     /// section 2.4). If negative, for how long the response has been stale; `None` if no lifetime
@@ -355,6 +355,8 @@ pub struct Verdict<'a> {
     /// is in the past then; and `Date`, for which [`Exchange::received`] counts. Those of the target
     /// list after the one that decides are not read, nor `Cache-Control`, `Expires` and `Date` then.
     pub malformed: Vec<Malformed<'a>>,
+    /// Whether no target decides and `Cache-Control` is malformed, so that it counts as `no-store`.
+    is_refused: bool,
 }
 
 /// Why a response may not be stored (RFC 9111 section 3).
@@ -427,12 +429,6 @@ impl Verdict<'_> {
         self.obstacle.is_none()
     }
 
-    /// Whether no target decides and `Cache-Control` is malformed, so that it counts as `no-store`.
-    fn is_refused(&self) -> bool {
-        let mut names = self.malformed.iter().map(|malformed| malformed.field);
-        self.target.is_none() && names.any(|name| name == "Cache-Control")
-    }
-
     /// The hop of a cache with this name that forwarded the request for this reason, with `stored`
     /// and `ttl` by this verdict.
     ///
@@ -468,7 +464,7 @@ impl fmt::Display for Verdict<'_> {
         if let Some(field) = self.field {
             write!(f, "{field}: ")?;
         }
-        if self.is_refused() {
+        if self.is_refused {
             write!(f, "{} (malformed)", self.decision.reuse)?;
         } else {
             write!(f, "{}", self.decision)?;
@@ -507,16 +503,17 @@ impl Parser {
     {
         let mut malformed = Vec::new();
         let obeyed = self.obeyed(targets, &head, &mut malformed)?;
-        let (rules, lifetime) = if let Some((_, rules)) = obeyed {
-            (rules, None)
+        let (rules, lifetime, is_refused) = if let Some((_, rules)) = obeyed {
+            (rules, None, false)
         } else {
             let fallback = Fallback::read(head.clone(), &mut malformed)?;
-            (fallback.rules(), fallback.lifetime(exchange.received))
+            let lifetime = fallback.lifetime(exchange.received);
+            (fallback.rules(), lifetime, fallback.is_refused())
         };
         let has_cache_control = has_field(head.clone(), "Cache-Control");
         let age = age_of(head, &mut malformed)?;
         let response = Response {
-            age: age.saturating_add(exchange.since_request()),
+            age: age.saturating_add(exchange.since_request()).min(MOST),
             lifetime,
             is_understood: exchange.is_understood,
         };
@@ -537,6 +534,7 @@ impl Parser {
             allows_heuristic: decision.reuse == Reuse::Unspecified
                 && (rules.is_public || exchange.is_heuristically_cacheable()),
             malformed,
+            is_refused,
         })
     }
 
@@ -566,6 +564,9 @@ impl Parser {
     }
 }
 
+/// Ages and lifetimes are at most this many seconds (RFC 9111 section 1.2.2).
+const MOST: u64 = 1 << 31;
+
 /// What is left of the lifetime by which was decided, if it was.
 fn ttl(
     decision: &Decision,
@@ -573,8 +574,6 @@ fn ttl(
     response: &Response,
     cache: Cache,
 ) -> Option<Integer> {
-    /// Ages and lifetimes are at most this (RFC 9111 section 1.2.2).
-    const MOST: u64 = 1 << 31;
     let is_shared = cache == Cache::Shared;
     let has_s_maxage = is_shared && (rules.invalid_s_maxage || rules.policy.s_maxage.is_some());
     let (is_invalid, of_policy) = if has_s_maxage {
@@ -594,7 +593,7 @@ fn ttl(
         return None;
     }
     let lifetime = of_policy.map(u64::from).or(response.lifetime)?;
-    let left = i128::from(lifetime.min(MOST)) - i128::from(response.age.min(MOST));
+    let left = i128::from(lifetime.min(MOST)) - i128::from(response.age);
     Integer::try_from(left).ok()
 }
 

@@ -355,8 +355,8 @@ impl<'a> Head<'a> {
         self.status
     }
 
-    /// Whether a line but the start line is no field line, or the text of [`Head::parse`] ended
-    /// before the head did. A directive may be missing, so [`Head::decide`] forbids storing.
+    /// Whether a line other than the start line is no field line, or the text of [`Head::parse`]
+    /// ended before the head did. A directive may be missing, so [`Head::decide`] forbids storing.
     ///
     /// ```
     /// let head = sf::Head::parse(sf::Parser::new(), "Cache-Control no-store\r\n\r\n").unwrap();

@@ -113,9 +113,11 @@ impl Refusal {
         let (line, refusal) = match of_field.nth(place.line) {
             None => (0, self.at_line(0, 0)),
             Some((line, of_head)) => {
-                let value = of_head.value();
-                let end = spaces_before(value) + trim(value).len();
-                (line, self.at_line(spaces_before(value) + place.offset, end))
+                let begin = spaces_before(of_head.value());
+                let length = trim(of_head.value()).len();
+                let refusal = self.at_line(place.offset, length);
+                let offset = (begin + place.offset) as u64;
+                (line, Refusal { offset, ..refusal })
             }
         };
         let fault = Fault::Refused(refusal);

@@ -337,7 +337,7 @@ impl Parser {
     ///
     /// # Errors
     ///
-    /// [`Error::OutOfMemory`]; [`Error::TooLong`] if a field is.
+    /// [`Error::OutOfMemory`] only.
     ///
     /// ```
     /// let choice = sf::Parser::new().select(["", "no-store"]).unwrap();
@@ -359,7 +359,7 @@ impl Parser {
 ///
 /// # Errors
 ///
-/// [`Error::OutOfMemory`]; [`Error::TooLong`] if a field is.
+/// [`Error::OutOfMemory`] only.
 ///
 /// ```
 /// let own = sf::join(["max-age=60"]).unwrap(); // ExampleCDN-Cache-Control

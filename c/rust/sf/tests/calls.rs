@@ -58,6 +58,11 @@ fn a_refusal_is_shown() {
     // Longer than the first buffer.
     let long = format!("\"{}\" 1", "a".repeat(1000));
     assert!(shown(Kind::Item, &long).contains(&long));
+    // A place that is wider than a format can pad.
+    let long = format!("1{}2", " ".repeat(70_000));
+    let refused = refusal(check(Kind::Item, &long));
+    let excerpt = refused.excerpt(&long, 200_000).to_string();
+    assert_eq!(excerpt.lines().last().map(str::len), Some(70_002));
 }
 
 #[test]

@@ -1,7 +1,7 @@
 //! What a cache decides about a response by its whole head: the rows of `tests/decisions.txt`, and
 //! what `Exchange` adds to the directives.
 
-use sf::{Cache, Dialect, Error, Exchange, Fault, FieldDate, Obstacle, Reuse, Verdict};
+use sf::{Cache, Dialect, Error, Exchange, Fault, FieldDate, Malformed, Obstacle, Reuse, Verdict};
 use std::fmt::Write;
 
 const TARGETS: [&str; 2] = ["ExampleCDN-Cache-Control", "CDN-Cache-Control"];
@@ -298,6 +298,24 @@ fn malformed_fields_are_listed() {
     ];
     let verdict = decide(NOW, &refused);
     assert_eq!((verdict.target, verdict.malformed.len()), (Some(1), 1));
+    // White space before another line: the comma between them is no byte of it.
+    let blank = [("CDN-Cache-Control", " \t"), ("CDN-Cache-Control", "a")];
+    match decide(NOW, &blank).malformed[..] {
+        [Malformed {
+            line: 0,
+            fault: Fault::Refused(refusal),
+            ..
+        }] => assert_eq!((refusal.found, refusal.may_end), (None, false)),
+        ref other => panic!("{other:?}"),
+    }
+    // A name that is both a target and what decides without one: only the target is malformed.
+    let both = [("Cache-Control", "Max-Age=60")];
+    let verdict = NOW.decide(&["Cache-Control"], &both).unwrap();
+    assert_eq!((verdict.target, verdict.malformed.len()), (None, 1));
+    assert_eq!(
+        verdict.to_string(),
+        "Cache-Control: fresh for 60 s (max-age)"
+    );
 }
 
 #[test]
@@ -339,7 +357,7 @@ fn ages_and_dates_count() {
         ..NOW
     };
     let verdict = decide(exchange, &[("Age", "20"), ("Cache-Control", "max-age=60")]);
-    assert_eq!(verdict.response.age, u64::MAX);
+    assert_eq!(verdict.response.age, 1 << 31);
     assert_eq!(verdict.decision.to_string(), "stale (max-age)");
 }
 
