@@ -1185,12 +1185,27 @@ static inline void sf_note_fault(sf_head *head, const char *field, sf_reason rea
   faults[i].location = *location;
 }
 
+/* Takes a start line (RFC 9112 section 2.1), and returns whether the line is one: for the function
+ * below. */
+static inline int sf_take_start_line(sf_head *head, sf_text line) {
+  uint32_t status = sf_code_of(line);
+  int is_request = sf_is_request_line(line);
+  if (status == 0 && !is_request)
+    return 0;
+  head->status = status;
+  head->is_request = is_request != 0;
+  head->is_begun = 1;
+  ++head->number;
+  return 1;
+}
+
 static inline sf_status sf_add_head_line(sf_head *head, sf_text line) {
-  int is_first = !head->is_begun;
   sf_text name, value;
   sf_location location;
   line.length -= line.length > 0 && line.at[line.length - 1] == '\n';
   line.length -= line.length > 0 && line.at[line.length - 1] == '\r';
+  if (!head->is_begun && sf_take_start_line(head, line))
+    return SF_OK;
   if (line.length > 0 &&
       sf_split_line(line, head->is_request != 0, &name, &value, &location.refusal))
     return sf_add_received(head, name, value, line);
@@ -1200,12 +1215,6 @@ static inline sf_status sf_add_head_line(sf_head *head, sf_text line) {
   if (line.length == 0)
     return SF_EMPTY;
   head->is_begun = 1;
-  if (is_first) {
-    head->status = sf_code_of(line);
-    head->is_request = (uint32_t)sf_is_request_line(line);
-    if (head->status != 0 || head->is_request)
-      return SF_OK;
-  }
   head->is_incomplete = 1;
   sf_note_fault(head, "", SF_FAULT_NOT_A_LINE, &location);
   return SF_REFUSED;
@@ -1216,7 +1225,11 @@ static inline sf_status sf_take_head(sf_head *head, sf_text *rest) {
   while (rest->length > 0) {
     sf_text before = *rest;
     int is_begun = head->is_begun != 0;
-    sf_status status = sf_add_head_line(head, sf_take_line(rest));
+    sf_text line = sf_take_line(rest);
+    sf_status status;
+    if (line.length == 1 && *line.at == '\r')
+      break; /* an empty line whose LF is missing */
+    status = sf_add_head_line(head, line);
     if (status == SF_EMPTY && is_begun) {
       head->is_truncated = 0;
       return SF_OK;

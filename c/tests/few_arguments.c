@@ -732,6 +732,23 @@ static void whole_heads(void) {
     CHECK(sf_add_head_line(&head, sf_cstr("Age: 1")) == SF_OK);
   }
 
+  /* a request line whose target has a colon is no field line */
+  {
+    sf_head head = sf_head_in(SF_HEAD_LINES(lines), sf_buffer_of(NULL, 0));
+    CHECK(sf_add_head_line(&head, sf_cstr("CONNECT :443 HTTP/1.1")) == SF_OK);
+    CHECK(head.is_request == 1 && head.lines.length == 0 && head.number == 2);
+    CHECK(sf_add_head_line(&head, sf_cstr("Authorization : x")) == SF_REFUSED);
+  }
+  /* an empty line whose LF is missing does not end a head */
+  {
+    sf_text rest = sf_cstr("HTTP/1.1 200\r\na: b\r\n\r"), more = sf_cstr("\nrest");
+    sf_head head = sf_head_in(SF_HEAD_LINES(lines), sf_buffer_of(NULL, 0));
+    head.faults = SF_FAULTS(faults);
+    CHECK(sf_take_head(&head, &rest) == SF_EMPTY && head.is_truncated == 1 && rest.length == 0);
+    CHECK(says(&faults[0], 40, "the head does not end with an empty line\nline 3, place 0:\n\n^"));
+    CHECK(sf_take_head(&head, &more) == SF_OK && head.is_truncated == 0 && is(more, "rest"));
+  }
+
   sf_text rest = sf_cstr("\r\n\nHTTP/1.1 200 OK\r\nAge: 1\r\nVia\r\n\tx\r\nVia: a\r\n\r\nDate: x\r\n");
   sf_head head = sf_head_in(SF_HEAD_LINES(lines), sf_buffer_of(NULL, 0));
   head.faults = SF_FAULTS(faults);

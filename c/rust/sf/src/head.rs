@@ -185,6 +185,9 @@ impl<'a> Head<'a> {
             let end = rest.iter().position(|byte| *byte == b'\n');
             let (line, after) = rest.split_at(end.map_or(rest.len(), |end| end + 1));
             rest = after;
+            if line == b"\r" {
+                break; // an empty line whose LF is missing
+            }
             if head.is_begun && without_end(line).is_empty() {
                 head.content = Some(rest);
                 return Ok(head);
@@ -221,7 +224,10 @@ impl<'a> Head<'a> {
     /// ```
     pub fn add_line<T: AsRef<[u8]> + ?Sized>(&mut self, line: &'a T) -> Result<bool, Error> {
         let received = without_end(line.as_ref());
-        let is_first = !self.is_begun;
+        if !self.is_begun && self.takes_start_line(received) {
+            self.number += 1;
+            return Ok(false);
+        }
         let refusal = match split(received, self.is_request) {
             Ok(parts) => {
                 self.push(HeadLine {
@@ -235,12 +241,7 @@ impl<'a> Head<'a> {
             }
             Err(refusal) => refusal,
         };
-        if is_first && !received.is_empty() {
-            self.status = status_of(received);
-            self.is_request = is_request_line(received);
-        }
-        let is_start = is_first && (self.status.is_some() || self.is_request);
-        if !received.is_empty() && !is_start {
+        if !received.is_empty() {
             let fault = HeadFault {
                 field: "",
                 fault: if received.starts_with(b"HTTP/") {
@@ -258,6 +259,14 @@ impl<'a> Head<'a> {
         self.is_begun |= !received.is_empty();
         self.number += 1;
         Ok(false)
+    }
+
+    /// Takes a start line, and returns whether the line is one (RFC 9112 section 2.1).
+    fn takes_start_line(&mut self, line: &[u8]) -> bool {
+        self.status = status_of(line);
+        self.is_request = is_request_line(line);
+        self.is_begun = self.status.is_some() || self.is_request;
+        self.is_begun
     }
 
     /// Adds a field line.

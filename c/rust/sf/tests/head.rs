@@ -82,6 +82,23 @@ fn start_lines() {
     }
 }
 
+/// A request line whose target has a colon is no field line, and an empty line whose LF is missing
+/// does not end a head.
+#[test]
+fn lines_like_others() {
+    let mut head = Head::new(parser());
+    assert!(!head.add_line("CONNECT :443 HTTP/1.1").unwrap() && head.lines().is_empty());
+    assert!(!head.add_line("Authorization : x").unwrap());
+    assert_eq!((head.malformed().len(), head.malformed()[0].number), (1, 2));
+
+    let head = Head::parse(parser(), "HTTP/1.1 200\r\na: b\r\n\r").unwrap();
+    assert!(head.is_incomplete() && head.content().is_none());
+    assert_eq!(
+        messages(&head, 40),
+        ["the head does not end with an empty line\nline 3, place 0:\n\n^"]
+    );
+}
+
 /// Where lines are no field lines, and some of the bytes that are expected there.
 #[test]
 fn lines_that_are_no_field_lines() {
