@@ -1419,8 +1419,9 @@ static inline void sf_note_refusal(sf_head *head, const char *name, const sf_ref
 /*
  * Writes the error message of a fault: the name of the field, what is wrong, the number of the line
  * and the place in it, from 0, and at most so many bytes of the line around the place, as
- * sf_show_excerpt_of_line does. A buffer of SF_FAULT_SIZE(strlen(fault->field), most) bytes is
- * always large enough. The results are those of sf_write_refusal.
+ * sf_show_excerpt_of_line does; bytes that can't be printed are question marks. A buffer of
+ * SF_FAULT_SIZE(strlen(fault->field), most) bytes is always large enough. The results are those of
+ * sf_write_refusal.
  */
 SF_USE_RESULT
 static inline sf_status sf_show_fault(const sf_fault *fault, size_t most, sf_buffer *out);
@@ -1613,7 +1614,7 @@ static inline sf_status sf_decide_response(sf_context *context, sf_head *head, s
  * sf_cause_name, or "malformed" if is_refused is 1; and the obstacle if that is no directive. Such
  * as
  *
- *   CDN-Cache-Control: fresh for 600 s (max-age); not stored: the head is incomplete
+ *   CDN-Cache-Control: fresh for 600 s (max-age); not stored: the head is incomplete or that of a request
  *
  * If the text does not have "not stored", the response may be stored.
  *

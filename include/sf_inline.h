@@ -1494,7 +1494,7 @@ static inline const char *sf_obstacle_name(uint32_t obstacle) {
   case SF_BARRED_UNPERMITTED:
     return "nothing permits it";
   case SF_BARRED_HEAD:
-    return "the head is incomplete";
+    return "the head is incomplete or that of a request";
   default:
     return "";
   }

@@ -879,7 +879,7 @@ static void verdicts_in_words(void) {
       {"HTTP/1.1 206\nExpires: 0\n\n",
        "Expires: stale (expires); not stored: the status code forbids it", "a;fwd=miss;ttl=0;stored=?0"},
       {"HTTP/1.1 200\nT: max-age=99999999999\n", "T: fresh for 2147483648 s (max-age); not stored: the "
-       "head is incomplete", "a;fwd=miss;ttl=2147483648;stored=?0"},
+       "head is incomplete or that of a request", "a;fwd=miss;ttl=2147483648;stored=?0"},
   };
   sf_context context = sf_context_of(seed, SF_RFC8941);
   sf_target target = sf_target_of("T");
@@ -1481,7 +1481,7 @@ static void storing(void) {
   CHECK(strcmp(sf_obstacle_name(SF_BARRED_STATUS), "the status code forbids it") == 0);
   CHECK(strcmp(sf_obstacle_name(SF_BARRED_REQUEST), "the request had Authorization") == 0);
   CHECK(strcmp(sf_obstacle_name(SF_BARRED_UNPERMITTED), "nothing permits it") == 0);
-  CHECK(strcmp(sf_obstacle_name(SF_BARRED_HEAD), "the head is incomplete") == 0);
+  CHECK(strcmp(sf_obstacle_name(SF_BARRED_HEAD), "the head is incomplete or that of a request") == 0);
   CHECK(strcmp(sf_obstacle_name(SF_NO_OBSTACLE), "") == 0 && strcmp(sf_obstacle_name(0), "") == 0);
 }
 

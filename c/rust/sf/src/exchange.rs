@@ -398,7 +398,7 @@ impl Obstacle {
             Obstacle::Status => "the status code forbids it",
             Obstacle::Authorization => "the request had Authorization",
             Obstacle::Unpermitted => "nothing permits it",
-            Obstacle::Incomplete => "the head is incomplete",
+            Obstacle::Incomplete => "the head is incomplete or that of a request",
         }
     }
 }

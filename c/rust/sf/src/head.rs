@@ -364,6 +364,17 @@ impl<'a> Head<'a> {
         self.status
     }
 
+    /// Whether the start line is a request line: the head is that of a request.
+    ///
+    /// ```
+    /// let head = sf::Head::parse(sf::Parser::new(), "GET / HTTP/1.1\r\n\r\n").unwrap();
+    /// assert!(head.is_request() && head.status().is_none());
+    /// ```
+    #[must_use]
+    pub fn is_request(&self) -> bool {
+        self.is_request
+    }
+
     /// Whether a line other than the start line is no field line, or the text of [`Head::parse`]
     /// ended before the head did. A directive may be missing, so [`Head::decide`] forbids storing.
     ///

@@ -3,7 +3,8 @@
 use crate::{Error, Integer, StringRef, TokenRef};
 use core::fmt;
 
-/// A name of a cache, or a detail. The String `a` and the Token `a` are two names.
+/// A name of a cache, or a detail. The String `a` and the Token `a` are two names; `Display` writes
+/// both as `a`.
 ///
 /// ```
 /// let path = sf::Path::parse("edge;hit").unwrap();
@@ -470,7 +471,7 @@ impl<'a> Forwarded<'a> {
         Forwarded { status, ..self }
     }
 
-    /// The same with whether the cache stored the response.
+    /// The same with whether the cache stored the response: `stored`, or `stored=?0`.
     ///
     /// ```
     /// let forwarded = sf::Forwarded::new(sf::Forward::Miss).with_stored(true);

@@ -336,7 +336,7 @@ fn obstacles() {
     let verdict = head.decide(&exchange.with_incomplete(true), &[]).unwrap();
     assert_eq!(
         verdict.to_string(),
-        "Cache-Control: fresh for 60 s (max-age); not stored: the head is incomplete"
+        "Cache-Control: fresh for 60 s (max-age); not stored: the head is incomplete or that of a request"
     );
     // Without a field, and with a malformed one, of which the directives count as `no-store`.
     for (text, shown) in [
