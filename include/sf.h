@@ -1166,7 +1166,8 @@ typedef struct sf_fault {
                            and the refusal says no more; for SF_FAULT_NO_END the line is empty */
 } sf_fault;
 
-/* A buffer for faults. */
+/* A buffer for faults. A head has at most one for each line that is no field line, two for each of
+ * Expires and Date, one for each other name that is looked up, and one for a missing end. */
 typedef struct sf_faults {
   sf_fault *at;
   size_t capacity;
@@ -1233,7 +1234,8 @@ static inline sf_status sf_add_head_line(sf_head *head, sf_text line);
 /*
  * Adds the lines of a head by sf_add_head_line, up to the empty line that ends it, and takes them
  * off the text. A line that is no field line is in head->faults. Empty lines before the first other
- * one are skipped (RFC 9112 section 2.2).
+ * one are skipped (RFC 9112 section 2.2). A missing start line is no fault: head->status and
+ * head->is_request stay 0.
  *
  *   SF_OK     the head has ended: *rest is what comes after it
  *   SF_EMPTY  the text ended before the head did. Lines may be missing: head->is_truncated is 1,

@@ -356,7 +356,15 @@ pub struct Verdict<'a> {
     /// list after the one that decides are not read, nor `Cache-Control`, `Expires` and `Date` then.
     pub malformed: Vec<Malformed<'a>>,
     /// Whether no target decides and `Cache-Control` is malformed, so that it counts as `no-store`.
-    is_refused: bool,
+    ///
+    /// ```
+    /// use sf::{Cache, Exchange};
+    /// let head = [("Cache-Control", "max-age=")];
+    /// let verdict = Exchange::at(Cache::Shared, 784_111_777).decide(&[], &head).unwrap();
+    /// assert!(verdict.is_refused && !verdict.may_store());
+    /// assert_eq!(verdict.to_string(), "Cache-Control: not stored (malformed)");
+    /// ```
+    pub is_refused: bool,
 }
 
 /// Why a response may not be stored (RFC 9111 section 3).

@@ -167,7 +167,7 @@ impl<'a> Head<'a> {
 
     /// The head that a text begins with: its lines up to the empty line that ends it. Empty lines
     /// before the first other one are skipped (RFC 9112 section 2.2). If there is no empty line at
-    /// the end, lines may be missing: the head is incomplete.
+    /// the end, lines may be missing: the head is incomplete. A missing start line is no fault.
     ///
     /// # Errors
     ///
