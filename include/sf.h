@@ -1530,8 +1530,9 @@ typedef enum sf_obstacle {
                                permits it (3.5) */
   SF_BARRED_UNPERMITTED = 85, /* nothing permits it: no directive or Expires that counts; the status
                                  code is not heuristically cacheable (RFC 9110 section 15.1) */
-  SF_BARRED_HEAD = 86         /* a line of the head is no field line (sf_head.is_incomplete), the
-                                 head did not end (is_truncated), or it is that of a request */
+  SF_BARRED_HEAD = 86,        /* a line of the head is no field line (sf_head.is_incomplete), or the
+                                 head did not end (is_truncated) */
+  SF_BARRED_NO_RESPONSE = 87  /* the head is that of a request (is_request) */
 } sf_obstacle;
 
 /* Returns an obstacle in words, such as "the status code forbids it"; "" for SF_NO_OBSTACLE and for
@@ -1616,7 +1617,7 @@ static inline sf_status sf_decide_response(sf_context *context, sf_head *head, s
  * sf_cause_name, or "malformed" if is_refused is 1; and the obstacle if that is no directive. Such
  * as
  *
- *   CDN-Cache-Control: fresh for 600 s (max-age); not stored: the head is incomplete or that of a request
+ *   CDN-Cache-Control: fresh for 600 s (max-age); not stored: the head is incomplete
  *
  * If the text does not have "not stored", the response may be stored.
  *

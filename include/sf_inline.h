@@ -1494,7 +1494,9 @@ static inline const char *sf_obstacle_name(uint32_t obstacle) {
   case SF_BARRED_UNPERMITTED:
     return "nothing permits it";
   case SF_BARRED_HEAD:
-    return "the head is incomplete or that of a request";
+    return "the head is incomplete";
+  case SF_BARRED_NO_RESPONSE:
+    return "the head is that of a request";
   default:
     return "";
   }
@@ -1506,7 +1508,9 @@ static inline uint32_t sf_obstacle_of(const sf_decision *decision, const sf_exch
   uint32_t status = exchange->status != 0 ? exchange->status : head->status;
   if (decision->reuse == SF_REUSE_NOT_STORED)
     return SF_BARRED_DIRECTIVE;
-  if (head->is_incomplete || head->is_truncated || head->is_request)
+  if (head->is_request)
+    return SF_BARRED_NO_RESPONSE;
+  if (head->is_incomplete || head->is_truncated)
     return SF_BARRED_HEAD;
   if (status != 0 && status < 200)
     return SF_BARRED_STATUS;

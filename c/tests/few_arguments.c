@@ -793,7 +793,9 @@ static void whole_heads(void) {
       {"HTTP/1.1 103 Early\nCache-Control: max-age=1\n\n", 0, SF_BARRED_STATUS},
       {"HTTP/1.1 500 No\n\n", 200, SF_NO_OBSTACLE},
       {"HTTP/1.1 2x0 OK\n\n", 200, SF_BARRED_HEAD},
-      {"GET / HTTP/1.1\nCache-Control: max-age=1\n\n", 200, SF_BARRED_HEAD},
+      {"GET / HTTP/1.1\nCache-Control: max-age=1\n\n", 200, SF_BARRED_NO_RESPONSE},
+      {"GET / HTTP/1.1\nCache-Control: max-age=1\n", 200, SF_BARRED_NO_RESPONSE},
+      {"GET / HTTP/1.1\nCache-Control: private\n\n", 200, SF_BARRED_DIRECTIVE},
       {"Cache-Control: max-age=1\n\n", 0, SF_NO_OBSTACLE},
   };
   sf_context context = sf_context_of(seed, SF_RFC8941);
@@ -879,7 +881,7 @@ static void verdicts_in_words(void) {
       {"HTTP/1.1 206\nExpires: 0\n\n",
        "Expires: stale (expires); not stored: the status code forbids it", "a;fwd=miss;ttl=0;stored=?0"},
       {"HTTP/1.1 200\nT: max-age=99999999999\n", "T: fresh for 2147483648 s (max-age); not stored: the "
-       "head is incomplete or that of a request", "a;fwd=miss;ttl=2147483648;stored=?0"},
+       "head is incomplete", "a;fwd=miss;ttl=2147483648;stored=?0"},
   };
   sf_context context = sf_context_of(seed, SF_RFC8941);
   sf_target target = sf_target_of("T");
@@ -1481,7 +1483,8 @@ static void storing(void) {
   CHECK(strcmp(sf_obstacle_name(SF_BARRED_STATUS), "the status code forbids it") == 0);
   CHECK(strcmp(sf_obstacle_name(SF_BARRED_REQUEST), "the request had Authorization") == 0);
   CHECK(strcmp(sf_obstacle_name(SF_BARRED_UNPERMITTED), "nothing permits it") == 0);
-  CHECK(strcmp(sf_obstacle_name(SF_BARRED_HEAD), "the head is incomplete or that of a request") == 0);
+  CHECK(strcmp(sf_obstacle_name(SF_BARRED_NO_RESPONSE), "the head is that of a request") == 0);
+  CHECK(strcmp(sf_obstacle_name(SF_BARRED_HEAD), "the head is incomplete") == 0);
   CHECK(strcmp(sf_obstacle_name(SF_NO_OBSTACLE), "") == 0 && strcmp(sf_obstacle_name(0), "") == 0);
 }
 

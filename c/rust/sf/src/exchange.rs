@@ -388,9 +388,10 @@ pub enum Obstacle {
     /// Nothing permits it: no directive, no `Expires` that counts, and the status code is not
     /// heuristically cacheable (RFC 9110 section 15.1).
     Unpermitted,
-    /// A line of the head is no field line, or the head did not end ([`Exchange::is_incomplete`]);
-    /// or the [`Head`] is that of a request.
+    /// A line of the head is no field line, or the head did not end ([`Exchange::is_incomplete`]).
     Incomplete,
+    /// The [`Head`] is that of a request ([`Head::is_request`]).
+    NotAResponse,
 }
 
 impl Obstacle {
@@ -406,7 +407,8 @@ impl Obstacle {
             Obstacle::Status => "the status code forbids it",
             Obstacle::Authorization => "the request had Authorization",
             Obstacle::Unpermitted => "nothing permits it",
-            Obstacle::Incomplete => "the head is incomplete or that of a request",
+            Obstacle::Incomplete => "the head is incomplete",
+            Obstacle::NotAResponse => "the head is that of a request",
         }
     }
 }

@@ -5,8 +5,8 @@ use crate::error::Excerpt;
 use crate::line::{is_tchar, spaces_before, split, without_end};
 use crate::malformed::{Fault, Malformed};
 use crate::{
-    field_text, has_field, trim, Appended, Error, Exchange, FieldLine, FieldType, Hop, Parser,
-    Path, Priority, Refusal, ResponsePriority, Verdict,
+    field_text, has_field, trim, Appended, Error, Exchange, FieldLine, FieldType, Hop, Obstacle,
+    Parser, Path, Priority, Refusal, ResponsePriority, Verdict,
 };
 use alloc::vec::Vec;
 use core::fmt;
@@ -487,7 +487,7 @@ impl<'a> Head<'a> {
 
     /// Decides what a cache does with the response: see [`Exchange::decide_in`]. If the exchange has
     /// no status code, that of the start line counts. The head is incomplete if the exchange or this
-    /// head says so, or if it is that of a request.
+    /// head says so. If it is that of a request, that forbids storing ([`Obstacle::NotAResponse`]).
     ///
     /// # Errors
     ///
@@ -511,7 +511,10 @@ impl<'a> Head<'a> {
             is_incomplete: exchange.is_incomplete || self.is_incomplete || self.is_request,
             ..*exchange
         };
-        let verdict = self.parser.decide(&exchange, targets, &self.lines)?;
+        let mut verdict = self.parser.decide(&exchange, targets, &self.lines)?;
+        if self.is_request && verdict.obstacle == Some(Obstacle::Incomplete) {
+            verdict.obstacle = Some(Obstacle::NotAResponse);
+        }
         for malformed in &verdict.malformed {
             self.note(*malformed)?;
         }

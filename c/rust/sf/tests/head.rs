@@ -336,7 +336,7 @@ fn obstacles() {
     let verdict = head.decide(&exchange.with_incomplete(true), &[]).unwrap();
     assert_eq!(
         verdict.to_string(),
-        "Cache-Control: fresh for 60 s (max-age); not stored: the head is incomplete or that of a request"
+        "Cache-Control: fresh for 60 s (max-age); not stored: the head is incomplete"
     );
     // Without a field, and with a malformed one, of which the directives count as `no-store`.
     for (text, shown) in [
@@ -392,5 +392,8 @@ fn obstacles() {
     assert!(!exchange.with_request(&head).is_authorized);
     // The head of a request is none of a response.
     let verdict = head.decide(&exchange, &[]).unwrap();
-    assert_eq!(verdict.obstacle, Some(Obstacle::Incomplete));
+    assert_eq!(verdict.obstacle, Some(Obstacle::NotAResponse));
+    assert!(verdict
+        .to_string()
+        .ends_with("; not stored: the head is that of a request"));
 }
