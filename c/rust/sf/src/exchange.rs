@@ -143,8 +143,8 @@ impl Exchange {
         }
     }
 
-    /// The same with whether the request had `Authorization`, by its head. If a line of that head is no
-    /// field line, or it did not end, it may have had the field, and so it counts.
+    /// The same with whether the request had `Authorization`, by its head. If a line of that head is
+    /// no field line, or it did not end, it may have had the field, and so it counts.
     ///
     /// ```
     /// use sf::{Cache, Exchange, Head, Parser};
