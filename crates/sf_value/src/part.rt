@@ -7,7 +7,8 @@ use std::alloc::Global;
 use std::hash::RandomState;
 
 /// A part of a value: a bare item, an Item, an Inner List, a member, and entries and sequences of
-/// these. Whole fields are compared and copied by [`same`] and [`copy`].
+/// these. Whole fields are compared and copied by the functions `same` and `copy` of the module
+/// `tree`.
 pub trait Part: PartialEq + Drop {
     // Whether a copy does not allocate.
     ghost in_place: { Self → Type 0 };
