@@ -1,5 +1,5 @@
-//! The examples of docs/GUIDE.md and docs/CONSUMERS.md, as tests: each is one that they show, word
-//! for word. The laws are called too.
+//! Most examples of docs/GUIDE.md, and the first for each field of docs/CONSUMERS.md, as tests. The
+//! laws are called too.
 #![tactic(auto)]
 
 #[cfg(test)]

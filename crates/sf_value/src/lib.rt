@@ -10,9 +10,10 @@
 //! [`Token`] has its alphabet, no key occurs twice.
 //!
 //! Only `specs/` is about texts here: [`same`] compares fields as trees, in which order counts, and
-//! [`copy`] copies one. A call that allocates takes the allocator as its first argument and returns
-//! a `Result`; a call that makes `Entries` takes a seed next. A call that fails leaves what it
-//! borrowed unchanged. To build the Item `a;q=1`:
+//! [`copy`] copies one. A call that makes a value takes the allocator first, and a seed next if it
+//! makes `Entries`; entries and sequences keep these for what is added. A call that may allocate
+//! returns a `Result`. A call that fails leaves what it borrowed unchanged. To build the Item
+//! `a;q=1`:
 //!
 //! ```text
 //! let seed = RandomState::new(&rt)?;
