@@ -49,16 +49,16 @@ mark_of n name lines refusal.OutOfMemory = None
 mark_of n name lines (refusal.TooLong limit) = None
 mark_of n name lines (refusal.ReadFault place) = None
 
--- a field that is refused: its name, the error message, the line as it is in the input with its
--- number, and a caret under the place
+-- a field that is refused: its name, the error message, the line with its number (a question mark
+-- for each byte that is not printable ASCII), and a caret under the place
 abbrev pub refused_text : Settings → ℕ → List ℕ → List (List ℕ) → Refusal → List ℕ
 refused_text s n name lines r =
     verdict_text s verdict.Refused
     ++ (codes " " ++ (name ++ (codes ": "
     ++ ((refusal_text r ++ marked_text (mark_of n name lines r)) ++ codes "\n"))))
 
--- a line that is no line of a head: its number, why, the line as it is in the input, and a caret
--- under the place
+-- a line that is no line of a head: its number, why, the line (with question marks likewise), and a
+-- caret under the place
 abbrev pub bad_line_text : Settings → ℕ → List ℕ → Option LinePlace → List ℕ
 bad_line_text s n why place =
     verdict_text s verdict.Refused

@@ -16,7 +16,7 @@ use std::alloc::Global;
 /// What a line of an input is.
 #[derive(Debug, Drop)]
 pub enum Line {
-    /// No byte: the end of a head.
+    /// No byte: it is skipped.
     Empty,
     /// It begins with a space or a tab: obsolete line folding (RFC 9112 section 5.2).
     Folded,

@@ -60,7 +60,7 @@ pub(crate) fn bad_place(line: &[u8]) -> usize
     end
 }
 
-/// Returns a line as it is in the input, one character for each of its bytes.
+/// Returns a line, with a question mark for each byte that is not printable ASCII.
 pub fn line_text(alloc: Global, line: &[u8]) -> Result<Vec<u8>, OutOfMemory>
     ensures { IfOk result (λ text. text.items ≡ printed_in line.now ++ codes "\n") }
 {

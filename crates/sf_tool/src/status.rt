@@ -7,7 +7,7 @@ ghost use Rattle.sf_tool.specs.Status.{code_of, line_of};
 /// The result of the command.
 ///
 /// ```
-/// let status = run(alloc, &seed, &request, &mut source, &mut sink);
+/// let status = run(alloc, &seed, &request, &mut source, &mut sink, &mut errors);
 /// let status = status.after_flush(sink.into_inner().flush());
 /// if let Some(line) = status.line() {
 ///     let _ = rt.eprintln(line);

@@ -106,7 +106,7 @@ pub enum Reuse {
     Stale,
     /// It may be stored, by [`Cause::NoCache`] only if the status code, or `Expires`, or
     /// [`CacheRules::allows_storing`] permits it (RFC 9111 section 3). It is never used without
-    /// validation: if that fails, the answer is an error (section 5.2.2.2).
+    /// validation: if the cache is disconnected, the answer is an error (section 5.2.2.2).
     MustRevalidate,
     /// It may be stored if the status code, or `Expires`, or [`CacheRules::allows_storing`] permits
     /// it. No directive sets a lifetime, so a heuristic may apply (RFC 9111 section 4.2.2).
