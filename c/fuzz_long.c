@@ -15,7 +15,7 @@
  *   chunks of random sizes: it answers what follows from what the library says of the joined text
  *   (docs/COMMAND.md).
  *
- * At a disagreement, a fault or an input that takes a minute of the processor the run ends, and the
+ * At a disagreement, a fault or 64 inputs that take a minute of the processor the run ends, and the
  * input is written to a file beside STATE, as one of the fuzz target. */
 #define _DEFAULT_SOURCE
 #define _POSIX_C_SOURCE 200809L
@@ -33,7 +33,7 @@
 extern char **environ;
 
 enum {
-  LONG_EVERY = 128,         /* of so many inputs one has 4 to 64 KiB, the others 20 to 500 bytes */
+  LONG_EVERY = 128,         /* about one input in so many has 4 to 64 KiB, most others 20 to 500 bytes */
   THOROUGH_EVERY = 8,       /* on one of so many inputs all is compared */
   COMMAND_EVERY = 512,      /* after so many inputs the command is run once */
   INPUT_LIMIT = 1048576,    /* the longest input of the command */

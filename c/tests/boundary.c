@@ -1,4 +1,4 @@
-/* Tests of every function of sf.h, called from C: the worked texts in both dialects; buffers of
+/* Tests of every function of sf_functions.h, called from C: the worked texts in both dialects; buffers of
  * exactly the required size, one element too small, and empty; length 0 with NULL and with a
  * pointer one past a block; numbers that are no kind; malloc failing at each call in turn; and a
  * thread for each processor. Each text and buffer ends at a page that can't be read (buffers.h).

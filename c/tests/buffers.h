@@ -1,5 +1,5 @@
-/* Buffers that end at a page that can be neither read nor written, so any access past the end of
- * one ends the program: sanitizers don't see the loads and stores of the archive, which is not
+/* Buffers that end at a page that can be neither read nor written, so an access to that page ends the
+ * program: sanitizers don't see the loads and stores of the archive, which is not
  * instrumented. The bytes before a buffer are checked when it is freed. Each thread has its own
  * buffers.
  *
