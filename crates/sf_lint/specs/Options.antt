@@ -101,7 +101,7 @@ abbrev pub is_deciding : List Row → Bool
 is_deciding rows = is_true (first_of (codes "decide") rows)
 
 -- the targets that words name: from 1 to 64 header names; without words, the one target of RFC 9213
--- (section 3.1)
+-- (section 3)
 abbrev pub AreTargets : Option (List Text) → List Text → Type 0
 AreTargets None names = names ≡ codes "cdn-cache-control" ∷ []
 AreTargets (Some words) names = AreNames words names

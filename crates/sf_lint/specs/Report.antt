@@ -180,7 +180,8 @@ ReportsLines s lines zero = IsReport [] false 0
 ReportsLines s lines (suc n) =
     ReportsMore (ReportsLines s lines n) (ReportsLine s lines n (line_of (get_or lines n [])))
 
--- an input: the report on its lines, and the number of fields that are not structured
+-- an input: the report on its lines, and the number of field lines of fields that are not
+-- structured
 abbrev pub Reports : Settings → List ℕ → List ℕ → Bool → Type 0
 Reports s input text refused =
     (reported : List ℕ) × (others : ℕ)

@@ -21,7 +21,8 @@ use sf_write::{Sent, put};
 use std::alloc::Global;
 use std::hash::RandomState;
 
-/// The time of receipt for `Expires` without `Date`: it is not known, and no time is after this one.
+/// The time of receipt for `Expires` without `Date`: it is not known. No time is after this one, so
+/// the lifetime is 0.
 const UNKNOWN_TIME: u64 = u64::MAX;
 
 /// A response: what its head says beside its fields.
@@ -65,7 +66,7 @@ fn is_by_rules(
     is_not_stored(decision) || is_storable(status, rules, cache, expires)
 }
 
-/// Writes the decision of a cache, or that the status code decides.
+/// Writes the decision of a cache, if `decides`, or else that the status code decides.
 fn put_outcome<W: Sink>(
     cache: CacheKind,
     decision: Decision,
@@ -152,7 +153,7 @@ fn choice_text(
     }
 }
 
-/// Returns the lines of what caches decide whose fields are those of a dialect.
+/// Returns the lines of what caches decide that parse targeted fields in this dialect.
 fn decision_text_in(
     alloc: Global,
     seed: &RandomState,

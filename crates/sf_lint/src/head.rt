@@ -62,7 +62,9 @@ pub(crate) fn is_status_line(line: &[u8]) -> bool
     has_protocol(line)
 }
 
-/// Returns whether the line begins a message: whether it is a status line or a request line.
+/// Returns whether the line begins a message: whether it is a status line or a request line. Of a
+/// request line, the first word is a method, which has no colon, and the third is the version. So a
+/// field line such as `a: b HTTP/1.1` is none.
 pub(crate) fn is_start(line: &[u8]) -> bool
     ensures { result ≡ is_start_in line.now }
 {
@@ -80,7 +82,8 @@ pub(crate) fn is_named(line: &[u8], name: &[u8]) -> bool
     }
 }
 
-/// Returns what is after the first colon, without the spaces and tabs at its ends.
+/// Returns what is after the first colon, without the spaces and tabs at its ends; nothing if there
+/// is no colon.
 pub(crate) fn value_of(line: &[u8]) -> &[u8]
     ensures { result.now ≡ value_in line.now }
 {

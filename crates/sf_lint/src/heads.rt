@@ -1,4 +1,5 @@
-//! Where the heads of an input begin and end, and what is decided by them.
+//! Where the heads of an input begin and end, and what is decided by them. The n-th line is that at
+//! index `n`, from 0; printed numbers of lines are from 1.
 ghost use Rattle.std.specs.Prelude.{◌≡◌, ◌+◌, ◌<◌, ◌≤◌, ◌^◌, length, map, IfOk};
 ghost use Rattle.sf_lint.specs.Heads.{DecidesAfter, DecidesHead, ends_head as ends_head_in};
 ghost use Rattle.sf_lint.specs.Heads.{MayDecide, has_text as has_text_in, head_begin as head_begin_in};
@@ -64,6 +65,7 @@ fn head_decisions(
         return Ok(Vec::new(alloc));
     };
     if is_status_line(first) {
+        // Printed numbers are from 1, and the fields begin after the status line.
         return head_text(alloc, seed, caches, status_code(first), begin + 2, rest);
     }
     if is_start(first) || !has_text(head) {

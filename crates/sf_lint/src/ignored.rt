@@ -1,5 +1,5 @@
-//! The parameters of Cache-Status (RFC 9211) that are ignored: each has another type or range than
-//! the RFC states.
+//! The parameters of Cache-Status (RFC 9211) that are ignored, since they have another type or
+//! range than the RFC states, and those that are read but invalid.
 ghost use Rattle.std.specs.Prelude.{◌≡◌, ◌++◌, IfOk};
 ghost use Rattle.sf_value.specs.Grammar.Pairs.{value_at};
 ghost use Rattle.sf_value.specs.Lookups.{as_integer as integer_of};
@@ -39,7 +39,7 @@ fn is_no_integer(params: &Entries<Bare>, key: &[u8]) -> bool
     }
 }
 
-/// Returns whether the parameter at the key is present, and not a status code.
+/// Returns whether the parameter at the key is present, and not an Integer from 100 to 999.
 fn is_no_status(params: &Entries<Bare>, key: &[u8]) -> bool
     ensures { result ≡ is_ignored (value_at key.now params.now) (status_at key.now params.now) }
 {
@@ -79,7 +79,7 @@ fn is_no_name(params: &Entries<Bare>, key: &[u8]) -> bool
     }
 }
 
-/// Returns a bare item as a status code, if it is one.
+/// Returns a bare item as a status code, if it is an Integer from 100 to 999.
 fn status_of(bare: &Bare) -> Option<HopStatus>
     ensures { result ≡ status_in (integer_of bare.now) }
 {
@@ -138,8 +138,8 @@ fn ignored_params(
     with_ignored(alloc, settings, text, number, "detail", is_ignored)
 }
 
-/// Returns whether `hit` and `fwd` are both read, while "only one of them should appear on each list
-/// member" (RFC 9211 section 2.1).
+/// Returns whether `hit` and `fwd` are both read, while "only one of them should appear on each
+/// list member" (RFC 9211 section 2.1).
 fn is_both(params: &Entries<Bare>) -> bool
     ensures { result ≡ has_both params.now }
 {

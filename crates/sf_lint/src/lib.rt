@@ -3,11 +3,12 @@
 //! [`run`] reads heads from a source and writes for each structured field its canonical text, or
 //! why it is refused and where, to a sink; [`run_with`] writes what caches decide, too. [`kind_of`]
 //! and [`dialect_of`] are the table of the registered structured fields. [`is_coloured`] decides
-//! whether the output has colours. In `specs/`, `Registry` is that table, `Head` defines the lines
-//! of a head, `Report` what is printed for them, `Heads` where each head ends, `Deciding` what is
-//! printed of decisions, `StatusCodes` and `Ages` what these depend on besides fields, `Colours` in
-//! which colours, `Run` what a run reads and writes, and `Options` which arguments make which
-//! settings.
+//! whether the output has colours. In `specs/`, `Registry` is that table, and `Settings` defines
+//! which fields are structured; `Head` defines the lines of a head, `Report` what is printed for
+//! them, and `Meanings` what a value means; `Heads` defines where each head ends, `Deciding` what
+//! is printed of decisions, and `StatusCodes` and `Ages` how these depend on the status code and on
+//! `Age`; `Colours` defines the colours, `Run` what a run reads and writes, and `Options` which
+//! arguments make which options.
 #![tactic(auto)]
 
 mod ages;

@@ -19,7 +19,8 @@ fn offset_of(line: &[u8]) -> usize
 }
 
 /// Returns the place in the lines of a place of the joined values of this name. The first line has
-/// this number, and places are counted from 0.
+/// this number, and places are counted from 0. The comma and the space between two values belong to
+/// the end of the first.
 pub(crate) fn find_mark<'a>(
     name: &[u8],
     number: usize,

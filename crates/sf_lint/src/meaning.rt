@@ -91,7 +91,8 @@ pub(crate) fn joined(
     Ok(text)
 }
 
-/// Returns the lines for the ignored parameters of a Cache-Status field, and its path.
+/// Returns the lines for the ignored and the invalid parameters of a Cache-Status field, and its
+/// path.
 fn path_texts(
     alloc: Global,
     settings: &Settings,
@@ -133,7 +134,8 @@ fn targeted_texts(alloc: Global, settings: &Settings, dict: &Dict) -> Result<Vec
     joined(age, shared, policy_text(alloc, &policy)?)
 }
 
-/// Returns the lines for the ignored parameters of a Cache-Status field (RFC 9211), and its path.
+/// Returns the lines for the ignored and the invalid parameters of a Cache-Status field (RFC 9211),
+/// and its path; nothing if the settings give the field another kind.
 fn path_of(alloc: Global, settings: &Settings, field: &Field) -> Result<Vec<u8>, UseFault>
     ensures { IsMeaning (path_meaning settings.now field.now) result }
 {
@@ -146,7 +148,8 @@ fn path_of(alloc: Global, settings: &Settings, field: &Field) -> Result<Vec<u8>,
     }
 }
 
-/// Returns the priority of a Priority field (RFC 9218).
+/// Returns the lines for the ignored members of a Priority field (RFC 9218), and its priority;
+/// nothing if the settings give the field another kind.
 fn priority_of(alloc: Global, settings: &Settings, field: &Field) -> Result<Vec<u8>, UseFault>
     ensures { IsMeaning (priority_meaning settings.now field.now) result }
 {
@@ -156,7 +159,8 @@ fn priority_of(alloc: Global, settings: &Settings, field: &Field) -> Result<Vec<
     }
 }
 
-/// Returns the policy of a targeted cache control field (RFC 9213).
+/// Returns the lines for the ignored members of a targeted cache control field (RFC 9213), and its
+/// policy; nothing if the settings give the field another kind.
 fn policy_of(alloc: Global, settings: &Settings, field: &Field) -> Result<Vec<u8>, UseFault>
     ensures { IsMeaning (policy_meaning settings.now field.now) result }
 {

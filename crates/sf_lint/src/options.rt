@@ -37,9 +37,9 @@ pub struct Options {
 pub enum OptionsFault {
     /// The arguments are not those of the command.
     Usage,
-    /// They ask for help.
+    /// The arguments ask for help.
     Help,
-    /// They ask for the version.
+    /// The arguments ask for the version.
     Version,
     /// An allocation failed while they were parsed.
     OutOfMemory,
@@ -59,7 +59,8 @@ impl OptionsFault {
         }
     }
 
-    /// Returns the text for standard output: of help and the version. Does not allocate.
+    /// Returns the text for standard output, if help or the version was asked for; otherwise
+    /// `None`. Does not allocate.
     pub fn text(self) -> Option<&'static str>
         ensures { option_map (λ s. s.now) result ≡ fault_text self }
     {
@@ -112,8 +113,8 @@ pub fn status_line(status: Status) -> Option<&'static str>
 /// the kind `item`, `list` or `dict`. `--quiet` is given at most once, and so is `--decide`. With
 /// `--decide` there may be one `--age`, a number of seconds below 2^64, and up to 64 `--target`,
 /// each with a header name; without a target, the only one is `cdn-cache-control` (RFC 9213 section
-/// 3.1). `--help` and `--version` are returned as faults. No argument sets colours: the settings
-/// have none.
+/// 3). `--help` and `--version` are returned as faults. No argument sets colours: the settings have
+/// none.
 ///
 /// ```
 /// let options = read_options(alloc, words.as_slice())?; // sflint --decide --age 15 --quiet

@@ -106,8 +106,8 @@ pub fn kind_of(name: &str) -> Option<Kind>
 }
 
 /// The dialect of the registered structured field with this name: that of RFC 9651 for Deprecation,
-/// which is a Date, and that of RFC 8941 for the others. The name is in lower case. It does not
-/// allocate.
+/// which is a Date (RFC 9745), and that of RFC 8941 for every other name. The name is in lower
+/// case. It does not allocate.
 pub fn dialect_of(name: &str) -> Dialect
     ensures { result ≡ dialect_in name.now }
 {

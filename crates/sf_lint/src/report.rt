@@ -1,4 +1,5 @@
-//! What is printed for the lines of an input.
+//! What is printed for the lines of an input. The n-th line is that at index `n`, from 0; printed
+//! numbers of lines are from 1.
 ghost use Rattle.std.specs.Prelude.{◌≡◌, ◌+◌, ◌<◌, ◌≤◌, ◌^◌, ◌↔◌, ◌++◌, true, false, length, map};
 ghost use Rattle.std.specs.Prelude.{get_or, IfOk, IfErr, IsTrue};
 ghost use Rattle.std.specs.Prelude.{codes, decimal, string_bytes, [], Some};
@@ -66,7 +67,9 @@ fn nothing(alloc: Global) -> LineReport
     }
 }
 
-/// Returns whether a line with this name is before the n-th in its message.
+/// Returns whether a line with this name is before the n-th in its message. This walks back over
+/// the message, and [`values`] walks on, for each structured field: with very many of different
+/// names, the time grows with the square of their number.
 fn is_repeated(name: &[u8], lines: &[&[u8]], n: usize) -> bool
     requires { n ≤ length lines.now }
     ensures { IsTrue result ↔ IsRepeated name.now (map (λ line. line.now) lines.now) n }
@@ -229,8 +232,8 @@ fn report_refusal(
     }
 }
 
-/// Returns the text for a field that RFC 8941 refuses and RFC 9651 accepts, with this value: what it
-/// is by the second.
+/// Returns the text for a field that RFC 8941 refuses and RFC 9651 accepts, with this value: its
+/// canonical text and its meaning by RFC 9651, or that a member names no cache.
 fn by_the_newer(
     alloc: Global,
     settings: &Settings,
@@ -254,8 +257,8 @@ fn by_the_newer(
     }
 }
 
-/// Reports a field that RFC 8941 refuses: also what it is by RFC 9651, if that accepts it, since the
-/// answers differ. The other numbers are those of [`report_field`].
+/// Reports a field that RFC 8941 refuses: also what it is by RFC 9651, if that accepts it, since
+/// the answers differ. `number` and `lines` are as in [`report_field`].
 fn report_older(
     alloc: Global,
     seed: &RandomState,
@@ -372,7 +375,7 @@ fn report_named(
     )
 }
 
-/// Returns the report of a line that is not a line of a head.
+/// Returns the text for a line that is no line of a head, up to the line itself.
 fn bad_line_words(
     alloc: Global,
     settings: &Settings,
@@ -495,7 +498,7 @@ fn report_lines(
     Ok(all)
 }
 
-/// Returns the line with the number of fields that are not structured.
+/// Returns the line with the number of field lines of fields that are not structured.
 fn others_line(alloc: Global, others: u64) -> Result<Vec<u8>, OutOfMemory>
     ensures { IfOk result (λ text. text.items ≡ others_text others) }
 {
@@ -513,7 +516,7 @@ pub(crate) fn report(
 ) -> Result<LineReport, OutOfMemory>
     requires { length input.now ≤ 2 ^ 32 }
     // The report on each line, in order, with what caches decide if that is asked for, and then the
-    // number of fields that are not structured.
+    // number of field lines of fields that are not structured.
     ensures { IfOk result (λ reported. ReportsWith caches.now settings.now input.now
         reported.text.items reported.refused) }
 {

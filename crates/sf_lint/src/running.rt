@@ -48,8 +48,9 @@ pub fn run<R: Source, W: Sink>(
 /// lines of each response what a shared and a private cache decide about it (RFC 9111).
 ///
 /// The lines are those of the field that is obeyed, in the words of `sf targeted --fallback`, and
-/// are written with `quiet` too. A decision is by the status code of the status line, by `Age` if the
-/// caches have no age, and by `Expires` and `Date` if `Cache-Control` sets no lifetime.
+/// are written with `quiet` too. A decision also depends on the status code of the status line, on
+/// `Age` if the caches have no age, and on `Expires` and `Date` if `Cache-Control` decides but sets
+/// no lifetime. What caches decide does not change the result.
 ///
 /// ```
 /// // caches: Some(CacheSettings { targets: [CDN_CACHE_CONTROL], age: Some(15) })

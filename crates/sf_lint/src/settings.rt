@@ -7,7 +7,8 @@ use crate::registry::{dialect_of, kind_of};
 use http_header::HeaderName;
 use sf_value::{Dialect, Kind};
 
-/// A field that is not registered, with its kind. Its dialect is that of RFC 9651.
+/// A field that is structured because the settings have it, with its kind. Its dialect is that of
+/// RFC 9651, also if the field is registered with another.
 #[derive(Debug, Drop)]
 pub struct CustomField {
     /// The name of the field.
@@ -22,7 +23,7 @@ pub struct Settings {
     /// Fields that are structured in addition to the registered ones. The first for a name
     /// counts, and takes precedence over a registered field.
     pub fields: Vec<CustomField>,
-    /// Whether only what is refused is printed.
+    /// Whether only refusals and decisions are printed.
     pub quiet: bool,
     /// Whether at the beginning of a line the word `ok` is green, `refused` red, and `ignored` and
     /// `invalid` yellow, by escape sequences for terminals.

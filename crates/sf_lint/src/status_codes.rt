@@ -57,8 +57,8 @@ pub(crate) fn rules_for(status: Option<u64>, rules: &CacheRules) -> CacheRules
     }
 }
 
-/// Whether the code, a directive or `Expires` permits to store a response (RFC 9111 section 3), and
-/// the code is final. Without a code that is not known, and counts as so.
+/// Whether the code is final, and a directive, `Expires` or the code permits to store the response
+/// (RFC 9111 section 3). It is true without a code, since this is then not known.
 pub(crate) fn is_storable(
     status: Option<u64>,
     rules: &CacheRules,

@@ -1,6 +1,8 @@
 //! Laws of parsing (RFC 9651 section 4.2), each as the contract of a function that does nothing:
 //! [`field_parses`] is that of whole fields. [`parse_text_in`] is the parser with the RFC's steps
-//! as its contract.
+//! as its contract. The law of a part of a field says two things (`Agrees` in
+//! `specs/ParsingLaws`): the prefix that the steps take spells the value that they return; and they
+//! take a text that spells a value, if no character follows that could continue the text.
 ghost use Rattle.sf_rfc.specs.ParsingLaws.{KeysAgree, TokensAgree, BooleansAgree, StringsAgree};
 ghost use Rattle.sf_rfc.specs.ParsingLaws.{NumbersAgree, DatesAgree, ByteSequencesAgree};
 ghost use Rattle.sf_rfc.specs.ParsingLaws.{DisplayStringsAgree, BareItemsAgree, ParametersAgree};

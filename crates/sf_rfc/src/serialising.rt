@@ -17,9 +17,9 @@ pub fn bare_serialises()
     ensures { BareSerialises }
 {}
 
-/// A valid field serialises by the RFC's steps (section 4.1) as its canonical text. A List or a
-/// Dictionary with no members, and nothing else, is not serialised, and its canonical text is
-/// empty.
+/// A valid field that is an Item or has members serialises by the RFC's steps (section 4.1) as its
+/// canonical text. A List or a Dictionary with no members, and nothing else, is not serialised, and
+/// its canonical text is empty.
 pub fn field_serialises()
     ensures members { FieldSerialises }
     ensures empty { EmptyIsNotSerialised }

@@ -1,4 +1,4 @@
-//! Laws of UTF-8 (RFC 3629), each as a clause of a function that does nothing.
+//! Laws of UTF-8 (RFC 3629), each as a clause of one function that does nothing.
 ghost use Rattle.sf_rfc.specs.Utf8Laws.{ScalarsEncode, DecodingInverts, AbnfDecodes};
 
 /// Unicode scalar values, and nothing else, are encoded as UTF-8 (section 3). Characters are

@@ -36,8 +36,8 @@ pub fn served_agrees()
 
 /// For each dialect, all lines and every hop: what [`sf_use::append_to_lines`] returns has the
 /// members that the lines parse as, and one more at its end that represents the hop (section 2), of
-/// whose parameters `hit` and `fwd` at most one appears (section 2.1). If the lines don't parse, the
-/// own member is the only one.
+/// whose parameters `hit` and `fwd` at most one appears (section 2.1). A hop is refused only if it
+/// would have both. If the lines don't parse, the own member is the only one.
 pub fn adding_agrees()
     ensures { AddingAgrees }
 {}

@@ -25,8 +25,9 @@ pub fn storing_agrees()
 {}
 
 /// A response that must be validated is never used without (section 5.2.2.4), and a stale one is
-/// served only if no directive prohibits it (sections 4.2.4, 5.2.2.2, 5.2.2.8 and 5.2.2.10). Others
-/// are used without validation, except those that have `no-cache` with field names.
+/// served only if no directive prohibits it (sections 4.2.4, 5.2.2.2, 5.2.2.8 and 5.2.2.10). A
+/// response has to be validated only for one of these two reasons, or if it has `no-cache` with
+/// field names.
 pub fn validation_agrees()
     ensures validated { ValidatedAsRequired }
     ensures stale { StaleAsPermitted }
@@ -35,7 +36,8 @@ pub fn validation_agrees()
 
 /// A response is used as fresh exactly if its lifetime is greater than its age (sections 4.2 and
 /// 4.2.1), and for as many seconds as are left of it, unless it is not stored or has `no-cache`. It
-/// is not fresh after its age is greater than `max-age` (section 5.2.2.1), nor when it is equal.
+/// is not fresh after its age is greater than `max-age` (section 5.2.2.1), nor when it is equal,
+/// unless the cache is shared and the response has `s-maxage`.
 pub fn freshness_agrees()
     ensures calculated { FreshAsCalculated }
     ensures used { FreshIsUsed }
@@ -65,7 +67,12 @@ pub fn uses_agree()
 
 /// Returns how a cache uses a response with this `Cache-Control`, by the sentences of the RFC; None
 /// if it is no list of directives. `understands`: the cache understands the status code. `expires`:
-/// `Expires` less `Date`, in seconds.
+/// `Expires` less `Date`, in seconds. `age`: the age of the response, in seconds. Does not
+/// allocate.
+///
+/// ```
+/// reuse(b"max-age=60", CacheKind::Shared, true, None, 15) // Some(Reuse::Fresh { seconds: 45 })
+/// ```
 pub fn reuse(
     text: &[u8],
     cache: CacheKind,

@@ -12,8 +12,8 @@ use sf_use::{Asked, Priority, merge};
 use sf_value::Dict;
 
 /// For every Dictionary: what it sets are its priority parameters, without those that are unknown,
-/// out of range or of another type (section 4). The same of the lines of a field in each dialect, by
-/// the steps of RFC 9651 section 4.2.
+/// out of range or of another type (section 4). The same of the lines of a field in each dialect,
+/// by the steps of RFC 9651 section 4.2.
 pub fn parameters_agree()
     ensures parameters { ParametersAgree }
     ensures lines { LinesAgree }

@@ -27,8 +27,9 @@ pub fn choice_agrees()
 {}
 
 /// For every Dictionary: the policy, and the rules, are those of its directives. A directive whose
-/// value violates its constraint is not consumed, as section 2.1 advises, except that one that forbids
-/// something is set, unless it is the Item `?0`.
+/// value violates its constraint is not consumed, as section 2.1 advises, except that one that
+/// forbids something is set, unless it is the Item `?0`. An invalid `max-age` or `s-maxage` is
+/// reported as invalid in the rules.
 pub fn policy_agrees()
     ensures policy { PolicyAgrees }
     ensures rules { RulesAgree }
@@ -58,8 +59,8 @@ pub fn semantics_agree()
 /// Calls [`sf_use::select`], with the sentences of section 2.2 as the contract.
 ///
 /// ```
-/// select(alloc, &seed, &targets, &headers)? // the first listed field with a valid, non-empty
-/// value
+/// // the first listed field with a valid, non-empty value
+/// select(alloc, &seed, &targets, &headers)?
 /// ```
 pub fn select(
     alloc: Global,

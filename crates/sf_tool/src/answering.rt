@@ -28,7 +28,7 @@ use sf_view::{Node, accepts, scan_settled};
 use sf_write::{Sent, put, put_field};
 use std::alloc::Global;
 
-/// Returns how an answer ends: with its status, if the whole text was written.
+/// Returns how an answer ends: with its status if the whole text was written, otherwise `Stopped`.
 fn ended(sent: Sent, status: Status) -> Status
     requires { status ≡ status_is.Accepted ⊎ status ≡ status_is.Refused }
     // This holds for every text that was sent from its beginning.
@@ -41,7 +41,8 @@ fn ended(sent: Sent, status: Status) -> Status
     }
 }
 
-/// Writes a text that was built before, with its status.
+/// Writes a text that was built before, and returns its status, which is `Accepted` or `Refused`;
+/// or `Stopped` if a write failed. Does not allocate.
 pub fn answer_made<W: Sink>(text: &[u8], status: Status, sink: &mut W) -> Status
     requires { status ≡ status_is.Accepted ⊎ status ≡ status_is.Refused }
     // This status if the whole text was written; Stopped if a write failed after a prefix of it.
@@ -85,7 +86,7 @@ pub(crate) fn answer_view<W: Sink>(view: View, field: Field, sink: &mut W) -> St
     ended(put_view(view, &field, Ok(0), sink), Status::Accepted)
 }
 
-/// The number of nodes on the stack.
+/// The number of nodes on the stack, which are tried before any is allocated.
 const STACK_NODES: usize = 32;
 
 /// Writes the canonical text of the field that nodes describe, and a line feed.
@@ -99,8 +100,8 @@ fn answer_viewed<W: Sink>(nodes: &sf_view::View, kind: Kind, sink: &mut W) -> St
 }
 
 /// Writes a view of the field that a text spells, without building it. `None` if it is the tree, or
-/// if a scan declined the text: it is refused, or [`answer_nodes`] makes no nodes of it; then nothing
-/// was written.
+/// if a scan declined the text: it is refused, or [`answer_nodes`] makes no nodes of it; then
+/// nothing was written.
 pub(crate) fn answer_scanned<W: Sink>(
     alloc: Global,
     view: View,
@@ -127,9 +128,9 @@ pub(crate) fn answer_scanned<W: Sink>(
 }
 
 /// Writes the canonical text of the field that a text spells, and a line feed, from nodes that
-/// point into the text. `None` if there are no nodes, because the text is refused, a key of
-/// parameters is repeated, too many keys have one hash, or an allocation failed; then nothing was
-/// written.
+/// point into the text. `None` if there are no nodes, because the text is refused, keys of
+/// parameters are repeated or too many to compare, too many keys have one hash, or an allocation
+/// failed; then nothing was written.
 fn answer_nodes<W: Sink>(
     alloc: Global,
     dialect: Dialect,
@@ -146,20 +147,22 @@ fn answer_nodes<W: Sink>(
     if let Ok(view) = sf_view::View::scan(dialect, kind, text, &mut few) {
         return Some(answer_viewed(&view, kind, sink));
     }
-    // More nodes don't help: the text is refused, or a key of parameters is repeated.
+    // More nodes don't help: the text is refused, or keys of parameters are repeated or too many.
     if kind != Kind::Dict && !are_used_up(&few) {
         return None;
     }
     answer_many_nodes(alloc, dialect, kind, text, sink)
 }
 
-/// Whether a scan may have had too few nodes, so that one of the last three was written: only an Inner
-/// List and an Item in it are written after the nodes of their parts.
+/// Whether a scan may have had too few nodes: one of the last three was then written. When nodes
+/// run out, at most two are not written yet, those of an Inner List and of an Item in it: they are
+/// written after the nodes of their parts.
 fn are_used_up(nodes: &[Node; STACK_NODES]) -> bool {
     nodes[STACK_NODES - 3..].iter().any(|node| node.size != 0)
 }
 
-/// The same with more nodes than are on the stack, and for a Dictionary in which a key is repeated.
+/// The same as [`answer_nodes`], with more nodes than are on the stack, and for a Dictionary in
+/// which a key is repeated.
 fn answer_many_nodes<W: Sink>(
     alloc: Global,
     dialect: Dialect,
@@ -198,7 +201,7 @@ pub(crate) fn answer_refusal<W: Sink>(refusal: Refusal, sink: &mut W) -> Status
     }
 }
 
-/// Writes the line for an input that is longer than this limit.
+/// Writes the line for an input that is longer than this limit, in bytes. Does not allocate.
 pub fn answer_too_long<W: Sink>(limit: u64, sink: &mut W) -> Status
     // Refused if the whole line was written; Stopped if a write failed after a prefix of it.
     ensures { ReportsText (too_long_line limit) status_is.Refused

@@ -42,7 +42,8 @@ fn put_flags<W: Sink>(policy: &Policy, before: Sent, out: &mut W) -> Sent
     put_flag(b"private\n", policy.is_private, sent, out)
 }
 
-/// Writes the lines of a policy: its lifetimes, then the directives that are set.
+/// Writes the lines of a policy (RFC 9213) after what was sent before: its lifetimes in a shared
+/// and in a private cache, then the directives that are set. Does not allocate.
 pub fn put_policy<W: Sink>(policy: &Policy, before: Sent, out: &mut W) -> Sent
     ensures { Follows W.state W.send_gives out.old out.new before result (policy_lines policy.now) }
 {

@@ -11,7 +11,7 @@ use sf_field::{AskingCost, FieldLines};
 use sf_value::is_ows;
 use std::marker::Model;
 
-/// Returns the bytes without the spaces and tabs at their beginning.
+/// Returns the bytes without the spaces and tabs at their beginning. Does not allocate.
 pub fn without_lead(bytes: &[u8]) -> &[u8]
     ensures { result.now ≡ all_but_lead bytes.now }
 {
@@ -33,7 +33,7 @@ fn without_trail(bytes: &[u8]) -> &[u8]
     &bytes[..end]
 }
 
-/// Returns the bytes without the spaces and tabs at both ends.
+/// Returns the bytes without the spaces and tabs at both ends. Does not allocate.
 pub fn trimmed(bytes: &[u8]) -> &[u8]
     ensures { result.now ≡ trim bytes.now }
 {
@@ -52,7 +52,12 @@ fn without_return(line: &[u8]) -> &[u8]
     }
 }
 
-/// Splits the bytes at the first separator, which is left out; None if there is none.
+/// Splits the bytes at the first separator, which is left out; None if there is none. Does not
+/// allocate.
+///
+/// ```
+/// split_at_first(b"a:b:c", b':') // Some((b"a", b"b:c"))
+/// ```
 pub fn split_at_first(bytes: &[u8], separator: u8) -> Option<(&[u8], &[u8])>
     // None if the separator does not occur; otherwise what is before its first place, and after it.
     ensures { MatchOption result (position_or_len (λ b. b == separator) bytes.now ≡ length
@@ -67,7 +72,12 @@ pub fn split_at_first(bytes: &[u8], separator: u8) -> Option<(&[u8], &[u8])>
     }
 }
 
-/// Returns the first line and what follows it, or None if the input is empty.
+/// Returns the first line and what follows it, or None if the input is empty. The line is without
+/// its line feed and a carriage return directly before that. Does not allocate.
+///
+/// ```
+/// split_line(b"a\r\nb\n") // Some((b"a", b"b\n"))
+/// ```
 pub fn split_line(input: &[u8]) -> Option<(&[u8], &[u8])>
     ensures lines { MatchOption result (lines input.now ≡ [])
         (λ p. lines input.now ≡ p.0.now ∷ lines p.1.now) }
@@ -89,7 +99,7 @@ pub fn split_line(input: &[u8]) -> Option<(&[u8], &[u8])>
 /// is dropped, and then the spaces and tabs at both ends of each line.
 #[derive(Drop)]
 pub(crate) struct InputLines<'a> {
-    /// A line that comes before those of the input.
+    /// A line that comes before those of the input, until it is asked for. It is not trimmed.
     first: Option<&'a [u8]>,
     rest: &'a [u8],
 }
@@ -129,8 +139,8 @@ impl<'a> InputLines<'a> {
 /// The length of an input up to which its lines may be cut ahead.
 const SHORT_INPUT: usize = 1024;
 
-/// To cut a line costs as much as it is long, and nothing is cut after a line that is refused: so
-/// only the lines of a short input are asked for ahead, and that of an input of one line.
+/// Cutting off a line takes time in proportion to its length, and a line after a refused one is cut
+/// for nothing. So asking counts as free only if the input is short or has one line.
 impl<'a> AskingCost for InputLines<'a> {
     fn asking_is_free(&self) -> bool {
         self.rest.len() <= SHORT_INPUT || is_one_line(self.rest)

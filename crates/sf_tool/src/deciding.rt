@@ -34,7 +34,7 @@ pub(crate) fn with_cache_control(
     Ok(all)
 }
 
-/// Returns the word of a kind of cache.
+/// Returns the word of a kind of cache, and a space.
 fn word_of(cache: CacheKind) -> &'static str
     ensures { result.now ≡ cache_word cache }
 {
@@ -86,7 +86,8 @@ fn put_reuse<W: Sink>(reuse: Reuse, before: Sent, out: &mut W) -> Sent
     }
 }
 
-/// Writes the line of what a cache of this kind decides. Does not allocate.
+/// Writes the line of what a cache of this kind decides (RFC 9111) after what was sent before. Does
+/// not allocate.
 pub fn put_decision<W: Sink>(
     cache: CacheKind,
     decision: Decision,
@@ -103,7 +104,8 @@ pub fn put_decision<W: Sink>(
     put(b"\n", sent, out)
 }
 
-/// Writes the lines of rules, and of what is decided by them about a response of this age.
+/// Writes the lines of rules, and of what is decided by them about a response of this age, in
+/// seconds. `Expires` does not count.
 fn put_rules<W: Sink>(rules: &CacheRules, age: u64, before: Sent, out: &mut W) -> Sent
     ensures { Follows W.state W.send_gives out.old out.new before result
         (rules_lines age rules.now) }
@@ -149,8 +151,8 @@ fn fallback_text(alloc: Global, rules: &CacheRules, age: u64) -> Result<Vec<u8>,
     }
 }
 
-/// Returns the lines of a choice among these names: those of `Cache-Control` if none of their fields
-/// can be used.
+/// Returns the lines of a choice among these names: those of `Cache-Control` if none of their
+/// fields can be used.
 fn choice_text(
     alloc: Global,
     names: &[HeaderName],
@@ -173,7 +175,7 @@ fn choice_text(
     }
 }
 
-/// Returns what a cache decides whose fields are those of a dialect.
+/// Returns what caches decide that parse targeted fields in this dialect.
 fn decision_text_in(
     alloc: Global,
     seed: &RandomState,
@@ -213,8 +215,9 @@ fn different(alloc: Global, older: &[u8], newer: &[u8]) -> Result<Vec<u8>, OutOf
     after(alloc, b"by RFC 8941:\n", both.as_slice())
 }
 
-/// Returns what a cache decides about a response of this age, in seconds, by the first of the fields
-/// of these names that it can use, or by `Cache-Control`: by RFC 8941 and by RFC 9651.
+/// Returns what caches decide about a response of this age, in seconds, by the first of the fields
+/// of these names that they can use, or by `Cache-Control`: once if they decide the same by RFC
+/// 8941 and by RFC 9651, and otherwise by each.
 pub(crate) fn decision_text(
     alloc: Global,
     seed: &RandomState,

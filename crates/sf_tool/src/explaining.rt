@@ -27,7 +27,7 @@ use std::alloc::Global;
 /// ```
 /// let stderr = rt.stderr();
 /// let is_terminal = stderr.is_terminal();
-/// let errors = ErrorStream { device: Writing::new(stderr), is_terminal };
+/// let mut errors = ErrorStream { device: Writing::new(stderr), is_terminal };
 /// ```
 #[derive(Debug, Drop)]
 pub struct ErrorStream<E> {
@@ -54,7 +54,8 @@ pub(crate) fn show<E: Sink>(text: &[u8], device: &mut E)
     let _ = put(text, Ok(0), device);
 }
 
-/// Explains that an input is longer than this limit.
+/// Explains that an input is longer than this limit, if a run with this status is explained. Does
+/// not allocate.
 pub(crate) fn explain_too_long<E: Sink>(limit: u64, status: Status, errors: &mut ErrorStream<E>)
     ensures { ExplainsBy errors.old.is_terminal status (too_long_words limit)
         (E.state errors.old.device) (E.state errors.new.device) }
@@ -67,6 +68,7 @@ pub(crate) fn explain_too_long<E: Sink>(limit: u64, status: Status, errors: &mut
 }
 
 /// Returns the spot in the input's lines of a place of their joined text; None if there is no line.
+/// The comma and the space between two lines belong to the end of the first.
 fn find_spot<'a>(input: &'a [u8], place: u64) -> Option<Spot<'a>>
     requires { length input.now ≤ input_limit }
     // The first line is line 1.
@@ -154,7 +156,7 @@ fn bad_line(alloc: Global, spot: Spot<'_>) -> Result<Vec<u8>, OutOfMemory>
 }
 
 /// Returns the message for the input's line of this number, from 0, if it is refused for what it
-/// is; None if it is not, or if an allocation failed.
+/// is, and not because the header map is full; None if it is not, or if an allocation failed.
 pub(crate) fn bad_line_in_words(
     alloc: Global,
     targets: &[HeaderName],

@@ -1,4 +1,4 @@
-//! The listed fields of an input of header lines.
+//! The listed fields of an input of field lines.
 ghost use Rattle.std.specs.Prelude.{◌≡◌, ◌<◌, ◌^◌, true, length, map, MatchResult, IsTrue};
 ghost use Rattle.sf_tool.specs.Fields.{IsTaken, AreFields, AreFieldsOf, IsFaultOf, is_refused};
 ghost use Rattle.sf_tool.specs.Fields.{IsFaultOfLines};
@@ -26,8 +26,7 @@ pub enum InputFault {
 enum FieldLine {
     /// An empty line, or a field whose name is not listed.
     Dropped,
-    /// Not a header line, or one with a listed name whose value has a control byte other than a
-    /// tab.
+    /// Not a field line, or one with a listed name whose value has a control byte other than a tab.
     Refused,
     /// A field with a listed name.
     Listed(HeaderName, HeaderValue),
@@ -40,7 +39,8 @@ enum LineFault {
     OutOfMemory,
 }
 
-/// Returns what a line is. The line has no spaces or tabs at its ends.
+/// Returns what a line is. It is not trimmed here: with a space before the name it is refused. That
+/// the name could not be allocated counts only for a field that is listed.
 fn read_line(alloc: Global, targets: &[HeaderName], line: &[u8]) -> Result<FieldLine, OutOfMemory>
     // The line is refused, dropped, or a listed field with this name and value. Only in the last
     // case can the result be OutOfMemory.
@@ -66,7 +66,8 @@ fn read_line(alloc: Global, targets: &[HeaderName], line: &[u8]) -> Result<Field
     }
 }
 
-/// Returns whether a line is refused for what it is; false also if an allocation failed.
+/// Returns whether a line is refused for what it is, and not because the map is full; false also if
+/// an allocation failed.
 pub(crate) fn is_bad_line(alloc: Global, targets: &[HeaderName], line: &[u8]) -> bool
     ensures { IsTrue result → is_refused targets.now line.now ≡ true }
 {
@@ -134,9 +135,12 @@ pub(crate) fn read_fields(
     Ok(headers)
 }
 
-/// Returns the listed fields of these lines, as a header map. A line that is not empty is refused if
-/// it is not a header line (RFC 9112 section 5), also for a space before the name, or if it has a
-/// listed name and a value with a control byte other than a tab (RFC 9110 section 5.5).
+/// Returns the listed fields of these lines, as a header map. Fields with other names are dropped.
+/// The error is the index of the first line that is refused, or `OutOfMemory` for a listed field
+/// before it. A line that is not empty is refused if it is not a field line (RFC 9112 section 5),
+/// also for a space before the name, or if it has a listed name and a value with a control byte
+/// other than a tab (RFC 9110 section 5.5), or if its name would be one more than the 24,576 that a
+/// map holds.
 ///
 /// ```
 /// let lines: [&[u8]; 2] = [b"CDN-Cache-Control: max-age=60", b"Server: x"];

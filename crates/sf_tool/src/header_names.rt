@@ -8,7 +8,12 @@ use sf_value::OutOfMemory;
 use std::alloc::Global;
 
 /// Returns the word in lower case, or that its allocation failed; None if it is not a header name,
-/// whatever memory is left.
+/// whatever memory is left. A header name is a token of 1 to 65,535 bytes.
+///
+/// ```
+/// header_name(alloc, b"Age")  // Some(Ok(name)): age
+/// header_name(alloc, b"Age ") // None
+/// ```
 pub fn header_name(alloc: Global, word: &[u8]) -> Option<Result<HeaderName, OutOfMemory>>
     ensures { MatchOption result (is_header_name word.now ≡ false)
         (λ made. (is_header_name word.now ≡ true)

@@ -1,8 +1,9 @@
 //! The command `sf` as a library: [`read_request`] parses the command line, and [`run`] reads a
-//! source and writes the answer to the request to a sink. In `specs/`, `CommandLine` defines which
-//! arguments make which request; `Texts`, `Tree`, `PathLines`, `ChoiceLines`, `Deciding` and
-//! `PriorityLine` define what is printed, and `Explaining` what a terminal shows of a refusal; and `Run` defines
-//! what a run reads, answers and writes.
+//! source and writes the answer to the request to a sink. Most other functions are parts of it
+//! that `sf_lint` uses, too. In `specs/`, `CommandLine` defines which arguments make which request;
+//! `Texts`, `Tree`, `PathLines`, `ChoiceLines`, `Deciding` and `PriorityLine` define what is
+//! printed, and `Explaining` what a terminal shows of a refusal; and `Run` defines what a run
+//! reads, answers and writes.
 #![tactic(auto)]
 
 mod answering;

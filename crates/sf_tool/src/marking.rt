@@ -17,8 +17,8 @@ fn can_be_in_name(byte: u8) -> bool
     is_token_char(byte)
 }
 
-/// Returns the place of the first byte that can't be in a field name, or the length of the line if
-/// there is none.
+/// Returns the place of the first byte that can't be in a field name (RFC 9110 section 5.1), or the
+/// length of the line if there is none. Does not allocate.
 pub fn name_end(line: &[u8]) -> usize
     ensures { result ≡ name_end_in line.now }
 {
@@ -29,7 +29,8 @@ pub fn name_end(line: &[u8]) -> usize
     end
 }
 
-/// Returns whether the byte can be in a field line: a tab, or one that is no control byte.
+/// Returns whether the byte can be in a field line (RFC 9110 section 5.5): a tab, or one that is no
+/// control byte.
 fn can_be_in_line(byte: u8) -> bool
     ensures { result ≡ is_line_byte byte }
 {
@@ -60,7 +61,7 @@ pub(crate) fn bad_place(line: &[u8]) -> usize
     end
 }
 
-/// Returns a line, with a question mark for each byte that is not printable ASCII.
+/// Returns a line and a line feed, with a question mark for each byte that is not printable ASCII.
 pub fn line_text(alloc: Global, line: &[u8]) -> Result<Vec<u8>, OutOfMemory>
     ensures { IfOk result (λ text. text.items ≡ printed_in line.now ++ codes "\n") }
 {
@@ -72,7 +73,8 @@ pub fn line_text(alloc: Global, line: &[u8]) -> Result<Vec<u8>, OutOfMemory>
     Ok(text)
 }
 
-/// Returns a line with a caret under the place.
+/// Returns the line that is shown below another one: a caret under the byte at this place, and a
+/// line feed.
 pub fn caret_text(alloc: Global, place: usize) -> Result<Vec<u8>, OutOfMemory>
     ensures { IfOk result (λ text. text.items ≡ replicate place space ++ codes "^\n") }
 {

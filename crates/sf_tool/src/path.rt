@@ -146,7 +146,7 @@ fn put_hops<W: Sink>(hops: &[Hop], before: Sent, out: &mut W) -> Sent
     sent
 }
 
-/// Writes the last line: the number of the hop that served the response.
+/// Writes the last line: the number of the hop that served the response, or `none`.
 fn put_served<W: Sink>(served: Option<usize>, before: Sent, out: &mut W) -> Sent
     ensures { Follows W.state W.send_gives out.old out.new before result (served_line served) }
 {
@@ -156,7 +156,8 @@ fn put_served<W: Sink>(served: Option<usize>, before: Sent, out: &mut W) -> Sent
     }
 }
 
-/// Writes the lines of a path.
+/// Writes the lines of a path (RFC 9211) after what was sent before: one for each hop, and which
+/// hop served the response. Does not allocate.
 pub fn put_path<W: Sink>(path: &CachePath, before: Sent, out: &mut W) -> Sent
     ensures { Follows W.state W.send_gives out.old out.new before result (path_lines path.now) }
 {

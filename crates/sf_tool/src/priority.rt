@@ -20,7 +20,7 @@ fn put_incremental<W: Sink>(incremental: bool, before: Sent, out: &mut W) -> Sen
     }
 }
 
-/// Writes the line of a priority.
+/// Writes the line of a priority (RFC 9218) after what was sent before. Does not allocate.
 pub fn put_priority<W: Sink>(priority: Priority, before: Sent, out: &mut W) -> Sent
     ensures { Follows W.state W.send_gives out.old out.new before result (priority_line priority) }
 {

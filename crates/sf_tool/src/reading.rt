@@ -19,9 +19,9 @@ pub enum ReadAllFault {
     TooLong { max: u64 },
 }
 
-/// Returns all bytes of the source up to its end, if that is at most `max` bytes. Does not read
-/// after the end, after a failed read, or after one byte more than `max`. It is not inlined, so
-/// that its block is not on the stack afterwards.
+/// Returns all bytes of the source up to its end, if they are at most `max`, which is less than
+/// 2^64 - 1. Does not read after the end, after a failed read, or after one byte more than `max`.
+/// It is not inlined, so that its block is not on the stack afterwards.
 #[inline(never)]
 pub fn read_all<R: Source>(alloc: Global, max: u64, source: &mut R) -> Result<Vec<u8>, ReadAllFault>
     requires { max < 2 ^ 64 - 1 }

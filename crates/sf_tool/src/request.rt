@@ -40,17 +40,20 @@ pub enum Request {
     Check(Dialect, Kind),
     /// Print the canonical text; the lines are parsed in this dialect as a field of this kind.
     Normalise(Dialect, Kind),
-    /// Print the hops of a Cache-Status field (RFC 9211).
+    /// Print the hops of a Cache-Status field (RFC 9211), and which of them served the response.
+    /// The lines are parsed by RFC 9651.
     CacheStatus,
-    /// Print which field a cache with this target list obeys, and its policy (RFC 9213). A request
-    /// that [`read_request`] returns has from 1 to [`MAX_NAMES`] names.
+    /// Print which field a cache with this target list obeys, and its policy (RFC 9213). Fields are
+    /// parsed by RFC 9651. A request that [`read_request`] returns has from 1 to [`MAX_NAMES`]
+    /// names.
     Targeted(Vec<HeaderName>),
     /// Print which field a cache with this target list obeys, or else that `Cache-Control` decides,
-    /// and what the cache decides by it about a response of this age, in seconds (RFC 9111): by RFC
-    /// 8941 and by RFC 9651. A request that [`read_request`] returns has from 1 to [`MAX_NAMES`]
-    /// names.
+    /// and what a shared and a private cache decide by it about a response of this age, in seconds
+    /// (RFC 9111). The listed fields are parsed by RFC 8941 and by RFC 9651; `Expires` is not read.
+    /// A request that [`read_request`] returns has from 1 to [`MAX_NAMES`] names.
     Decide(Vec<HeaderName>, u64),
-    /// Print the parameters of a Priority field (RFC 9218).
+    /// Print the parameters of a Priority field, with the defaults for those that it does not set
+    /// (RFC 9218). The lines are parsed by RFC 9651.
     Priority,
 }
 
@@ -329,8 +332,8 @@ fn targeted(alloc: Global, given: &ArgMatches<'_>) -> Result<Request, RequestFau
     }
 }
 
-/// Returns the age that was given as `--age`, in seconds, a number below 2^64; `None` if none was
-/// given. Does not allocate.
+/// Returns the age that was given as `--age`, in seconds; `None` if none was given. `Usage` if what
+/// was given is not a number below 2^64, in digits that may follow a plus. Does not allocate.
 pub fn age_of(given: &ArgMatches<'_>) -> Result<Option<u64>, RequestFault>
     // The age that is named; Usage if what is named is no number of seconds.
     ensures { MatchResult result (IsGivenAge (first_of (codes "age") (rows_of (found_of given.now))))
@@ -366,7 +369,13 @@ fn fallback_of(given: &ArgMatches<'_>) -> Result<Option<u64>, RequestFault>
     }
 }
 
-/// Returns the header names that these words are, in lower case: from 1 to [`MAX_NAMES`].
+/// Returns the header names that these words are, in lower case (RFC 9110 section 5.1). `Usage` if
+/// there is no word or more than [`MAX_NAMES`], or if a word is not a header name; `OutOfMemory` if
+/// an allocation for a name before any such word failed.
+///
+/// ```
+/// names_in(alloc, &["CDN-Cache-Control"])? // cdn-cache-control
+/// ```
 pub fn names_in(alloc: Global, words: &[&str]) -> Result<Vec<HeaderName>, RequestFault>
     // These names, or why they are none.
     ensures { MatchResult result (λ names. AreNames (map (λ w. w.now) words.now) names.items)

@@ -56,10 +56,10 @@ pub const INPUT_LIMIT: u64 = 1_048_576;
 /// at a time, and the whole answer is sent to the sink at once if it can be allocated.
 ///
 /// The explanation is the error message of the refusal and its line with a caret, or the member
-/// that names no cache; a line of [`Request::Targeted`] or [`Request::Decide`] that is refused because
-/// the header map is full has none. To explain an input, it is parsed a second time. If an allocation
-/// for that fails, nothing is explained; if a write of it fails, that is not reported. Neither changes
-/// the result or what was written to the sink.
+/// that names no cache; a line of [`Request::Targeted`] or [`Request::Decide`] that is refused
+/// because the header map is full has none. To explain an input, it is parsed a second time. If an
+/// allocation for that fails, nothing is explained; if a write of it fails, that is not reported.
+/// Neither changes the result or what was written to the sink.
 ///
 /// ```
 /// let request = Request::Normalise(Dialect::Rfc9651, Kind::Item);
@@ -98,8 +98,9 @@ pub fn run<R: Source, W: Sink, E: Sink>(
     }
 }
 
-/// Parses the input's lines as one field. `declined` is their joined text, if there is one and a scan
-/// declined it.
+/// Parses the input's lines as one field. `declined` is their joined text, if there is one and a
+/// scan declined it. If an allocation fails for that text, the lines are parsed instead: of the two
+/// calls, only [`parse_from`] ensures that what is allocation-free needs no allocation.
 fn parse_input(
     alloc: Global,
     seed: &RandomState,
@@ -167,7 +168,7 @@ fn answer_field<W: Sink>(
     }
 }
 
-/// The same for several lines. A mistake ends the work at its line: no later line is read.
+/// The same for several lines. A mistake ends the work at its line: no later line is parsed.
 fn answer_lines<W: Sink>(
     alloc: Global,
     seed: &RandomState,
@@ -214,7 +215,7 @@ fn answer_accepted<W: Sink>(
     }
 }
 
-/// The same by the joined text of the lines, if there is memory for it.
+/// The same by the joined text of the lines; without it, if it can't be allocated.
 fn answer_joined<W: Sink>(
     alloc: Global,
     seed: &RandomState,
@@ -269,7 +270,8 @@ fn answer_text<W: Sink>(
     }
 }
 
-/// Writes a view of the input's field, which is built, or why it is refused.
+/// Writes a view of the input's field, which is built, or why it is refused. `declined` is as in
+/// [`parse_input`].
 fn answer_parsed<W: Sink>(
     alloc: Global,
     seed: &RandomState,
@@ -489,8 +491,9 @@ fn answer_at_once<W: Sink>(
     }
 }
 
-/// Answers a request for the input, and sends a canonical text in the parts of the field: a sink that
-/// takes a part or fails has all parts before that.
+/// Answers a request for the input after its answer could not be built in memory. A canonical text
+/// is written part by part from the field, which is parsed line by line: the lines are not joined,
+/// and no nodes are allocated.
 fn answer_in_parts<W: Sink>(
     alloc: Global,
     seed: &RandomState,
@@ -510,7 +513,8 @@ fn answer_in_parts<W: Sink>(
 }
 
 /// Returns the message that explains the first refused line of the input; None if no line is
-/// refused, if it is not refused for what it is, or if an allocation failed.
+/// refused, if that line is refused only because the header map is full, or if an allocation
+/// failed.
 fn explain_line(
     alloc: Global,
     seed: &RandomState,
@@ -578,7 +582,7 @@ fn explain_path(alloc: Global, seed: &RandomState, input: &[u8]) -> Option<Vec<u
 }
 
 /// Returns the message that explains why the input is refused; None if it is not, if there is no
-/// message, or if an allocation failed.
+/// message (the header map is full), or if an allocation failed.
 fn explanation(
     alloc: Global,
     seed: &RandomState,

@@ -48,10 +48,10 @@ pub(crate) fn join_lines(alloc: Global, input: &[u8]) -> Result<Vec<u8>, OutOfMe
 /// Where the lines of an input are no longer accepted one by one.
 #[derive(Clone, Copy, Drop)]
 pub(crate) struct Stop<'a> {
-    /// The input from the first line on that has no member, or is not accepted by itself. A line
-    /// claims nothing: what follows it may complete it.
+    /// The input from the first line on that has no member or is not accepted by itself; all of it
+    /// for an Item. That line need not be malformed: the lines after it may complete it.
     rest: &'a [u8],
-    /// How much of the joined text comes before this line: 0 if it is the first one.
+    /// How many bytes of the joined text come before this line: 0 if it is the first one.
     place: usize,
 }
 
@@ -80,7 +80,8 @@ pub(crate) fn first_stop(dialect: Dialect, kind: Kind, input: &[u8]) -> Option<S
     None
 }
 
-/// Whether the text of a List or a Dictionary has a member; `false` claims nothing.
+/// Whether the text of a List or a Dictionary has a member; `false` claims nothing. An accepted
+/// text without one is empty or has only white space.
 fn has_members(dialect: Dialect, kind: Kind, text: &[u8]) -> bool
     requires { kind ≢ kind_is.Item }
     ensures { IsTrue result → SpellsMembers dialect kind text.now }
@@ -98,8 +99,9 @@ const MEMBER: &[u8] = b"a";
 const MEMBER_LENGTH: u64 = 3;
 
 /// Parses the lines from where a scan stopped, after one member in place of the lines before, since
-/// what may come after a comma does not depend on the members before it. No line after a refused one
-/// is read. `None` claims nothing: the scan stopped at the first line, or an allocation failed.
+/// what may come after a comma does not depend on the members before it. No line after a refused
+/// one is read. The place of a refusal is that in the joined text of all lines. `None` claims
+/// nothing: the scan stopped at the first line, or an allocation failed.
 pub(crate) fn parse_from_stop(
     alloc: Global,
     seed: &RandomState,

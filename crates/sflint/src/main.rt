@@ -46,7 +46,7 @@ fn has_colours(rt: &HostRuntime) -> bool {
     match env::var(rt, "NO_COLOR") {
         Ok(value) => is_coloured(is_terminal, Some(value.as_str())),
         Err(VarError::NotPresent) => is_coloured(is_terminal, None),
-        // A value that is not Unicode is not empty.
+        // A value that is not Unicode is not empty. Out of memory, the value is not known.
         Err(VarError::NotUnicode | VarError::OutOfMemory) => false,
     }
 }
