@@ -14,7 +14,7 @@ pub struct Allowed {
 }
 
 impl Allowed {
-    /// These bytes, or also the end.
+    /// These bytes, and also the end if `may_end`.
     #[inline]
     pub fn new(expected: u128, may_end: bool) -> Allowed
         ensures { result ≡ record { expected = expected; may_end = may_end } }

@@ -24,7 +24,8 @@ use crate::place::{BarePlace, Stop};
 use sf_value::classes::{InToken, Unescaped, long_prefix, split, strip_byte};
 use sf_value::{Dialect, can_start_token};
 
-/// What is made of a bare item where it is found, so that nobody has to tell its type again.
+/// Makes something of a bare item where it is found, so that no caller has to match on its type
+/// again.
 pub trait Take<'a>: Copy {
     /// What is made.
     type Made;
@@ -106,8 +107,8 @@ impl<'a> Take<'a> for AsLeaf {
     }
 }
 
-/// Where the bare item stops that the text begins with, the longest one that is there, and what is
-/// made of it. If there is none, where the text can't go on.
+/// Reads the longest bare item that the text begins with. Returns where it stops, and what is made
+/// of it. If the text begins with none, the error is where it can't go on.
 ///
 /// ```text
 /// bare(Dialect::Rfc9651, b"sugar;q", AsLeaf)?; // (stop, Leaf::Token(b"sugar")), stop.left is b";q"
@@ -129,6 +130,7 @@ pub fn bare<'a, T: Take<'a>>(
         });
     };
     if first == b'"' {
+        // A String that has an escape or is malformed is read from its start by `other`.
         let (run, left) = long_prefix::<Unescaped>(more);
         if let Some(rest) = strip_byte(left, b'"') {
             let end = Stop {
@@ -227,8 +229,9 @@ fn token<'a>(text: &'a [u8], more: &'a [u8]) -> (Stop<'a, BarePlace>, &'a [u8])
 }
 
 /// A bare item that takes a call: a String with an escape, a Byte Sequence, a Display String or a
-/// Date. `first` is the first byte of the text, and `more` are the others. It is not inlined, nor
-/// is what it calls: each call of [`bare`] would pay for clearing their results.
+/// Date, whether or not it is malformed. `first` is the first byte of the text, and `more` are the
+/// others. It is not inlined, nor are `after_escapes`, `byte_sequence`, `display_string` and
+/// `date`: each call of [`bare`] would pay for clearing their results.
 #[inline(never)]
 fn other<'a>(
     dialect: Dialect,

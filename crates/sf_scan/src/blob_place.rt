@@ -20,7 +20,7 @@ pub enum BlobPlace {
     Three,
     /// After an `=` that one more may follow.
     Pad,
-    /// After the last `=` that the group needs.
+    /// After the last `=` that the group may have.
     Padded,
 }
 

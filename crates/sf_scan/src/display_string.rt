@@ -86,7 +86,8 @@ fn after_quote(chars: CharPlace, text: &[u8]) -> Option<&[u8]>
 }
 
 /// The place in UTF-8 after the byte of an escape, and the rest, given the text after the percent
-/// sign; `None` if the byte can't come, which is looked at as a whole.
+/// sign. It tests the byte as a whole, which is fast. It returns `None` if the escape is malformed
+/// or its byte can't come; then [`after_escape`] finds where.
 #[inline(always)]
 fn past_escape(chars: CharPlace, text: &[u8]) -> Option<(CharPlace, &[u8])>
     ensures { IfSome result (λ r. PastEscape chars text.now r.0 r.1.now) }
@@ -99,7 +100,7 @@ fn past_escape(chars: CharPlace, text: &[u8]) -> Option<(CharPlace, &[u8])>
     Some((next, rest))
 }
 
-/// As [`past_escape`], digit by digit: it says which of the two can't come.
+/// As [`past_escape`], digit by digit: the error is where one of the two can't come.
 #[inline(never)]
 fn after_escape(chars: CharPlace, text: &[u8]) -> Result<(CharPlace, &[u8]), Stop<'_, BarePlace>>
     ensures { MatchResult result (λ r. PastEscape chars text.now r.0 r.1.now)

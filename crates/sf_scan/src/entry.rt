@@ -89,6 +89,7 @@ impl<'a, M: Builder<'a>> Element<'a, M> for EntryPlace {
         if let Err(fault) = maker.bare_item(Leaf::Boolean(true)) {
             return Err(Halt::Fault(fault));
         }
+        // Without parameters, the place has also the bytes that would lengthen the key.
         let Some(_) = strip_byte(rest, b';') else {
             return Ok(Stop {
                 left: rest,

@@ -54,6 +54,7 @@ pub fn item_field<'a, M: Builder<'a>>(
     let end = match item(dialect, start, maker) {
         Ok(end) => end,
         Err(Halt::Refused(stop)) => {
+            // Refused at its first byte: more spaces may come, too.
             if stop.left.len() == start.len() {
                 return Err(Halt::Refused(Stop {
                     left: start,

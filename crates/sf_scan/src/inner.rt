@@ -103,6 +103,7 @@ fn items<'a, M: Builder<'a>>(
         let end = match item(dialect, at, maker) {
             Ok(end) => end,
             Err(Halt::Refused(stop)) => {
+                // Refused at its first byte: a space or the closing bracket may come, too.
                 if stop.left.len() == at.len() {
                     return Err(Halt::Refused(Stop {
                         left: stop.left,

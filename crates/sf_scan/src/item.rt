@@ -65,6 +65,7 @@ pub fn item<'a, M: Builder<'a>>(
     if let Err(fault) = maker.bare_item(leaf) {
         return Err(Halt::Fault(fault));
     }
+    // Without parameters, the place has also the bytes that would lengthen the bare item.
     let Some(_) = strip_byte(end.left, b';') else {
         return Ok(Stop {
             left: end.left,

@@ -18,8 +18,8 @@ pub enum Leaf<'a> {
     Escaped(&'a [u8]),
     /// The characters between the colons of a Byte Sequence, which are base64.
     Blob(&'a [u8]),
-    /// The bytes between the quotes of a Display String: its value is these bytes with that of each
-    /// escape in its place.
+    /// The bytes between the quotes of a Display String: its value is these bytes, with each escape
+    /// replaced by the byte that it encodes.
     Display(&'a [u8]),
     /// A Boolean.
     Boolean(bool),

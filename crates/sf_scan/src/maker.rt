@@ -39,7 +39,7 @@ impl<'a> Maker<'a> for Nothing {
     }
 }
 
-/// Finds the value of one key, which is its last one (RFC 9651 section 4.2.3.2).
+/// Finds the value of one key: its last value, if the key is repeated (RFC 9651 section 4.2.3.2).
 #[derive(Drop)]
 pub struct Find<'k, 'a> {
     key: &'k [u8],
@@ -65,7 +65,7 @@ impl<'k, 'a> Find<'k, 'a> {
         Find { key, found: None }
     }
 
-    /// The value that was found.
+    /// The value that was found; `None` if no parameter had the key.
     pub fn found(&self) -> Option<Leaf<'a>>
         ensures { option_map leaf_bare result ≡ self.now.1 }
     {
@@ -86,7 +86,8 @@ impl<'k, 'a> Maker<'a> for Find<'k, 'a> {
     }
 }
 
-/// Collects the parameters in the order of the text, repeated keys included.
+/// Collects the parameters in the order of the text, repeated keys included. It fails only if an
+/// allocation fails.
 #[derive(Drop)]
 pub struct Collect<'a> {
     params: Vec<Param<'a>>,

@@ -82,6 +82,7 @@ impl<'a, M: Builder<'a>> Element<'a, M> for MemberPlace {
                 place: MemberPlace::InItem(stop.place),
             }),
             Err(Halt::Refused(stop)) => {
+                // Refused at its first byte: an opening bracket may come, too.
                 if stop.left.len() == text.len() {
                     return Err(Halt::Refused(Stop {
                         left: stop.left,

@@ -1,4 +1,5 @@
-//! The places of the grammar where reading may stop, and the bytes that may come there.
+//! The places in bare items and parameters where reading may stop, and the bytes that may come
+//! there. The places in other constructs are beside their readers. A [`Stop`] has any of them.
 ghost use Rattle.std.specs.Prelude.{◌≡◌};
 ghost use Rattle.sf_scan.specs.Places.{in_bare, ends_bare, is_bare_start};
 ghost use Rattle.sf_scan.specs.Places.{in_params, ends_params};
@@ -91,7 +92,7 @@ pub enum ParamPlace {
     Semicolon,
     /// After a byte of a key.
     InKey,
-    /// In a value, or after its equals sign.
+    /// After the equals sign: before a value, in it or after it.
     InValue(BarePlace),
 }
 

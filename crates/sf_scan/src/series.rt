@@ -102,6 +102,7 @@ pub(crate) fn series<'a, E: Element<'a, M>, M: Builder<'a>>(
     let mut end = match E::read(dialect, start, maker) {
         Ok(end) => end,
         Err(Halt::Refused(stop)) => {
+            // Refused at its first byte: there is no member, and the caller sees what is left.
             if stop.left.len() == start.len() {
                 return Ok(Stop {
                     left: start,
@@ -133,6 +134,7 @@ pub(crate) fn series<'a, E: Element<'a, M>, M: Builder<'a>>(
         end = match E::read(dialect, due, maker) {
             Ok(end) => end,
             Err(Halt::Refused(stop)) => {
+                // Refused at its first byte: after the comma, more white space may come, too.
                 if stop.left.len() == due.len() {
                     return Err(Halt::Refused(Stop {
                         left: due,

@@ -1,5 +1,4 @@
-//! Building values: constructors of values without parts, and calls that add one part, chained with
-//! `?`.
+//! Building values: constructors, and calls that add one part, which are chained with `?`.
 ghost use Rattle.std.specs.Prelude.{◌≡◌, [], ◌∷◌, ◌++◌, None, IfOk, OnErr};
 ghost use Rattle.sf_value.specs.Grammar.Items.{item};
 ghost use Rattle.sf_value.specs.Grammar.Pairs.{put, value_at};
@@ -48,7 +47,8 @@ impl Item {
 }
 
 impl Inner {
-    /// The Inner List with no Items and no parameters. It does not allocate.
+    /// The Inner List with no Items and no parameters. It does not allocate. The seed is that of
+    /// its parameters: see [`Entries::new`].
     ///
     /// ```
     /// let inner = Inner::new(alloc, &seed); // ()

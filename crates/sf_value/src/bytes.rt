@@ -1,4 +1,4 @@
-//! Bytes, of which the first few are stored in place.
+//! Bytes that are stored in place if they are few, otherwise on the heap.
 ghost use Rattle.std.specs.Prelude.{◌≡◌, ℕ, List, [], ◌∷◌, ◌++◌, ◌↔◌, IsTrue, IsOk, IfOk};
 ghost use Rattle.std.specs.Prelude.{MatchResult};
 ghost use Rattle.sf_value.specs.Grammar.Words.{Every};
@@ -10,12 +10,12 @@ use smallvec::SmallVec;
 use std::alloc::Global;
 use std::marker::Model;
 
-/// The number of bytes that are stored in place.
+/// The largest number of bytes that are stored in place.
 pub(crate) const IN_PLACE: usize = 16;
 
-/// A growing buffer of bytes: up to 16 are stored in the value itself, without an allocation, and
-/// more on the heap. Keys, strings, tokens, byte sequences and display strings are stored in one.
-/// Contracts see the list of the bytes.
+/// A growing buffer of bytes: up to 16 are stored in the value itself, without an allocation. If
+/// there are more, all are on the heap. Keys, strings, tokens, byte sequences and display strings
+/// are stored in one. Contracts see the list of the bytes.
 ///
 /// ```
 /// let mut bytes = ShortBytes::new(alloc);
@@ -116,7 +116,7 @@ impl ShortBytes {
         self.bytes.is_empty()
     }
 
-    /// The bytes of a vector, whose memory is kept if they don't fit in place. It does not
+    /// The bytes of a vector, whose memory is kept if its capacity is more than 16. It does not
     /// allocate.
     pub(crate) fn from_vec(bytes: Vec<u8>) -> ShortBytes
         ensures { result ≡ bytes.items }

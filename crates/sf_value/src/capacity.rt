@@ -1,4 +1,4 @@
-//! The capacity of copies.
+//! The capacity of vectors that grow by one value at a time, and of copies of their values.
 ghost use Rattle.std.specs.Prelude.{◌≤◌};
 ghost use Rattle.sf_value.specs.Capacities.{HasGrown};
 

@@ -1,5 +1,6 @@
 //! Classes of bytes (RFC 9651 section 3), and what a text begins with: runs of them, and single
-//! bytes. A class is a type; each is tested here, once, for values, parsers and writers.
+//! bytes. A class is a type, which values, parsers and writers share. It tests one byte here, and
+//! 16 bytes at a time in `lanes` if its runs may be long.
 ghost use Rattle.std.specs.Prelude.{◌≡◌, ◌≢◌, ◌≤◌, ◌<◌, ◌*◌, ◌++◌, [], ◌∷◌, ℕ, Bool, true, false};
 ghost use Rattle.std.specs.Prelude.{◌==◌, length, take, drop, map, not, MatchOption};
 ghost use Rattle.sf_value.specs.Ascii.{percent};
@@ -110,7 +111,7 @@ pub struct UnencodedByte;
 /// A byte with which no escape of a display string begins (section 4.1.11).
 pub struct NoPercent;
 
-/// The characters of base64 (RFC 4648 section 4).
+/// A character of base64 (RFC 4648 section 4), other than the padding `=`.
 pub struct Base64;
 
 /// A space.
@@ -339,7 +340,7 @@ pub fn long_run<C: LaneClass>(text: &[u8]) -> usize
 }
 
 /// The bytes of the class that the text begins with, and the rest. Bytes are tested 16 or more at a
-/// time, unless the text is shorter than 16. It does not allocate.
+/// time, and one by one if fewer than 16 are left. It does not allocate.
 #[inline(always)]
 pub fn long_prefix<C: LaneClass>(text: &[u8]) -> (&[u8], &[u8])
     // Together they are the text.
@@ -421,8 +422,8 @@ pub fn few_prefix<C: ByteClass>(text: &[u8]) -> (&[u8], &[u8])
     }
 }
 
-/// The number of bytes of the class that the text begins with. It is not inlined: the compiler
-/// makes the code after a loop dearer.
+/// The number of bytes of the class that the text begins with. It is not inlined: after a loop, the
+/// compiler's code for the rest of the caller would be slower.
 #[inline(never)]
 fn many<C: ByteClass>(text: &[u8]) -> usize
     ensures within { result ≤ length text.now }

@@ -15,7 +15,7 @@ pub struct Failed;
 
 /// A device that bytes are read from.
 ///
-/// Contracts see a custom device through its `state`: the bytes that remain, or that it does not
+/// Contracts see a device through its `state`: the bytes that remain, or that it does not
 /// show them; how many bytes it returned; how many calls returned the end; and how many calls
 /// failed. A count that reaches 2^64 - 1 stays there.
 ///
@@ -38,7 +38,7 @@ pub trait Source {
 
 /// A device that bytes are written to.
 ///
-/// Contracts see a custom device through its `state`: the bytes written, or that it does not show
+/// Contracts see a device through its `state`: the bytes written, or that it does not show
 /// them; and how many calls failed, a count that stays at 2^64 - 1 once it reaches that. A device
 /// that does not show its bytes may state by `send_gives` how a call that wrote some changed it.
 ///

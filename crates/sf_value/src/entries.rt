@@ -301,7 +301,8 @@ impl<V: Drop> Entries<V> {
     }
 
     /// As [`Entries::set_named`], for entries of which so many are expected: the first one gets
-    /// memory for them, but for eight at most. If more follow, the memory grows.
+    /// memory for them, but for one at least and eight at most. If its key has more than 16 bytes,
+    /// it gets memory for four instead. If more follow, the memory grows.
     ///
     /// ```
     /// entries.set_named_of(1, alloc, b"q", Bare::Integer(Int::new(1)?))?; // memory for one

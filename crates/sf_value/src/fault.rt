@@ -15,8 +15,8 @@ pub struct OutOfMemory;
 #[derive(Clone, Copy, Debug, PartialEq, Eq)]
 pub struct OutOfRange;
 
-/// Why bytes are not a key, token or string. If several causes apply, the first of them here is
-/// returned.
+/// Why no key, token or string was made of bytes. If several causes apply, the first of them here
+/// is returned.
 ///
 /// ```
 /// match Key::new(alloc, bytes) {

@@ -9,11 +9,11 @@
 //! RFC requires, so any value can be written: an [`Int`] has at most 15 digits, a `Key` or a
 //! [`Token`] has its alphabet, no key occurs twice.
 //!
-//! Only `specs/` is about texts here: [`same`] compares fields as trees, in which order counts, and
-//! [`copy`] copies one. A call that makes a value takes the allocator first, and a seed next if it
-//! makes `Entries`; entries and sequences keep these for what is added. A call that may allocate
-//! returns a `Result`. A call that fails leaves what it borrowed unchanged. To build the Item
-//! `a;q=1`:
+//! Fields are parsed by `sf_parse` and written by `sf_write`. Here, [`same`] compares two as trees,
+//! in which order counts, and [`copy`] copies one. A call that makes a value takes the allocator
+//! first, if the value may need it, and a seed next if it makes `Entries`; entries and sequences
+//! keep these for what is added. A call that may allocate returns a `Result`. A call that fails
+//! leaves the values that it borrowed unchanged. To build the Item `a;q=1`:
 //!
 //! ```text
 //! let seed = RandomState::new(&rt)?;

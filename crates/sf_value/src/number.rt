@@ -5,7 +5,7 @@ ghost use Rattle.std.specs.Result.{OkIff};
 use crate::fault::OutOfRange;
 use std::marker::Model;
 
-/// The largest number that a field can have.
+/// The largest number of 15 digits.
 const LARGEST: i64 = 999_999_999_999_999;
 
 /// A whole number of at most 15 digits, from -999,999,999,999,999 to 999,999,999,999,999: the value

@@ -7,8 +7,7 @@ use std::alloc::Global;
 use std::hash::RandomState;
 
 /// A part of a value: a bare item, an Item, an Inner List, a member, and entries and sequences of
-/// these. Whole fields are compared and copied by the functions `same` and `copy` of the module
-/// `tree`.
+/// these. Whole fields are compared and copied by [`crate::same`] and [`crate::copy`].
 pub trait Part: PartialEq + Drop {
     // Whether a copy does not allocate.
     ghost in_place: { Self → Type 0 };
@@ -19,8 +18,9 @@ pub trait Part: PartialEq + Drop {
         ensures { IsTrue result ↔ (self.now ≡ other.now) };
 
     /// Another value, equal to this one. The seed is that of its entries. It fails only if an
-    /// allocation fails. What is in place does not allocate: a number, Boolean or Date, a text of
-    /// at most 16 bytes, an Item of one of these without parameters, and no entries.
+    /// allocation fails. What is in place does not allocate: a number, a Boolean, a Date or at most
+    /// 16 bytes, an Item of one of these without parameters, an Inner List without Items and
+    /// parameters, and empty entries and sequences.
     fn copy(&self, alloc: Global, seed: &RandomState) -> Result<Self, OutOfMemory>
         ensures copied { IfOk result (λ copy. copy ≡ self.now) }
         // A copy of what is in place is never out of memory.

@@ -40,11 +40,12 @@ pub(crate) struct Slot<V> {
     pub(crate) key: Key,
     pub(crate) value: V,
     /// The seed of the map that replaces the vector when there are more entries. It is stored in
-    /// the memory of the vector, so that a `Store` is no larger than a vector.
+    /// the memory of the vector, so that no variant of `Store` is larger than a vector.
     seed: RandomState,
 }
 
-/// The storage of entries: none yet, a few, or more.
+/// The storage of entries: none, a few in a vector, or more in a map. A map stays a map if entries
+/// are removed from it, even all.
 #[derive(Debug, Drop)]
 pub(crate) enum Store<V> {
     Fresh(Global, RandomState),
@@ -297,7 +298,8 @@ impl<V: Drop> Store<V> {
 
     /// Puts a value at the key with these bytes, as `Entries::set_named` does. It is inlined for
     /// the common cases, in which neither the key nor the slot is moved: a short key that is the
-    /// first, or among a few. The first entry gets memory for as many as are expected.
+    /// first, or among a few. The first entry with such a key gets memory for as many as are
+    /// expected.
     #[inline(always)]
     pub(crate) fn set_named(
         &mut self,
@@ -351,7 +353,7 @@ impl<V: Drop> Store<V> {
         Ok(())
     }
 
-    /// The seed for a map, if there is none yet.
+    /// The seed that a map of these entries will have. They are not in one yet.
     #[inline(always)]
     fn seed(&self) -> RandomState
         requires { HasSlotSeed self.now }
@@ -397,8 +399,8 @@ impl<V: Drop> Store<V> {
         }
     }
 
-    /// Makes an empty vector with capacity for as many entries as are expected, but for one at least,
-    /// and for no more than it ever has. The vector is stored first and grows there: if it were moved
+    /// Makes an empty vector with capacity for as many entries as are expected, but for one at
+    /// least and `MAX_SLOTS` at most. The vector is stored first and grows there: if it were moved
     /// right after growing, it would be loaded while it is still being stored.
     #[inline(always)]
     fn reserve_first(

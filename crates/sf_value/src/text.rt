@@ -13,8 +13,8 @@ use crate::word::bad_byte_after_run;
 use std::alloc::Global;
 use std::marker::Model;
 
-/// A string (RFC 9651 section 3.3.3): any number of bytes from 0x20 to 0x7E, unescaped, without
-/// quotes. Contracts see the list of its bytes.
+/// A string (RFC 9651 section 3.3.3): any number of bytes from 0x20 to 0x7E, unescaped, without the
+/// enclosing quotes. Contracts see the list of its bytes.
 ///
 /// ```
 /// let text = Text::new(alloc, b"say \"a\"")?; // the bytes themselves, without escapes
@@ -75,7 +75,7 @@ impl Text {
         })
     }
 
-    /// The bytes, without quotes and escapes. It does not allocate.
+    /// The bytes, unescaped, without the enclosing quotes. It does not allocate.
     pub fn as_bytes(&self) -> &[u8]
         ensures bytes { result.now ≡ self.now }
         ensures text { Every is_visible_byte self.now }

@@ -4,8 +4,8 @@ ghost use Rattle.std.specs.Option.{option_map};
 ghost use Rattle.sf_value.specs.Grammar.Utf8.{utf8_step, look_up, rows, followed_by as followed};
 ghost use Rattle.sf_value.specs.Utf8States.{utf8_of};
 
-/// Between two characters; or in one, whose next byte is from `low` to `high`, with `more` bytes
-/// after it.
+/// A place in UTF-8 (RFC 3629 section 4): between two characters, or in one, whose next byte is
+/// from `low` to `high`, with `more` bytes after it.
 #[derive(Clone, Copy)]
 pub enum Utf8State {
     Start,

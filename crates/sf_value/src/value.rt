@@ -21,7 +21,7 @@ use crate::token::Token;
 ///
 /// The numbers in it are `Copy`, and the toolchain refuses one pattern that takes such a number by
 /// value out of a `Bare` within another enum, as `Ok(Some(Bare::Integer(old)))`. Match in two steps
-/// or by reference, or look the number up: `old.as_integer()`.
+/// or by reference, or look the number up: `Ok(Some(old)) => old.as_integer()`.
 #[derive(Debug, Drop)]
 pub enum Bare {
     /// An Integer (section 3.3.1).

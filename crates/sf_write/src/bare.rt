@@ -40,7 +40,7 @@ pub fn put_bare<W: Sink>(bare: &Bare, before: Sent, out: &mut W) -> Sent
 }
 
 /// Writes the canonical text of a String (RFC 9651 section 4.1.6) after what was sent before, as
-/// [`put_bare`] does for its bare item. Does not allocate.
+/// [`put_bare`] does for `Bare::Text`. Does not allocate.
 ///
 /// ```
 /// let sent = put(b"key=", Ok(0), &mut out);

@@ -11,7 +11,8 @@ use crate::strings::{CHUNK, LONG, NEAR};
 use sf_value::classes::{UnencodedByte, long_run, prefix_of_16};
 use sf_value::{Sink, hex_digits, stands_for_itself};
 
-/// The number of bytes that have to be escaped. The compiler vectorises the count of a chunk.
+/// The number of bytes that have to be escaped. Each byte is looked up in a table, so the compiler
+/// doesn't vectorise the count, unlike that of `strings`.
 pub(crate) fn escaped_count(bytes: &[u8]) -> usize {
     let mut count = 0usize;
     for chunk in bytes.chunks(CHUNK) {

@@ -15,8 +15,8 @@ use crate::sending::{Sent, WriteFault};
 use sf_value::{Field, Item, Member, OutOfMemory, Sink, Writing};
 use std::alloc::Global;
 
-/// If the first bare item has at least this length, the text is measured: fewer than four such bare
-/// items fit in a block.
+/// If the first member is an Item whose bare item has at least this length, the text is measured:
+/// fewer than four such bare items fit in a block.
 const LONG_ITEM: usize = 160;
 
 /// Writes the canonical text of a field, as [`write_field`] does, after what was sent before, as
@@ -40,10 +40,10 @@ pub fn put_field<W: Sink>(field: &Field, before: Sent, out: &mut W) -> Sent
 /// Writes the canonical text of a field (RFC 9651 section 4.1) to a sink, part by part, and returns
 /// its length in bytes. Does not allocate. The text of an empty List or Dictionary is empty.
 ///
-/// Fails only if a send failed or took no byte. That send is not repeated, and exactly the first
-/// `written` bytes of the text were written. Both numbers stay at 2^64 - 1 once they reach it; if a
-/// send fails then, nothing is claimed of which bytes were written. Whatever the result, the field
-/// is valid, as every field is, so its text spells it (`sf_value::laws::canon_spells`).
+/// Fails only if a send failed. That send is not repeated, and exactly the first `written` bytes of
+/// the text were written. Both numbers stay at 2^64 - 1 once they reach it; if a send fails then,
+/// nothing is claimed of which bytes were written. Whatever the result, the field is valid, as
+/// every field is, so its text spells it (`sf_value::laws::canon_spells`).
 ///
 /// ```
 /// let mut out = Writing::new(io::writer(&rt));
@@ -60,7 +60,7 @@ pub fn write_field<W: Sink>(field: &Field, out: &mut W) -> Result<u64, WriteFaul
 
 /// Returns the canonical text of a field (RFC 9651 section 4.1). The text spells the field: parsed
 /// as a field of its kind, it is that field again, also if the field was built and never parsed.
-/// Fails only if an allocation fails.
+/// Allocates once, memory of the text's length, unless the text is empty. Fails only if that fails.
 ///
 /// ```
 /// let text = to_text(rt.alloc(), &field)?;
@@ -111,9 +111,9 @@ fn is_measured(field: &Field) -> bool {
     }
 }
 
-/// As [`is_measured`], for this many members, of which this is the first: if they are one or two
-/// Items without parameters, or if the first is so long that only a few like it would fit in a
-/// block.
+/// As [`is_measured`], for this many members, of which this is the first. It is true if there are
+/// one or two and the first is an Item without parameters, or if the first is an Item whose bare
+/// item is so long that only a few like it would fit in a block. Other members are not looked at.
 #[inline(always)]
 fn are_measured(count: usize, first: &Member) -> bool {
     match first {

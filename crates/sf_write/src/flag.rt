@@ -1,4 +1,4 @@
-//! The Boolean that is written as its key alone (RFC 9651 section 4.1.1.2).
+//! The Boolean that is written as its key alone (RFC 9651 sections 4.1.1.2 and 4.1.2).
 ghost use Rattle.std.specs.Prelude.{◌≡◌, ◌↔◌, IsTrue, true};
 ghost use Rattle.sf_value.specs.declared.value.Bare.TheVariants.{Boolean};
 

@@ -105,6 +105,7 @@ struct Formatting<'a, W> {
     failures: u64,
 }
 
+// Written out, so that a contract knows that the formatter is unchanged by the drop.
 impl<'a, W> Drop for Formatting<'a, W> {
     fn drop(self)
         ensures { self.exit.0.now ≡ self.entry.f.now }

@@ -38,7 +38,7 @@ impl Block {
         }
     }
 
-    /// Adds bytes at the end, if they fit in the block.
+    /// Adds bytes at the end if they fit in the block, and returns whether they do.
     #[inline(always)]
     fn add(&mut self, bytes: &[u8]) -> bool
         ensures added { result ≡ true → self.new ≡ self.old ++ bytes.now }

@@ -15,7 +15,7 @@ fn integer_len(number: i64) -> usize {
     digits(number.unsigned_abs()).saturating_add((number < 0) as usize)
 }
 
-/// A Decimal: the whole part, the point, and at least one digit.
+/// A Decimal: a `-` if it is below 0, the whole part, the point, and one to three digits.
 fn decimal_len(thousandths: i64) -> usize {
     let magnitude = thousandths.unsigned_abs();
     let after = if magnitude % 100 == 0 {

@@ -1,10 +1,10 @@
 //! Canonical texts of structured fields (RFC 9651 section 4.1): written directly to any sink,
 //! without an allocation, or to a new text.
 //!
-//! The writer sends as many bytes at once as it has: a key, a Token, the bytes of a String between
-//! two escapes, up to 256 characters of base64. A sink may take only a part of them at a time.
-//! `specs/Writing.antt` states what the calls of a sink write together; the texts themselves are
-//! defined in `sf_value`.
+//! Each of these is sent at once: a key, a Token, digits, the bytes of a String or a Display String
+//! up to the next escape, and up to 256 characters of base64. A sink may take only a part of them
+//! at a time. `specs/Writing.antt` states what the calls of a sink write together; the texts
+//! themselves are defined in `sf_value`.
 #![tactic(auto)]
 
 mod bare;

@@ -7,7 +7,7 @@ use sf_value::Sink;
 use std::error::Error;
 use std::fmt;
 
-/// The error of a write: a send failed or took no byte, and nothing was sent after it.
+/// The error of a write: a send failed, and nothing was sent after it.
 ///
 /// ```
 /// match write_field(&field, &mut out) {

@@ -86,7 +86,7 @@ fn unescaped_len_after_escape(bytes: &[u8]) -> usize
     NEAR + unescaped_len(far)
 }
 
-/// As [`unescaped_len`], byte by byte, also for bytes that no String has.
+/// As [`unescaped_len`], byte by byte.
 fn unescaped_len_by_byte(bytes: &[u8]) -> usize
     ensures len { result ≡ prefix_len (λ b. not (is_escaped b)) bytes.now }
     ensures within { result ≤ length bytes.now }
