@@ -15,7 +15,7 @@ use std::hash::RandomState;
 use std::marker::Model;
 
 /// The nodes of a field, and the bytes that they point into: the text that was read, or a copy of
-/// the field's bytes. Unlike a scan, it has a view of every field: a repeated key has one node, at
+/// the field's bytes. Unlike a scan, it has a view of every field: a repeated key has one part, at
 /// the first place and with the last value (RFC 9651 sections 3.1.2 and 3.2). Contracts see both.
 ///
 /// ```
@@ -58,10 +58,10 @@ impl<'a> FieldNodes<'a> {
     }
 
     /// Reads a text as a field of this kind (RFC 9651 section 4.2), and returns its nodes, or the
-    /// refusal that [`parse_declined`] returns. The text is scanned, as by [`View::scan`]; only if
-    /// the scanner declines it, for example because a key of parameters is repeated, the field is
-    /// built and its nodes are made from that. It allocates. `Refusal::OutOfMemory` is also
-    /// returned for a text of some gigabytes whose keys and texts together have 4 GiB or more.
+    /// refusal that [`parse_declined`] returns. The text is scanned by [`scan_into`]; only if that
+    /// declines it, for example because a key of parameters is repeated, the field is built and its
+    /// nodes are made from that. It allocates. `Refusal::OutOfMemory` is also returned for a text
+    /// of some gigabytes whose keys and texts together have 4 GiB or more.
     ///
     /// ```
     /// let nodes = FieldNodes::of_text(alloc, &seed, Dialect::Rfc9651, Kind::Item, b"a;b=1;b=2")?;

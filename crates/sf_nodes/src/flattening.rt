@@ -8,7 +8,7 @@ use sf_value::{Bare, Entries, Field, Inner, Item, Member, OutOfMemory};
 use sf_view::{NodeType, Role};
 use std::alloc::Global;
 
-/// Adds a bare item that has a number.
+/// Adds a part that has a number and no bytes: a bare item, or an Inner List, whose number is 0.
 fn push_number(
     flat: &mut Flat,
     role: Role,

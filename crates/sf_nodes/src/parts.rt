@@ -124,7 +124,8 @@ impl Flat {
 
     /// Writes the nodes and the bytes to the beginning of buffers that are large enough. Offsets
     /// count from the beginning of a text of `start` bytes that the bytes follow; with `start` 0
-    /// the bytes are alone. It does not allocate.
+    /// the bytes are alone. Together the text and the bytes must have less than 2^32 bytes. It does
+    /// not allocate.
     ///
     /// ```
     /// let flat = flatten(alloc, &field)?; // of a=b;c

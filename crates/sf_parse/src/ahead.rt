@@ -18,8 +18,8 @@ fn head(text: &[u8]) -> &[u8]
     first
 }
 
-/// How many commas, or spaces and brackets, are looked at. If all of these are within Strings, the
-/// search gives up: a text that is refused early may have many more.
+/// How many of the bytes that are searched for are looked at. If all of these are within Strings,
+/// the search gives up: a text that is refused early may have many more.
 const STRINGS: usize = 4;
 
 /// Whether there is a comma near the beginning of a text, outside Strings. A member of a chunk is
@@ -33,6 +33,7 @@ pub fn has_comma(text: &[u8]) -> bool {
         let Some(outside) = outside_of_quotes(rest, place) else {
             return false;
         };
+        // Nothing was skipped, so the comma is not within a String.
         if outside.len() >= rest.len() - place {
             return true;
         }
@@ -42,7 +43,8 @@ pub fn has_comma(text: &[u8]) -> bool {
 }
 
 /// Whether there is a space near the beginning of a text, outside Strings, and no comma or closing
-/// bracket before it. An Item of a chunk is left to the levels if no such space follows it.
+/// bracket before it. An Item with parameters in an Inner List of a chunk is left to the levels if
+/// no such space follows it.
 pub fn has_space(text: &[u8]) -> bool {
     let mut rest = head(text);
     for _ in 0..STRINGS {
@@ -52,6 +54,7 @@ pub fn has_space(text: &[u8]) -> bool {
         let Some(outside) = outside_of_quotes(rest, place) else {
             return false;
         };
+        // Nothing was skipped, so the byte is not within a String.
         if outside.len() >= rest.len() - place {
             return outside.first().copied() == Some(b' ');
         }

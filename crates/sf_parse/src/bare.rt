@@ -144,7 +144,9 @@ impl BareReader {
         }
     }
 
-    /// The bare item, if it is complete. Its value is taken out of the reader.
+    /// The bare item, if it is complete. Its value is taken out of the reader. If the value is made
+    /// of bytes, the kind becomes Boolean, to which no bytes belong: a Token, for example, can't be
+    /// empty.
     pub fn finish(&mut self, context: &Context) -> Option<Bare>
         // It is the value that the state has at the end, if it has one.
         ensures value { result ≡ bare_finish self.old }

@@ -61,7 +61,8 @@ impl BlobPhase {
     }
 
     /// Takes a byte that is no character of base64 and ends the last group, or reports that it
-    /// can't come after the open group.
+    /// can't come after the open group. Padding may be missing, and pad bits may be set (RFC 9651
+    /// section 4.2.7).
     fn end_group(
         &mut self,
         held: Held,
@@ -90,7 +91,8 @@ impl BlobPhase {
         }
     }
 
-    /// The bytes of the last group, and the first byte after it.
+    /// Takes the first byte after the last group, whose bytes `tail` are added: a colon or, if
+    /// `more` is not 0, a `=`. Any other is refused.
     fn close(
         &mut self,
         tail: &[u8],
@@ -274,7 +276,8 @@ fn take_groups<'a>(bytes: &mut ShortBytes, chunk: &'a [u8]) -> Result<&'a [u8], 
         let mut block = [0; BLOCK];
         let (count, more) = decode_groups(rest, &mut block);
         bytes.extend(&block[..count])?;
-        // A block with space for another group is the last one.
+        // A block with space for another group is the last one. The second test never holds: it
+        // shows that the loop ends.
         if count + 3 <= BLOCK || more.len() >= rest.len() {
             return Ok(more);
         }

@@ -44,7 +44,8 @@ impl DateReader {
         }
     }
 
-    /// Takes one more byte, or reports that the date can't continue with it and is unchanged.
+    /// Takes one more byte, or reports that the date can't continue with it and is unchanged. It
+    /// has at most 15 digits, as an Integer (RFC 9651 section 3.3.1).
     #[tactic(auto, using(crate::proofs::Numerals::digit_fits, crate::proofs::Numerals::next_digit))]
     pub fn step(&mut self, byte: u8) -> bool
         // The byte leads to the next state, or it can't and the state is unchanged.

@@ -48,12 +48,13 @@ impl ShownPlace {
         chars: Utf8State::Start,
     };
 
-    /// Takes one more byte of the characters.
+    /// Takes one more byte of the characters, unescaped or decoded from an escape, or reports that
+    /// it can't come next in UTF-8.
     #[tactic(auto, using(crate::proofs::Leading::leads_push))]
     fn push(&mut self, bytes: &mut ShortBytes, byte: u8) -> Result<bool, OutOfMemory>
         // The bytes so far lead to the state in a character, and fit the phase.
         requires { FitsShown self.old.phase bytes.old self.old.chars }
-        // The byte of the text leads to the next state, or it can't and the state is unchanged.
+        // The byte leads to the next state, or it can't and the state is unchanged.
         ensures step { IfOk result (λ took. Steps took
             (push_byte (shown_of self.old.phase bytes.old self.old.chars) byte)
             (shown_of self.old.phase bytes.old self.old.chars)
@@ -293,7 +294,8 @@ fn read_escapes<'a>(
     (count, chars, rest)
 }
 
-/// Takes whole escapes, letting the buffer grow once for each block, and returns the rest.
+/// Takes whole escapes, at most a block of them, letting the buffer grow once, and returns the
+/// rest.
 fn take_escapes<'a>(
     chars: &mut Utf8State,
     bytes: &mut ShortBytes,
@@ -410,7 +412,8 @@ fn decode_run<'a>(first: u8, text: &'a [u8], block: &mut [u8; BLOCK]) -> (usize,
     (count, rest)
 }
 
-/// The byte that the text begins with, or that of the escape that it begins with, and the rest.
+/// The byte that the text begins with, or that of the escape that it begins with, and the rest. In
+/// a Display String, two digits follow each `%`; one with fewer than two bytes after it is kept.
 #[inline(always)]
 fn decode_byte(text: &[u8]) -> Option<(u8, &[u8])>
     ensures bytes { MatchOption result (text.now ≡ [])

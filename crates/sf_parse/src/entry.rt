@@ -262,7 +262,8 @@ fn put_value(
     Ok(true)
 }
 
-/// The key of a reader in which no member was begun.
+/// The key of a reader before a member begins, and after the key of a member was taken out: a key
+/// can't be empty.
 fn no_key(context: &Context) -> ShortBytes
     ensures { result ≡ asterisk ∷ [] }
 {

@@ -37,8 +37,8 @@ pub fn refusals_are_exact()
     ensures place { StopsAt }
 {}
 
-/// A text that spells a value in RFC 9651 and none in RFC 8941 has `@` or `%` at its place in
-/// RFC 8941.
+/// A text that spells a value in RFC 9651 and none in RFC 8941 has `@` or `%` at the place at which
+/// RFC 8941 refuses it.
 pub fn only_new_types_differ()
     ensures { OnlyNew }
 {}

@@ -16,7 +16,7 @@ enum Name {
     Printable,
     /// The bytes of a token after its first (section 3.3.4).
     Token,
-    /// The characters of base64 (RFC 4648 section 4).
+    /// The characters of base64 (RFC 4648 section 4), without `=`.
     Base64,
     /// The bytes of a key after its first (RFC 9651 section 3.1.2).
     Key,
@@ -136,7 +136,8 @@ impl Names {
     }
 }
 
-/// What a refusal expects, printed by names, with commas between them and "or" before the last.
+/// What a refusal expects, printed by names, with commas between them and "or" before the last. It
+/// prints "nothing" if there are none; the refusal of a text always has one.
 #[derive(Clone, Copy, Drop)]
 pub(crate) struct Expected {
     pub set: u128,

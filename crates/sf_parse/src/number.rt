@@ -84,7 +84,9 @@ impl NumberReader {
         }
     }
 
-    /// Takes one more byte, or reports that the number can't continue with it and is unchanged.
+    /// Takes one more byte, or reports that the number can't continue with it and is unchanged. An
+    /// Integer has at most 15 digits, and a Decimal at most 12 before the point and 3 after it (RFC
+    /// 9651 sections 3.3.1 and 3.3.2).
     #[tactic(auto, using(crate::proofs::Numerals::digit_fits, crate::proofs::Numerals::whole_fits, crate::proofs::Numerals::next_digit))]
     pub fn step(&mut self, byte: u8) -> bool
         // The byte leads to the next state, or it can't and the state is unchanged.

@@ -238,7 +238,8 @@ impl Level for ParamsReader {
     }
 }
 
-/// Puts a value at the key that was read. A later value of a key overwrites an earlier one.
+/// Puts a value at the key that was read. A later value of a key overwrites an earlier one. The key
+/// is empty afterwards, so the phase is changed before: most phases require a key.
 fn put(
     params: &mut Entries<Bare>,
     key: &mut ShortBytes,

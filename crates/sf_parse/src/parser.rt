@@ -75,7 +75,7 @@ impl Drop for Parser {
     }
 }
 
-/// Prints the settings and the place, not what was read nor the seed.
+/// Prints the kind, the limit, the place and the refusal, but neither the values read nor the seed.
 impl fmt::Debug for Parser {
     fn fmt<W: fmt::Write>(&self, f: &mut fmt::Formatter<W>) -> fmt::Result {
         f.debug_struct("Parser")
@@ -208,8 +208,8 @@ impl Parser {
     }
 
     /// Takes the next chunk, or refuses the text: with Syntax at a byte that is not allowed, with
-    /// TooLong after the limit, or with OutOfMemory if an allocation fails. A parser that refused
-    /// returns the same refusal to every later call, whatever the chunk.
+    /// TooLong at the first byte past the limit, or with OutOfMemory if an allocation fails. A
+    /// parser that refused returns the same refusal to every later call, whatever the chunk.
     ///
     /// ```
     /// parser.feed(b"a, ")?;
@@ -251,7 +251,8 @@ impl Parser {
 
     /// Takes the next field line, or refuses the text: as `feed` of the line, after a comma and a
     /// space if a line was fed before, so that the whole text is that of the lines joined (RFC 9651
-    /// section 4.2). A parser that refused returns the same refusal again.
+    /// section 4.2). The comma and the space count for the limit and for places. A parser that
+    /// refused returns the same refusal again.
     ///
     /// ```
     /// parser.feed_line(b"a, b")?;

@@ -88,7 +88,7 @@ pub fn parse_item(alloc: Global, seed: &RandomState, text: &[u8]) -> Result<Item
 }
 
 /// The List that the text spells, in the dialect of RFC 9651 (section 4.2), with the result of
-/// [`parse_text`] for a List: a failure is Syntax, or out of memory.
+/// [`parse_text`] for a List. It allocates only if that does.
 ///
 /// ```
 /// let list = parse_list(alloc, &seed, b"a, (b c)")?;
@@ -106,7 +106,7 @@ pub fn parse_list(alloc: Global, seed: &RandomState, text: &[u8]) -> Result<List
 }
 
 /// The Dictionary that the text spells, in the dialect of RFC 9651 (section 4.2), with the result
-/// of [`parse_text`] for a Dictionary: a failure is Syntax, or out of memory.
+/// of [`parse_text`] for a Dictionary. It allocates only if that does.
 ///
 /// ```
 /// let dict = parse_dict(alloc, &seed, b"u=1, i")?;

@@ -9,12 +9,12 @@ use std::alloc::Global;
 use std::hash::RandomState;
 
 /// Returns the value that the reader's text spells, in the dialect of RFC 9651. It reads at most
-/// `max` + 1 bytes, in blocks of 512, repeats no read that failed, and does not read after the
-/// reader's end. The result is the first of these that applies to the bytes read: Syntax with a
+/// `max` + 1 bytes, in blocks of at most 512, repeats no read that failed, and does not read after
+/// the reader's end. The result is the first of these that applies to the bytes read: Syntax with a
 /// found byte if the first `max` bytes are no viable prefix; ReadFault if a read failed; TooLong if
 /// there were more than `max` bytes; otherwise, at the reader's end, the value, or Syntax without a
-/// found byte. A text for which [`crate::parse_text`] does not allocate is not refused as out of
-/// memory.
+/// found byte. If an allocation fails before, it is OutOfMemory, but not for a text for which
+/// [`crate::parse_text`] does not allocate.
 ///
 /// ```
 /// let mut source = Reading::new(b"u=1, i".as_slice());

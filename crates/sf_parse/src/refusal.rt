@@ -67,10 +67,11 @@ impl fmt::Display for Found {
 }
 
 /// The error message, such as ``byte 0x32 '2' at place 2, expected a space or the end``. It names
-/// each class of bytes that is expected as a whole (RFC 9651 sections 3.3.3, 3.3.4 and 3.1.2, RFC
-/// 4648 section 4, letters and digits), and then each byte that remains: a space, a tab, a quote and
-/// a backquote have these names; another visible one, such as `-`, is between backquotes; any other
-/// is hexadecimal. Places and lengths are decimal. It does not allocate.
+/// each class of bytes that are all expected and not named yet (RFC 9651 sections 3.3.3, 3.3.4,
+/// 3.1.2 and 3.3.8, RFC 4648 section 4, letters and digits), and then each byte that remains: a
+/// space, a tab, a quote and a backquote have these names; another visible one, such as `-`, is
+/// between backquotes; any other is hexadecimal. Places and lengths are decimal. It does not
+/// allocate.
 impl fmt::Display for Refusal {
     ghost output = { λ refusal. Some (refusal_text refusal) };
 

@@ -315,8 +315,9 @@ pub fn are_all(phase: SeriesPhase, rest: &[u8]) -> bool
     }
 }
 
-/// Adds the whole members that what is left of a whole text begins with, each with the comma or the
-/// white space after it, of which the last may have neither; and returns the rest.
+/// Adds the whole members that `text` begins with, and returns the rest. The text is whole at its
+/// end: it is the suffix of a whole text. Each member is taken with the white space and the comma
+/// after it; the last one may have neither.
 #[inline(always)]
 pub fn add_members<'a, P: SeriesMember<G>, G>(
     context: &Context,
@@ -367,9 +368,10 @@ fn has_end<P: SeriesMember<G>, G>(dialect: Dialect, chunk: &[u8]) -> bool {
     }
 }
 
-/// Whether a member may be whole in this text: in a chunk only if a comma is near, for which the
-/// first member was tested before. Otherwise it is left to its reader, since it would have to be
-/// read again. It is a hint that saves time; no proof relies on it.
+/// Whether a member may be whole in this text: if a comma is near, or if `is_near` says that none
+/// is needed, as in a whole text, or that [`has_end`] tested it, as for the first member of a
+/// chunk. Another member is left to its reader, which would have to read it again. It is a hint
+/// that saves time; no proof relies on it.
 #[inline(always)]
 fn may_be_whole(is_near: bool, text: &[u8]) -> bool {
     is_near || has_comma(text)
@@ -412,7 +414,8 @@ fn add_each_member<'a, P: SeriesMember<G>, G>(
     Ok(rest)
 }
 
-/// Whether a comma was read in a text, of which this is left.
+/// Whether a comma was read in a text, of which this is left, so that another member may begin. The
+/// phase alone is not enough: if nothing was read, it is that of an earlier comma.
 #[inline(always)]
 fn goes_on(phase: SeriesPhase, text: &[u8], left: &[u8]) -> bool
     ensures comma { result ≡ true → phase ≡ phase_is.Comma }
@@ -422,8 +425,8 @@ fn goes_on(phase: SeriesPhase, text: &[u8], left: &[u8]) -> bool
 }
 
 /// Adds the whole member that a text begins with, with the comma or the white space after it, and
-/// returns the rest. If there is none, it returns all of the text. `is_near` says that it may be
-/// whole, so that no comma is searched.
+/// returns the rest. If there is none, it returns all of the text. `is_near` is that of
+/// [`may_be_whole`].
 #[inline(always)]
 fn add_member<'a, P: SeriesMember<G>, G>(
     context: &Context,

@@ -1,4 +1,5 @@
-//! The members of a List and of a Dictionary (RFC 9651 sections 4.2.1 and 4.2.2).
+//! How the members of a List and of a Dictionary begin and are added (RFC 9651 sections 4.2.1 and
+//! 4.2.2).
 ghost use Rattle.std.specs.Prelude.{[], ◌∷◌, ◌++◌, ⊤};
 ghost use Rattle.sf_value.specs.Grammar.Pairs.{put};
 ghost use Rattle.sf_value.specs.Grammar.Tokens.{IsKey};

@@ -1,5 +1,6 @@
-//! Sets of bytes below 128, a bit for each: the bytes that may follow each part of the grammar. The
-//! sets of refusals are unions of these.
+//! Sets of bytes below 128, a bit for each: the bytes that may follow each part of the grammar, and
+//! the classes that an error message names. What the readers expect is a union of these, except for
+//! the digits of an escape, which are tested one by one.
 ghost use Rattle.std.specs.Prelude.{◌≡◌, if◌then◌else◌};
 
 pub const LOWER: u128 = 0x3ff_ffff << b'a';
@@ -40,15 +41,17 @@ pub const LOWER_HEX: u128 = DIGITS | 0x3f << b'a';
 /// The digits of a Boolean (RFC 9651 section 3.3.6).
 pub const BITS: u128 = 3 << b'0';
 
-/// The bytes of strings (section 3.3.3), and those that may follow a backslash.
+/// The bytes of strings (RFC 9651 section 3.3.3).
 pub const VISIBLE: u128 = (1 << 127) - (1 << b' ');
 
+/// The bytes that may follow a backslash in a String (section 3.3.3).
 pub const ESCAPED: u128 = QUOTE | 1 << b'\\';
 
 /// The characters of base64 (RFC 4648 section 4).
 pub const BASE64: u128 = LETTERS | DIGITS | 1 << b'+' | 1 << b'/';
 
-/// The first digits of the escapes of a character's first byte (RFC 9651 section 3.3.8).
+/// The first digits of the escapes of a character's first byte (RFC 9651 section 3.3.8): 8 to b are
+/// those of the bytes after it.
 pub const FIRST_DIGITS: u128 = 0xff << b'0' | 0xf << b'c';
 
 /// The first byte of a key, and the others (section 3.1.2).
@@ -62,7 +65,8 @@ pub const AFTER_KEY: u128 = KEY | EQUALS | SEMICOLON;
 /// The first byte of a token (section 3.3.4).
 const TOKEN_START: u128 = LETTERS | 1 << b'*';
 
-/// The bytes of a token after its first (section 3.3.4).
+/// The bytes of a token after its first (section 3.3.4). Three of the terms are runs: `#` to `'`,
+/// `-` to `/`, and `^` to a backquote.
 pub const TOKEN: u128 = TOKEN_START
     | DIGITS
     | 1 << b'!'

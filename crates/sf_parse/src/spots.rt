@@ -9,7 +9,7 @@ use crate::refusal::Refusal;
 use sf_value::{Blob, is_visible};
 use std::fmt;
 
-/// A place in a field line. A text that came in one chunk counts as one line.
+/// A place in a field line. A text that is not in lines counts as one line.
 #[derive(Clone, Copy, Debug, Drop)]
 pub struct Spot<'a> {
     /// The number of the line in the field, from 1.
@@ -35,15 +35,16 @@ pub struct Spot<'a> {
 pub struct InLine<'a> {
     /// Why the text was refused.
     pub refusal: Refusal,
-    /// The place in the lines. None if the refusal has no place in the text, or there is no line:
-    /// then only the message is printed.
+    /// The place in the lines. None if the refusal is not Syntax, or there is no line: then only
+    /// the message is printed.
     pub spot: Option<Spot<'a>>,
 }
 
 impl Refusal {
     /// The refusal with the line that it is in, of the lines that were refused. The lines are
     /// joined by a comma and a space (RFC 9651 section 4.2), and a place at one of these belongs to
-    /// the end of the line before them. It does not allocate, nor does printing it.
+    /// the end of the line before them, as a place after the last line belongs to its end. It does
+    /// not allocate, nor does printing it.
     ///
     /// ```
     /// if let Err(refusal) = parse_lines(alloc, &seed, Kind::List, &lines) {

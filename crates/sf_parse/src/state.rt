@@ -38,7 +38,7 @@ impl FieldState {
     }
 
     /// Takes the longest prefix of the chunk that the field can continue with, and returns the
-    /// rest.
+    /// rest. A chunk of one byte is pushed, which takes less time than to look for a run.
     #[inline(always)]
     pub fn take<'a>(&mut self, context: &Context, chunk: &'a [u8]) -> Result<&'a [u8], OutOfMemory>
         // The bytes before the rest lead to the new state, which can't take the first of the rest.

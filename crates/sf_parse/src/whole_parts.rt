@@ -1,4 +1,4 @@
-//! Parts of a field that are whole in a text, read without a state between two calls, and built
+//! Parts of a field that are whole in a text, read without a state between two bytes, and built
 //! where they are stored. A function that returns None says nothing about the text, which is then
 //! refused, or read by the levels.
 ghost use Rattle.std.specs.Prelude.{◌≡◌, ◌++◌, ◌∷◌, ℕ, List, [], true};
@@ -73,7 +73,8 @@ impl From<OutOfMemory> for Unread {
     }
 }
 
-/// A key and its value, a bare item, and the rest; None if the text begins with none.
+/// A key and its value, a bare item, and the rest; None if the text begins with none. The value of
+/// a key alone is Boolean true.
 #[inline(always)]
 pub fn find_named(dialect: Dialect, text: &[u8]) -> Option<(Found<'_>, &[u8])>
     ensures key { IfSome result (λ r. IsKey r.0.key.now) }
@@ -86,7 +87,7 @@ pub fn find_named(dialect: Dialect, text: &[u8]) -> Option<(Found<'_>, &[u8])>
 }
 
 /// The value of a key, a bare item, given the text after the key, and the rest; None if it can't be
-/// read.
+/// read. Without `=` it is Boolean true.
 #[inline(always)]
 pub fn find_value<'a>(
     dialect: Dialect,

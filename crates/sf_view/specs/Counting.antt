@@ -42,7 +42,7 @@ CountsParams d = CountsPart (SpellsParams d) (λ ps. length ps) params_bytes
 abbrev pub CountsItem : Dialect → List ℕ → List ℕ → ℕ → ℕ → Type 0
 CountsItem d = CountsPart (SpellsItem d) item_nodes item_bytes
 
--- the bytes inside an Inner List have so many nodes; its own is one more
+-- an Inner List has one node, and those of its Items and parameters; its bytes are theirs
 abbrev pub inner_nodes : Inner → ℕ
 inner_nodes l = 1 + items_nodes l.items + length l.params
 

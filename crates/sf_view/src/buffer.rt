@@ -9,10 +9,10 @@ const BLOCK: usize = 32;
 /// The number of bytes that are counted together: small enough that the count fits in a byte.
 const CHUNK: usize = 128;
 
-/// Returns a buffer with enough nodes for [`crate::View::scan`] of this text. Their number is that
-/// of the bytes that can be right before a part with a node, so it is close to the number of nodes
-/// of the text. No clause says that they are enough: if they were not, the scan would return
-/// [`crate::Unviewed::ShortBuffer`]. It fails only if an allocation fails.
+/// Returns a buffer with enough nodes for [`crate::View::scan`] of this text. It has one more than
+/// the text has bytes that can be right before a part with a node, rounded up to a multiple of 32.
+/// Such bytes count within Strings, too. No clause says that they are enough: if they were not, the
+/// scan would return [`crate::Unviewed::ShortBuffer`]. It fails only if an allocation fails.
 ///
 /// ```
 /// let mut nodes = node_buffer(alloc, text)?;
@@ -28,8 +28,8 @@ pub fn node_buffer(alloc: Global, text: &[u8]) -> Result<Vec<Node>, OutOfMemory>
     Ok(nodes)
 }
 
-/// The largest number of nodes of a text: before each node but the first is a comma, a semicolon or
-/// an opening bracket, or, in an Inner List, a space.
+/// At least the number of nodes of a text: before each part but the first is a comma, a semicolon
+/// or an opening bracket, or, in an Inner List, a space. No such byte is before two parts.
 pub(crate) fn most_nodes(text: &[u8]) -> usize {
     let lists = occurrences(text, b'(');
     let spaces = if lists == 0 {

@@ -90,7 +90,8 @@ impl<'a> Slice<'a> {
     }
 
     /// Writes the bytes, decoded if they are coded, to the beginning of the buffer, and returns
-    /// their number; `None` if the buffer is too short. It does not allocate.
+    /// their number; `None` if the buffer is too short, which is then filled with the first ones.
+    /// It does not allocate.
     pub fn decode_to(&self, buffer: &mut [u8]) -> Option<usize>
         ensures same { length buffer.new ≡ length buffer.old }
         ensures within { IfSome result (λ n. n ≤ length buffer.new) }

@@ -34,7 +34,8 @@ pub struct Counts {
 pub enum Uncounted {
     /// It is malformed, or a count would overflow.
     Declined,
-    /// A key is repeated or, rarely, there are many keys: to count them takes memory.
+    /// A key is repeated or, rarely, there are many keys: to count them takes memory. From
+    /// [`count_settled`]: an allocation failed.
     Repeated,
 }
 
@@ -45,7 +46,7 @@ struct Memory<'s> {
     seed: &'s RandomState,
 }
 
-/// The number of slots of a table for few parameters.
+/// The number of slots of a table for few keys.
 const FEW: usize = 256;
 
 /// The number of slots of the largest table, for up to about twelve thousand keys.
@@ -486,6 +487,7 @@ fn count_dict(memory: Option<Memory>, dialect: Dialect, text: &[u8]) -> Result<C
 fn more_entries(memory: Option<Memory>, dialect: Dialect, text: &[u8]) -> Result<Counts, Uncounted>
     ensures { IfOk result (HasCounts dialect kind_is.Dict text.now) }
 {
+    // A member takes at least two bytes, so at most half of the slots of a small table are used.
     let counted = if text.len() <= FEW {
         few_entries(memory, dialect, text)
     } else {

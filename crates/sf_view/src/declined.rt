@@ -1,4 +1,4 @@
-//! Texts that a scanner declined, which are refused without building a value.
+//! Texts that a scanner declined: they are refused without building a value, or parsed.
 ghost use Rattle.sf_parse.specs.Parsers.{NeedsValue, Parses};
 
 use sf_parse::{Refusal, parse_text_in, refuse_text};

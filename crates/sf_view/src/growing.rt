@@ -1,5 +1,5 @@
-//! Scans into nodes that are added while the text is read: their number is bounded by what was read,
-//! not by what may follow.
+//! Scans into nodes that are added while the text is read: their number is bounded by what was
+//! read, not by what may follow.
 ghost use Rattle.std.specs.Prelude.{◌≡◌, ◌≤◌, ◌<◌, ◌^◌, length, take, false};
 ghost use Rattle.std.specs.Prelude.{IfOk, IfErr, IfSome, IsTrue};
 ghost use Rattle.sf_value.specs.declared.dialect.Dialect.{Dialect as Which};
@@ -23,14 +23,16 @@ use std::alloc::Global;
 /// The number of nodes that a scan begins with, if the text may need so many.
 const FIRST: usize = 4096;
 
-/// The buffer grows to this many times its nodes. What is read again, since there were too few
-/// nodes for a member, is then at most a third of what is kept.
+/// The buffer grows to this many times its nodes. A member for which there were too few nodes is
+/// read again. What is read in vain is then about four thirds of what is kept, at most: each
+/// attempt reads at least four times as much as the one before.
 const FACTOR: usize = 4;
 
 /// The number of nodes that are added together.
 const BLOCK: usize = 32;
 
-/// Nodes are added at most this many times, which is more than a text of 4 GiB needs.
+/// To the nodes of an Item or a List, nodes are added at most this many times, which is more than a
+/// text of 4 GiB needs.
 const ADDITIONS: usize = 32;
 
 /// Whether there may have been too few nodes. One of the last three was then written, since only
@@ -44,7 +46,8 @@ fn are_used_up(nodes: &[Node]) -> bool {
     used
 }
 
-/// Adds nodes, so that there are four times as many, but no more than the text may need.
+/// Adds nodes, so that there are four times as many and at least [`FIRST`], but no more than the
+/// text may need. At least one block is added.
 fn lengthen(nodes: &mut Vec<Node>, most: usize) -> Result<(), OutOfMemory>
     ensures longer { IfOk result (λ _. length nodes.old.items ≤ length nodes.new.items) }
     ensures kept { IfOk result
@@ -342,6 +345,7 @@ fn grown_dict(
         return Ok(Some(0));
     }
     let mut unsettled = text.len();
+    // Settling makes fewer nodes, so nodes may be added more often than to those of a List.
     for _ in 0..text.len() {
         match dict_from(dialect, text, from, repeated, nodes.as_mut_slice()) {
             Ok(count) => return Ok(Some(count)),
@@ -388,8 +392,9 @@ pub(crate) fn grown_parts(
 /// stay if a later value of a key overwrites an earlier one and takes its place (RFC 9651 section
 /// 4.2.2). Nodes are added to the buffer as they are needed, so it may be empty; the number of them
 /// is bounded by what was read of the text and, if a key is repeated, by the number of different
-/// keys. It returns `None` if the text is malformed, a key of parameters is repeated, an allocation
-/// failed or, rarely, there are many keys with one hash. `None` says nothing about the text.
+/// keys. It returns `None` if the text is malformed or has 4 GiB or more, a key of parameters is
+/// repeated, an allocation failed or, rarely, there are many keys with one hash. `None` says
+/// nothing about the text.
 ///
 /// ```
 /// let mut nodes = Vec::new(alloc);
@@ -414,10 +419,11 @@ pub fn scan_settled<'a>(
 }
 
 /// Scans a whole text as a field of this kind into a buffer, as [`crate::scan_text`] does, but also
-/// if a key is repeated in a Dictionary, or there are many keys, as [`scan_settled`]. It returns the
-/// number of nodes; the buffer needs one for each member of the text, those that are overwritten
-/// included. `None` says nothing about the text. It allocates only for more than 32 nodes of which
-/// some are overwritten or, rarely, which are many.
+/// if a key is repeated in a Dictionary, or there are many keys, as [`scan_settled`]. It returns
+/// the number of nodes; the buffer needs one for each part of the text, including those of members
+/// that are overwritten. `None` says nothing about the text; it is also returned if the buffer is
+/// too small. It allocates only for more than 32 nodes of which some are overwritten or, rarely,
+/// which are many.
 ///
 /// ```
 /// let mut nodes = [Node::NONE; 16];

@@ -77,7 +77,8 @@ impl<'a> ItemCursor<'a> {
 
     /// Reads the bare item of the next member: `Some(None)` after the last one, and `None` if the
     /// cursor declines the text, of which nothing is then known. It declines a member that does not
-    /// begin with a bare item, such as an Inner List.
+    /// begin with a bare item, such as an Inner List. The cursor does not move:
+    /// [`ParamCursor::end`] returns the one at the member after this.
     #[inline(always)]
     pub fn next(&self) -> Option<Option<ItemView<'a>>>
         // An Item with this bare item and the parameters that remain comes before the members that
@@ -121,7 +122,8 @@ impl<'a> ParamCursor<'a> {
         Some(Some(ParamView { key, bare }))
     }
 
-    /// The cursor at the next member, after the last parameter; `None` if the text is declined.
+    /// The cursor at the next member, after the last parameter; `None` if the text is declined, as
+    /// it is if a parameter was not read.
     #[inline]
     pub fn end(&self) -> Option<ItemCursor<'a>>
         ensures dialect { IfSome result (λ cursor. cursor.dialect ≡ self.now.dialect) }

@@ -37,7 +37,7 @@ impl Marks {
     }
 
     /// Whether the keys differ, by their marks or, if two have the same mark, by the keys of these
-    /// nodes; `false` also if there are too many.
+    /// nodes; `false` also if there are too many, or two have the same tag.
     #[inline]
     pub(crate) fn differ(self, source: &[u8], nodes: &[Node]) -> bool
         ensures { IsTrue result → DistinguishKeys self source.now nodes.now }
@@ -149,7 +149,7 @@ fn hash(key: &[u8]) -> u64
     value
 }
 
-/// The tag of a key, which is in a table in place of the key.
+/// The tag of a key, which is in a table in place of the key. Keys with different tags differ.
 #[inline]
 pub(crate) fn tag(key: &[u8]) -> u32
     ensures { result ≡ tag_of key.now }
@@ -160,8 +160,8 @@ pub(crate) fn tag(key: &[u8]) -> u32
 /// The number of slots that are searched for a tag.
 pub(crate) const PROBES: usize = 64;
 
-/// Puts a tag into the table; `false` if the table has it already, or if none of its slots is
-/// empty.
+/// Puts a tag into the table; `false` if the table has it already, if none of its slots is empty,
+/// or if the tag is 0, which marks an empty slot. The length of the table is a power of two.
 #[inline]
 pub(crate) fn enter(table: &mut [u32], tag: u32) -> bool
     ensures same { length table.new ≡ length table.old }
@@ -261,7 +261,8 @@ fn by_table(source: &[u8], nodes: &[Node]) -> bool
     by_largest_table(source, nodes)
 }
 
-/// Whether the keys of the parts differ; `false` also if there are too many.
+/// Whether the keys of the parts differ; `false` also if there are too many, or two have the same
+/// tag.
 #[inline(never)]
 fn are_distinct(source: &[u8], nodes: &[Node]) -> bool
     ensures { IsTrue result → AreApart source.now nodes.now }

@@ -1,5 +1,11 @@
 //! Accept-only scanning of structured fields into nodes that point into the text, and their
-//! canonical texts.
+//! canonical texts (RFC 9651 section 4).
+//!
+//! [`View::scan`] makes the nodes of a whole text, and [`scan_settled`] also if a key is repeated.
+//! [`write_view`] and [`normalise`] write canonical texts, [`View::to_field`] copies to a value,
+//! and [`field_of`] reads nodes that a caller made. [`accepts`], [`DictCursor`] and [`ItemCursor`]
+//! read a text without nodes. A text that is declined may be well-formed: [`parse_declined`]
+//! decides.
 #![tactic(auto)]
 
 mod bare;

@@ -11,7 +11,8 @@ ghost use Rattle.sf_view.specs.declared.node_types.Role.{Role as Place};
 use crate::keys::{bytes_at, first_node};
 use crate::node::Node;
 
-/// The first part: its key, its nodes, and those after it.
+/// The first part: its key, its nodes, and those after it; `None` if there are no nodes, or its key
+/// isn't in the source, or its size is wrong.
 #[inline]
 pub(crate) fn hop<'a>(
     source: &'a [u8],

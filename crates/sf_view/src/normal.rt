@@ -50,9 +50,9 @@ pub fn view_text(alloc: Global, view: &View, kind: Kind) -> Result<Vec<u8>, OutO
 /// Returns the canonical text (RFC 9651 section 4.1) of the field that a text spells in a dialect,
 /// or the refusal that [`sf_parse::parse_text_in`] returns. The canonical text is written from
 /// nodes that point into the text; only if it has none, for example because a key of parameters is
-/// repeated, the field is built. It allocates the canonical text, nodes if there are more than 32,
-/// and then nodes, an index of the members and the text once more if a key of the Dictionary is
-/// repeated or there are many keys.
+/// repeated, the field is built. It allocates the canonical text, and nodes if there are more than
+/// 32. If a key of the Dictionary is repeated or there are many keys, it also allocates the
+/// canonical text once more and, for more than 32 nodes, settled nodes and an index of the members.
 ///
 /// ```
 /// normalise(alloc, &seed, Dialect::Rfc9651, Kind::Dict, b"u=1,  i=?1") // Ok: u=1, i
@@ -126,9 +126,10 @@ fn by_many_nodes(
 }
 
 /// Returns the canonical text as [`canonical_text`] does, also if a key of the Dictionary is
-/// repeated, or there are many keys: `None` if the text has no nodes, as for [`scan_settled`]. For a
-/// repeated key it also allocates settled nodes, an index of the members and the text once more; if
-/// one of these allocations fails, it returns `None`.
+/// repeated, or there are many keys: `None` if the text has no nodes, as for
+/// [`crate::scan_settled`]. For a repeated key it also allocates the canonical text once more and,
+/// for more than 32 nodes, settled nodes and an index of the members; if one of these allocations
+/// or the first one of the text fails, it returns `None`.
 ///
 /// ```
 /// settled_text(alloc, Dialect::Rfc9651, Kind::Dict, b"u=1, i, u=2") // Ok(Some(..)): u=2, i
@@ -146,6 +147,7 @@ pub fn settled_text(
     let mut few = [Node::NONE; STACK_NODES];
     let mut repeated = false;
     let Some(count) = scan_parts(dialect, kind, &mut repeated, text, &mut few) else {
+        // A text has no more nodes than bytes: a short one did not lack nodes.
         if text.len() <= STACK_NODES || text.len() > 0xffff_ffff {
             return Ok(None);
         }

@@ -25,8 +25,8 @@ const PROBES: usize = 64;
 
 /// This many slots may be searched for each node and each 16 bytes of the text, on average: twice
 /// what keys of different hashes need. `PROBES * PROBES` more may be searched, enough for as many
-/// short keys of one hash as a table takes. If that is not enough, the field is built, so keys that
-/// someone chose for their hash cost little here.
+/// short keys of one hash as a table takes. If that is not enough, the text is declined, so keys
+/// that someone chose for their hash cost little here.
 const SEARCHES: usize = 4;
 
 /// The largest number of nodes that are settled on the stack.
@@ -91,7 +91,8 @@ fn search_cost(key: &[u8]) -> usize
 }
 
 /// As [`place_among`], by a table of places, into which the place of a new key is put; `None` also
-/// if none of the key's slots has it or is empty, or if it would search more than is allowed.
+/// if none of the key's slots has it or is empty, or if it would search more than is allowed. A
+/// slot has a place and one more; 0 is an empty slot. The length of the table is a power of two.
 #[inline]
 fn place_by_table(
     source: &[u8],
@@ -338,6 +339,7 @@ pub(crate) fn settled_nodes(
 {
     let members = parts(raw);
     let most = if only_half { members / 2 } else { members };
+    // The order and the table, in one allocation.
     let mut index = vec![in alloc; 0u32; most.saturating_add(slots(most))].ok()?;
     if most > index.len() {
         return None;

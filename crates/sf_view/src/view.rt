@@ -49,8 +49,9 @@ pub struct Slice<'a> {
     /// The bytes themselves. If they are coded, the text of the whole bare item: its quotes or
     /// colons, and between them the escaped or encoded bytes.
     pub bytes: &'a [u8],
-    /// Whether the bytes are escaped or encoded: always for a Byte Sequence or a Display String,
-    /// for a String if it has an escape.
+    /// Whether the bytes are escaped or encoded. After a scan: always for a Byte Sequence or a
+    /// Display String, and for a String if it has an escape. In nodes of another origin, any bytes
+    /// may be decoded already.
     pub coded: bool,
 }
 

@@ -100,7 +100,8 @@ pub fn put_bare_view<W: Sink>(bare: &BareView, before: Sent, out: &mut W) -> Sen
     }
 }
 
-/// Writes a String. The text of one with escapes is canonical: a String has one text only.
+/// Writes a String. The text of a coded one is canonical: a String has one text only. One that is
+/// not coded needs escapes only in nodes that no scan made.
 fn put_text<W: Sink>(slice: Slice, before: Sent, out: &mut W) -> Sent
     ensures { (d : Which) (t : Seq ℕ)
         → DescribesText d slice.entry.coded slice.entry.bytes.now (value_is.Text t)

@@ -52,7 +52,7 @@ GoodShown (Percent bytes x) = GoodUtf8 x
 GoodShown (Hex bytes x h) = GoodUtf8 x × (h < 16) × (can_begin x h ≡ true)
 GoodShown (Done bytes) = Unit {0}
 
--- one more byte of the text
+-- one more byte of the value, unescaped or decoded from an escape
 abbrev pub push_byte : ShownState → ℕ → Option ShownState
 push_byte Quote b = None
 push_byte (Unencoded bytes x) b = option_map (Unencoded (bytes ++ b ∷ [])) (utf8_step x b)
