@@ -9,8 +9,9 @@
  * Each accepts any numbers and any bytes; what sf.h requires of pointers is required here. Each
  * returns an sf_status, except sf_priority_merge, sf_lifetime and sf_version; a dialect is an
  * sf_dialect, and a kind is an sf_kind. All are passed as integers of a fixed width, since the
- * width of an enum is not fixed, and since any number may be passed. A call that does not allocate
- * lists SF_NO_MEMORY if its contract permits it; that it is not returned is tested.
+ * width of an enum is not fixed, and since any number may be passed. A function that reads a
+ * structured field, but takes no dialect, reads it by RFC 9651. A call that does not allocate lists
+ * SF_NO_MEMORY if its contract permits it; that it is not returned is tested.
  */
 
 #ifndef SF_FUNCTIONS_H
@@ -385,8 +386,9 @@ uint32_t sf_decide(const sf_rules *rules, uint32_t cache, const sf_response *res
  * see sf_trim.
  *
  *   SF_OK        the line is added
- *   SF_REFUSED   a line of Cache-Control, this one or one before, is not a list of directives. One
- *                that forbids storing may be lost in it, so the directives are those of no-store
+ *   SF_REFUSED   this is a line of Cache-Control, and it or one before it is not a list of
+ *                directives. One that forbids storing may be lost in it, so the directives are
+ *                those of no-store
  *   SF_BAD_CALL  there is no such field; *fallback is unchanged
  *
  * Cache-Control is no structured field: names of directives have no case, an argument is a token or
@@ -423,7 +425,8 @@ uint32_t sf_fallback_lifetime(const sf_fallback *fallback, uint64_t received,
  *   0  the policy sets no lifetime; *seconds is unchanged
  *
  * The lifetime alone does not say that a response is fresh: no-cache, no-store and must-revalidate
- * decide before it, and its age counts. sf_decide takes all of them.
+ * decide before it, and its age counts. sf_decide takes all of them. A directive whose value can't
+ * be used counts as absent here, unlike for sf_decide.
  *
  * The result is not an sf_status: do not compare it with SF_OK, which is 0.
  */

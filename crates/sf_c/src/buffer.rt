@@ -28,8 +28,10 @@ pub(crate) fn put_text(text: &[u8], buffer: &mut [u8], required: &mut usize) -> 
     Status::Answered
 }
 
-/// Whether a buffer of so many nodes or hops, and one of so many bytes, hold what any text of this
-/// length needs: four fifths of it, and eight fifths.
+/// Whether a buffer of so many nodes, and one of so many bytes, have about the sizes that are large
+/// enough for any text of this length: four fifths of it, and eight fifths. Both are rounded down,
+/// so that a text may need a little more. It decides only whether a value is counted before its
+/// tree is built.
 pub(crate) fn are_large(text: &[u8], count: usize, bytes: usize) -> bool {
     let length = text.len();
     count >= length.saturating_mul(4) / 5 && bytes >= (length / 5).saturating_mul(8)

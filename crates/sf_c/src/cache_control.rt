@@ -70,10 +70,10 @@ impl PolicyFlags {
     }
 }
 
-/// The directives in the text of one targeted field (RFC 9213 section 2.1). Returns `Answered` and
-/// sets `policy`; `Empty` if the Dictionary has no members, so that the next field of the target
-/// list is used (section 2.2); `Refused` if the text spells no Dictionary, with the refusal in
-/// `refusal`; or `OutOfMemory`.
+/// The directives in the text of one targeted field (RFC 9213 section 2.1), by RFC 9651. Returns
+/// `Answered` and sets `policy`; `Empty` if the Dictionary has no members, so that the next field
+/// of the target list is used (section 2.2); `Refused` if the text spells no Dictionary, with the
+/// refusal in `refusal`; or `OutOfMemory`.
 #[unsafe(no_mangle)]
 pub extern "C" fn sf_cache_control(
     alloc: Global,
@@ -91,7 +91,10 @@ pub extern "C" fn sf_cache_control(
 
 /// Returns 1 and sets `seconds` to the freshness lifetime by this policy, in a shared cache if
 /// `shared` is not 0, otherwise in a private one (RFC 9111 section 4.2.1); or returns 0 if the
-/// policy has none, and leaves `seconds` unchanged.
+/// policy has none, and leaves `seconds` unchanged. A directive whose value can't be used counts as
+/// absent here, unlike for [`sf_decide`].
+///
+/// [`sf_decide`]: crate::sf_decide
 #[unsafe(no_mangle)]
 pub extern "C" fn sf_lifetime(policy: &PolicyFlags, shared: u32, seconds: &mut u64) -> u32
     // 1 and the lifetime by the policy, or 0 if the policy has none.

@@ -54,12 +54,12 @@ impl Path {
     }
 }
 
-/// The path of a response by the text of its Cache-Status field (RFC 9211 section 2), the cache
-/// nearest the origin first: `Answered` and the first `path.hops` hops and the first `path.bytes`
-/// bytes describe it; `Short` if one of the buffers is smaller than `path` says; `NotACache` if a
-/// member names no cache, and then `path.nameless` is the place of the first such member; `Refused`
-/// if the text spells no List, and then `refusal` says where and why; or `OutOfMemory`. What else
-/// the buffers hold has no meaning.
+/// The path of a response by the text of its Cache-Status field (RFC 9211 section 2), by RFC 9651,
+/// the cache nearest the origin first. Returns `Answered` if the first `path.hops` hops and the
+/// first `path.bytes` bytes describe it; `Short` if one of the buffers is smaller than `path` says;
+/// `NotACache` if a member names no cache, with the index of the first such member in
+/// `path.nameless`; `Refused` if the text spells no List, with the refusal in `refusal`; or
+/// `OutOfMemory`. What else the buffers hold is unspecified.
 #[unsafe(no_mangle)]
 pub extern "C" fn sf_cache_status(
     alloc: Global,
@@ -153,6 +153,7 @@ fn path_of(
                 path.set(sizes.hops, sizes.bytes, sizes.served);
                 return Status::Short;
             }
+            // Not reached, but no clause says that a path that is not put exceeds a buffer.
             return path_by_tree(alloc, seed, dialect, text, hops, bytes, path, refusal);
         }
         None => return path_by_tree(alloc, seed, dialect, text, hops, bytes, path, refusal),

@@ -1,4 +1,4 @@
-//! The numbers that C passes for a dialect and a kind, and parsing for every call.
+//! The numbers that C passes for a dialect and a kind, and parsing for the calls that need a value.
 ghost use Rattle.std.specs.Prelude.{◌≡◌};
 ghost use Rattle.std.specs.Result.{result_map_both};
 ghost use Rattle.sf_value.specs.declared.value.Field.TheVariants as field_is;
@@ -71,7 +71,7 @@ pub(crate) fn refuse(dialect: Dialect, kind: Kind, text: &[u8], refusal: &mut Sy
 
 /// The value that the text spells, or the status that says why there is none. A refusal is put into
 /// its struct, which is otherwise unchanged. A declined text that is malformed is refused without
-/// memory; for another one, memory may be wanting.
+/// an allocation. For any other text an allocation may fail, also if it is malformed.
 pub(crate) fn parse(
     alloc: Global,
     seed: &Seed,

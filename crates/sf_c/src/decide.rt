@@ -86,7 +86,8 @@ impl DecisionFlags {
 
 /// What a cache of this kind decides about a response by its directives (RFC 9111 sections 3 and
 /// 4.2). Returns `Answered` and sets `decision`; `BadCall` for a number that is no kind of a cache;
-/// or `Invalid` if a struct has seconds that it does not set. Does not allocate.
+/// or `Invalid` if a struct has seconds whose flag is 0, so that they would not count. Does not
+/// allocate.
 #[unsafe(no_mangle)]
 pub extern "C" fn sf_decide(
     rules: &RulesFlags,

@@ -98,9 +98,9 @@ impl Fallback {
 }
 
 /// Adds a line of a field by which a cache decides if no field of its target list does (RFC 9213
-/// section 2.2). Returns `Answered`; `Refused` if a line of `Cache-Control`, this one or one before,
-/// is no list of directives (RFC 9111 section 5.2), and sets the directives to those of `no-store`;
-/// or `BadCall` for a number that is no field. Does not allocate.
+/// section 2.2). Returns `Answered`; `Refused` if this is a line of `Cache-Control`, and it or one
+/// before it is no list of directives (RFC 9111 section 5.2), and sets the directives to those of
+/// `no-store`; or `BadCall` for a number that is no field. Does not allocate.
 #[unsafe(no_mangle)]
 pub extern "C" fn sf_fallback_line(field: u32, line: &[u8], fallback: &mut Fallback) -> u32
     // What the lines of the field say, with this one; BadCall if and only if the number is no field.
@@ -113,10 +113,11 @@ pub extern "C" fn sf_fallback_line(field: u32, line: &[u8], fallback: &mut Fallb
     add(field, line, fallback).code()
 }
 
-/// Sets the lifetime of a response to the seconds from `Date` to `Expires`, or from the time at
-/// which it was received, if `Date` is no HTTP-date (RFC 9111 sections 4.2.1 and 5.3). Returns
-/// `Answered`; or `Empty` without a line of `Expires`, and leaves the response unchanged. Does not
-/// allocate.
+/// Sets the lifetime of a response to the seconds from `Date` to `Expires`, or to 0 if `Expires` is
+/// not later, is no HTTP-date or has several lines (RFC 9111 sections 4.2.1 and 5.3). Unless `Date`
+/// has one line, which is an HTTP-date, the seconds are those from `received`, the time at which
+/// the response was received in seconds since 1970. Returns `Answered`; or `Empty` without a line
+/// of `Expires`, and leaves the response unchanged. Does not allocate.
 #[unsafe(no_mangle)]
 pub extern "C" fn sf_fallback_lifetime(
     fallback: &Fallback,

@@ -43,7 +43,9 @@ impl<'a> Parts for GivenHop<'a> {
     ghost spells = { SpellsHop };
 
     /// Whether the bytes of the spans, all of them escaped, are short with the 87 bytes that the
-    /// rest of the text has at most.
+    /// rest of the text has at most. The token of `fwd` counts among the spans. If the caller left
+    /// its span empty, since `why` names it, there may be 9 bytes more; a text that is then not
+    /// short is counted after all.
     fn is_short(&self) -> bool {
         let hop = self.node;
         let bytes = hop

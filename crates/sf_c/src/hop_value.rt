@@ -190,7 +190,7 @@ pub(crate) fn flag_of(has_flag: u8, flag: u8) -> Option<bool>
     Some(flag != 0)
 }
 
-/// The seconds for which the response is fresh, if `ttl` is present.
+/// The remaining freshness lifetime in seconds, if `ttl` is present.
 pub(crate) fn ttl_of(hop: &HopNode) -> Result<Option<Int>, Status>
     ensures gives { MatchResult result
         (λ made. GivesMaybe hop.now.has_ttl (GivesInteger hop.now.ttl) made)

@@ -116,7 +116,7 @@ impl FlatPath {
         put(bytes, 0, self.bytes.as_slice());
     }
 
-    /// One more hop.
+    /// The path with one more hop at its end.
     fn with(self, hop: &Hop) -> Result<FlatPath, OutOfMemory>
         ensures { IfOk result (λ path. path ≡ self ++ hop_content hop.now ∷ []) }
     {
@@ -133,7 +133,7 @@ impl FlatPath {
     }
 }
 
-/// A text after the bytes.
+/// Puts a text after the bytes, and returns its span.
 fn put_span(bytes: &mut Vec<u8>, text: &[u8]) -> Result<Span, OutOfMemory>
     // The text is after the bytes that were there, and the span is that of it.
     ensures { IfOk result (λ span. PutsSpan bytes.old.items bytes.new.items text.now span) }

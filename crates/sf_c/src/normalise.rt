@@ -46,9 +46,10 @@ pub extern "C" fn sf_normalise(
     normalise(alloc, seed, dialect, kind, text, buffer, required, refusal).code()
 }
 
-/// Whether the two texts spell equal values (RFC 9651 section 2; order counts). Returns `Answered`
-/// and sets `equal` to 1 or 0; `Refused` if the first spells no value and `SecondRefused` if the
-/// second doesn't, with the refusal in `refusal`; `OutOfMemory`; or `BadCall`.
+/// Whether the two texts spell equal values (RFC 9651 sections 3 and 4.2). The order of members,
+/// items and parameters counts. Returns `Answered` and sets `equal_out` to 1 or 0; `Refused` if the
+/// first spells no value, or `SecondRefused` if only the second doesn't, with the refusal in
+/// `refusal`; `OutOfMemory`; or `BadCall`.
 #[unsafe(no_mangle)]
 pub extern "C" fn sf_equal(
     alloc: Global,

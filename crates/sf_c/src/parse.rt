@@ -165,7 +165,7 @@ fn parse_counted(
 }
 
 /// How many nodes and bytes the value of the text has; `None` claims nothing. It allocates only if
-/// a key is repeated, or there are many.
+/// a key is repeated, or if there are many keys.
 fn counts_of(
     alloc: Global,
     seed: &Seed,

@@ -20,7 +20,7 @@ use sf_use::{Asked, Urgency};
 use sf_value::Dialect;
 use sf_view::{DictCursor, EntryView};
 
-/// The longest text that is read: a longer one has other members, or many spaces.
+/// The longest text that is read: a longer one most likely has other members.
 const LONGEST: usize = 16;
 
 /// The members `u` and `i` of a Priority field that has no others, without parameters.
@@ -48,6 +48,7 @@ impl PlainPriority {
         // The text spells the Dictionary of these members, and no other value.
         ensures { IfSome result (IsPlain text.now) }
     {
+        // The cursor does not return parameters, so a text that may have some is not read.
         if text.len() > LONGEST || text.contains(&b';') {
             return None;
         }
@@ -105,7 +106,8 @@ impl PlainPriority {
         })
     }
 
-    /// The members with what is set put at its key.
+    /// The members with what is set put at its key. A member that is new goes last, so `i` is
+    /// before `u` if it was there without `u`.
     pub(crate) fn changed(self, asked: Asked) -> PlainPriority
         ensures { dict_of_plain result ≡ updated asked (dict_of_plain self) }
     {

@@ -54,8 +54,8 @@ impl PriorityFlags {
         }
     }
 
-    /// Whether the struct has a value that it does not set, but for the default that reading a
-    /// field writes, or an urgency that is none.
+    /// Whether the struct has an urgency above 7, or a value other than 0 whose flag is 0. The
+    /// urgency 3 without its flag does not count: reading a field that sets none writes it.
     pub(crate) fn has_unset_value(&self) -> bool
         ensures { result ≡ is_unset self.now }
     {
@@ -65,9 +65,9 @@ impl PriorityFlags {
     }
 }
 
-/// The parameters in the text of the Priority field of a request (RFC 9218 section 5). Returns
-/// `Answered` and sets `priority`; `Refused` if the text spells no Dictionary, with the refusal in
-/// `refusal`; or `OutOfMemory`.
+/// The parameters in the text of the Priority field of a request (RFC 9218 section 5), by RFC 9651.
+/// Returns `Answered` and sets `priority`; `Refused` if the text spells no Dictionary, with the
+/// refusal in `refusal`; or `OutOfMemory`.
 #[unsafe(no_mangle)]
 pub extern "C" fn sf_priority(
     alloc: Global,

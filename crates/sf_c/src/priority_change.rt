@@ -28,12 +28,15 @@ use std::hash::RandomState;
 /// The most nodes that are kept on the stack: most Priority fields have two.
 const FEW_NODES: usize = 16;
 
-/// The canonical text of a Priority field (RFC 9218 section 4) with what the struct sets put into
-/// it: the members `u` and `i` are overwritten in place, or go last if the field has none, and all
-/// others stay. Returns `Answered` if the text is at the start of the buffer; `Short` if the buffer
-/// has fewer than `required` bytes; `Refused` if the text spells no Dictionary, with the refusal in
-/// `refusal`; `Invalid` if the struct has a value that it does not set, or an urgency above 7; or
-/// `OutOfMemory`. Does not allocate for a text of at most 16 nodes in which no key is repeated.
+/// The canonical text of a Priority field (RFC 9218 section 4), read by RFC 9651, with what the
+/// struct sets put into it: the members `u` and `i` are overwritten in place, or go last if the
+/// field has none, and all others stay. Returns `Answered` if the text is at the start of the
+/// buffer; `Short` if the buffer has fewer than `required` bytes; `Refused` if the text spells no
+/// Dictionary, with the refusal in `refusal`; `Invalid` as by [`sf_priority_text`], whatever the
+/// text is; or `OutOfMemory`. Does not allocate for a well-formed text of at most 16 nodes in which
+/// no key is repeated.
+///
+/// [`sf_priority_text`]: crate::sf_priority_text
 #[unsafe(no_mangle)]
 pub extern "C" fn sf_priority_change(
     alloc: Global,

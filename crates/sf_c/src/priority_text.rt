@@ -11,11 +11,11 @@ use crate::priority::PriorityFlags;
 use crate::status::Status;
 use sf_use::{Asked, Urgency};
 
-/// The text of a Priority field (RFC 9218 section 5) that sets what the struct sets, and nothing
-/// else: `u` if it sets an urgency, then `i` if it sets the flag, also to their defaults. Returns
-/// `Answered` if the buffer holds the text, `Short` if it is too small, or `Invalid` if the struct
-/// has a value that it does not set, or an urgency above 7. If the text is empty, the field is
-/// not to be sent. Does not allocate.
+/// The text of the Priority field of a request (RFC 9218 section 5) that sets what the struct sets,
+/// and nothing else: `u` if it sets an urgency, then `i` if it sets the flag, also to their
+/// defaults. Returns `Answered` if the buffer holds the text, `Short` if it is too small, or
+/// `Invalid` if the struct has an urgency above 7, or a value other than the default whose flag is
+/// 0. If the text is empty, the field is not to be sent. Does not allocate.
 #[unsafe(no_mangle)]
 pub extern "C" fn sf_priority_text(
     priority: &PriorityFlags,

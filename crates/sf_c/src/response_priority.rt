@@ -54,7 +54,7 @@ impl ResponsePriorityFlags {
         }
     }
 
-    /// Whether the struct has a value that it does not set, or an urgency that is none.
+    /// Whether the struct has an urgency above 7, or a value other than 0 whose flag is 0.
     fn has_unset_value(&self) -> bool
         ensures { result ≡ is_unset self.now }
     {
@@ -102,9 +102,9 @@ pub extern "C" fn sf_response_priority(
 /// The text of the Priority field of a response that sets what the struct sets, and nothing else:
 /// `u` if it sets an urgency, then `i` if it sets the flag, also to their defaults, since an absent
 /// parameter leaves what the client asked for (RFC 9218 section 8). Returns `Answered` if the
-/// buffer holds the text, `Short` if it is too small, or `Invalid` if the struct has a value that
-/// it does not set, or an urgency above 7. If the text is empty, the field is not to be sent. Does
-/// not allocate.
+/// buffer holds the text, `Short` if it is too small, or `Invalid` if the struct has an urgency
+/// above 7, or a value other than 0 whose flag is 0. If the text is empty, the field is not to be
+/// sent. Does not allocate.
 #[unsafe(no_mangle)]
 pub extern "C" fn sf_response_priority_text(
     priority: &ResponsePriorityFlags,

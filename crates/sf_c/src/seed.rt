@@ -30,8 +30,8 @@ impl RandomSource for Seed {
 }
 
 impl Seed {
-    /// The initial state of the hashes of keys. No clause says that it is never `None`, as it is,
-    /// since filling it can't fail.
+    /// The initial state of the hashes of keys. It is never `None`, since filling it can't fail,
+    /// but no clause says so.
     pub(crate) fn state(&self) -> Option<RandomState> {
         RandomState::new(self).ok()
     }

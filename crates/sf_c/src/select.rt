@@ -20,8 +20,8 @@ use std::alloc::Global;
 /// in order. The text of each is a span of `texts`, which is empty if the field is absent. Returns
 /// `Answered` and sets `index` and `policy` to those of the first field that is not ignored;
 /// `Empty` if each is ignored, since its text spells no Dictionary or one without members;
-/// `BadCall` if the span of the first field that is not ignored is not within `texts`; or
-/// `OutOfMemory`.
+/// `BadCall` if the span of a field is not within `texts`, and the fields before it are ignored; or
+/// `OutOfMemory`. The fields are read by RFC 9651.
 #[unsafe(no_mangle)]
 pub extern "C" fn sf_select(
     alloc: Global,

@@ -7,7 +7,8 @@ ghost use Rattle.sf_c.specs.Statuses.{status_at};
 pub enum Status {
     /// 0: success.
     Answered,
-    /// 1: the text spells no value; for a call that takes two texts, the first one.
+    /// 1: the text spells no value; for a call that takes two texts, the first one. Of
+    /// `Cache-Control`, a line is no list of directives.
     Refused,
     /// 2: the second text of a call that takes two spells no value.
     SecondRefused,
@@ -15,15 +16,17 @@ pub enum Status {
     Short,
     /// 4: an allocation failed.
     OutOfMemory,
-    /// 5: the field has no members; of the fields of a target list, each is ignored.
+    /// 5: the field has no members; of the fields of a target list, each is ignored; of `Expires`,
+    /// there is no line.
     Empty,
-    /// 6: there is no such kind or dialect, or a length or a span exceeds its buffer.
+    /// 6: there is no such kind, dialect, cache or field, or a length or a span exceeds its buffer.
     BadCall,
     /// 7: a member of a Cache-Status List names no cache.
     NotACache,
-    /// 8: the nodes or the hop to be written are not valid.
+    /// 8: the nodes, the hop or the priority to be written are not valid; of a decision, seconds
+    /// are passed whose flag is 0.
     Invalid,
-    /// 9: no node has the key.
+    /// 9: no node has the role and the key.
     Absent,
     /// 10: the text has 4 GiB or more, or an offset would have to be that large.
     TooLong,

@@ -73,10 +73,10 @@ impl From<UseFault> for AskFault {
 
 /// Returns what the lines mean to a consumer by RFC 9651: parses them as its kind, as
 /// [`crate::parse_from`] does, and passes the value to [`Consumer::answer`]. If lines may be asked
-/// for ahead ([`crate::AskingCost`]), one line, or at most 16 whose joined text has at most 1 KiB,
-/// are first passed to [`Consumer::answer_text_in`] as one text. Accepted lines have the meaning of
-/// their canonical text as one line. Out of memory for the answer is returned only if the value has
-/// an answer.
+/// for ahead ([`crate::AskingCost`]), a text is first passed to [`Consumer::answer_text_in`]: that
+/// of a single line or of none, or the joined text of at most 16 lines, if it has at most 1 KiB and
+/// none of them but the first is empty. Accepted lines have the meaning of their canonical text as
+/// one line. Out of memory for the answer is returned only if the value has an answer.
 ///
 /// ```
 /// let values = headers.get_all(&name).iter();
@@ -215,7 +215,8 @@ fn ask_parsed<C: Consumer>(
 }
 
 /// Returns what two lines and those that remain mean. They are joined on the stack if they are few
-/// and short; otherwise what was joined and the lines after it are parsed one by one.
+/// and short; otherwise what was joined and the lines after it are parsed one by one. It is not
+/// inlined, so that a single line doesn't pay for the buffer.
 #[inline(never)]
 fn ask_several<'a, C: Consumer, L: FieldLines<'a>>(
     alloc: Global,

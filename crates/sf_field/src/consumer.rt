@@ -17,7 +17,8 @@ use std::fmt;
 #[derive(Clone, Copy, Debug, PartialEq, Eq)]
 pub enum UseFault {
     /// A member of a Cache-Status List does not name a cache (RFC 9211 section 2): it is not an
-    /// Item of a String or a Token.
+    /// Item of a String or a Token. A custom consumer returns it for a value whose meaning is the
+    /// index of a member.
     NotACache {
         /// The index of the first such member, from 0.
         index: usize,

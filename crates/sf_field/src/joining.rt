@@ -21,7 +21,8 @@ pub(crate) struct Joined<'a> {
 const LINES: usize = 15;
 
 /// Joins two lines and those that remain, in the buffer, as far as they fit. It joins at most 16,
-/// and none after an empty one: unless that is within a String, the field is refused there.
+/// and stops before an empty one that is not the first: unless that is within a String or a Display
+/// String, the field is refused there.
 pub(crate) fn join_prefix<'a, L: FieldLines<'a>>(
     buffer: &mut [u8],
     first: &[u8],

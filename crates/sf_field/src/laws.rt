@@ -15,17 +15,20 @@ pub fn equal_by_text()
     ensures normal { NormalIsOne }
 {}
 
-/// A written value is read back. The canonical text of a valid value spells it and no other:
-/// parsing that text, or that text as the only line, returns the value, unless an allocation fails.
-/// Every field is valid, as [`sf_write::to_text`] ensures for its argument.
+/// A written value is read back. The canonical text of a valid value spells it and no other.
+/// Parsing that text returns the value, unless an allocation fails. So does parsing it as the only
+/// line, if it is shorter than 2^64 bytes. Every field is valid, as [`sf_write::to_text`] ensures
+/// for its argument.
 pub fn built_reads_back()
     ensures spells { BuiltSpells }
     ensures text { BuiltIsParsed }
     ensures line { BuiltLineIsParsed }
 {}
 
-/// A field that was set in a header map is read back from it: [`crate::from_headers`] returns the
-/// value that was passed to [`crate::set_field`], unless an allocation fails.
+/// A field that was set in a header map is read back from it, if its text is not empty and shorter
+/// than 2^64 bytes: [`crate::from_headers`] returns the value that was passed to
+/// [`crate::set_field`], unless an allocation fails. After a field with an empty text was set, the
+/// name is absent.
 pub fn set_is_read()
     ensures { SetIsRead }
 {}

@@ -33,13 +33,14 @@ const REFUSED: CacheRules = CacheRules {
 };
 
 impl CacheRules {
-    /// Reads the text of `Cache-Control`, a list of directives (RFC 9111 section 5.2). Names have no
-    /// case, an argument is a token or a quoted-string, empty elements of the list and directives
-    /// that are not known are skipped. A directive without a number is set if it is present. Two
-    /// values of `max-age`, or of `s-maxage`, that differ are invalid, and so is another argument
-    /// than a number of seconds (section 4.2.1); numbers from 2^31 on are 2^31 (section 1.2.2).
-    /// `None` for a text that is no list of directives, of which none is used: handle the response
-    /// as [`fallback_rules`] does then. Does not allocate.
+    /// Reads the text of `Cache-Control`, a list of directives (RFC 9111 section 5.2). Names have
+    /// no case, an argument is a token or a quoted-string, empty elements of the list and
+    /// directives that are not known are skipped. A directive that takes no number is set if it is
+    /// present. If `max-age` has no argument, or another one than a number of seconds, or two
+    /// values that differ, it is invalid (section 4.2.1), and so is `s-maxage`; numbers from 2^31
+    /// on are 2^31 (section 1.2.2). `None` if the text is no list of directives; then none of them
+    /// counts, and the rules are best those of `no-store`, as by [`fallback_rules`]. Does not
+    /// allocate.
     ///
     /// ```
     /// CacheRules::of_cache_control(b"No-Store, Max-Age=0,,") // no_store, and max_age of 0
@@ -55,7 +56,8 @@ impl CacheRules {
 
     /// Reads the field lines of `Cache-Control`, which are one list (RFC 9110 section 5.3), as
     /// [`CacheRules::of_cache_control`] reads one. `None` if a line is no list of directives, also
-    /// if a quoted-string goes on in the next line. No line has no directives. Does not allocate.
+    /// if a quoted-string goes on in the next line. Without a line there are no directives. Does
+    /// not allocate.
     ///
     /// ```
     /// let lines: [&[u8]; 2] = [b"max-age=60", b"private"];
@@ -75,9 +77,9 @@ impl CacheRules {
     }
 
     /// Returns the rules of the lines of `Cache-Control` that these are of, and of one more line
-    /// after them: what [`CacheRules::of_cache_control_lines`] reads if lines come one by one. The
-    /// default has the rules of no line. `None` if the line is no list of directives; no line after
-    /// it counts then. Does not allocate.
+    /// after them: what [`CacheRules::of_cache_control_lines`] reads if lines come one by one.
+    /// Begin with the default, which has no directives. `None` if the line is no list of
+    /// directives: the field is then refused, whatever lines come after it. Does not allocate.
     ///
     /// ```
     /// let one = CacheRules::default().with_cache_control(b"max-age=60")?;
@@ -124,7 +126,8 @@ enum Delta {
 }
 
 impl Delta {
-    /// Returns what they are with one more byte.
+    /// Returns what they are with one more byte. A number that reaches 2^31 stays 2^31, whatever
+    /// digits come after it.
     fn with(self, byte: u8) -> Delta
         ensures { result ≡ with_byte self byte }
     {
@@ -305,7 +308,8 @@ fn is(name: &[u8], directive: &[u8]) -> bool
     name.eq_ignore_ascii_case(directive)
 }
 
-/// Returns the seconds of a directive after one more of its name: several values are none.
+/// Returns the seconds of a directive after one more of its name: none, if one of the two is
+/// invalid or if they differ.
 fn one_more(was: Option<u64>, was_invalid: bool, next: Option<u64>) -> Option<u64>
     ensures { result ≡ one_value_more was was_invalid next }
 {

@@ -28,16 +28,18 @@ pub enum CacheKind {
 pub struct CacheRules {
     /// The directives of a policy.
     pub policy: Policy,
-    /// `max-age` is present, but is not a number of seconds, or has several values: the response
-    /// is stale (RFC 9111 section 4.2.1).
+    /// `max-age` is present, but is not a number of seconds, or has values that differ: the
+    /// response is stale (RFC 9111 section 4.2.1), unless it has an `s-maxage` in a shared cache,
+    /// which counts instead. If this is set, the `max_age` of the policy has no effect.
     pub invalid_max_age: bool,
-    /// `s-maxage` is present, but is not a number of seconds, or has several values: in a shared
-    /// cache the response is stale (RFC 9111 section 4.2.1).
+    /// `s-maxage` is present, but is not a number of seconds, or has values that differ: in a
+    /// shared cache the response is stale (RFC 9111 section 4.2.1). If this is set, the `s_maxage`
+    /// of the policy has no effect.
     pub invalid_s_maxage: bool,
     /// `proxy-revalidate`: a shared cache doesn't use a stale response before it is validated.
     pub proxy_revalidate: bool,
     /// `must-understand`: only a cache that understands the status code stores the response, and
-    /// it ignores `no-store`.
+    /// it ignores `no-store`. Such a cache decides by [`CacheRules::understood`].
     pub must_understand: bool,
     /// `public`: the response may be stored, even if nothing else permits it.
     pub is_public: bool,
@@ -72,7 +74,8 @@ pub enum Cause {
     ProxyRevalidate,
 }
 
-/// A freshness lifetime (RFC 9111 section 4.2.1), with the directive that sets it.
+/// A freshness lifetime (RFC 9111 section 4.2.1), with the directive that sets it, or
+/// [`Cause::Expires`] if it is the caller's.
 #[derive(Clone, Copy, Debug, PartialEq, Eq)]
 pub enum Lifetime {
     /// A number of seconds.
@@ -87,7 +90,7 @@ pub enum Lifetime {
         /// The directive.
         by: Cause,
     },
-    /// No directive sets a lifetime.
+    /// No directive sets a lifetime, and the caller gave none.
     Unspecified,
 }
 
@@ -124,7 +127,9 @@ pub struct Decision {
 
 impl CacheRules {
     /// Returns what a cache decides about a response of this age, in seconds. If no directive sets
-    /// a lifetime, the result is `Unspecified` unless another directive decides. Does not allocate.
+    /// a lifetime, the result is `Unspecified` unless another directive decides. With
+    /// `must-understand` the response is not stored: a cache that understands its status code calls
+    /// [`CacheRules::understood`] first. Does not allocate.
     ///
     /// ```
     /// // max-age=60, must-revalidate
@@ -278,7 +283,8 @@ impl CacheRules {
         self.invalid_s_maxage || self.policy.s_maxage.is_some()
     }
 
-    /// Returns the directive for which the response is not stored.
+    /// Returns the directive for which the response is not stored; the first in this order, if
+    /// there are several.
     fn refusal(&self, cache: CacheKind) -> Option<Cause>
         ensures { result ≡ refusal_of self.now cache }
     {

@@ -88,8 +88,10 @@ fn made_at(date: Option<&[u8]>, received: u64) -> u64
     http_time(date).unwrap_or(received)
 }
 
-/// Returns the seconds since 1970 that an HTTP-date shows (RFC 9110 section 5.6.7); `None` for
-/// another text. Does not allocate.
+/// Returns the seconds since 1970 that an HTTP-date shows (RFC 9110 section 5.6.7), in one of its
+/// three formats; `None` for another text. An HTTP-date is read only from 1970 on, with letters in
+/// the case of the RFC, the right day of the week and a second below 60. A year of two digits is
+/// one from 1970 to 2069. Does not allocate.
 ///
 /// ```
 /// http_time(b"Sun, 06 Nov 1994 08:49:37 GMT") // 784111777

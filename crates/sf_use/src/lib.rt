@@ -1,14 +1,15 @@
-//! What structured fields mean to caches and servers: the path of a response through caches
-//! ([`cache_status`], RFC 9211), the field that a cache obeys ([`targeted`], RFC 9213), what the
-//! cache decides by it ([`caching`], RFC 9111), and the priority of a response ([`priority`], RFC
-//! 9218).
+//! What fields mean to caches and servers: the path of a response through caches
+//! ([`cache_status`], RFC 9211), the field that a cache obeys ([`targeted`] and [`targeted_rules`],
+//! RFC 9213), what the cache decides by it ([`caching`], RFC 9111), and the priority of a response
+//! ([`priority`], RFC 9218). If no targeted field decides, [`cache_control`] and [`expires`] read
+//! `Cache-Control`, `Expires` and `Date`, which are no structured fields.
 //!
 //! [`CacheStatus`], [`Directives`], [`TargetedRules`], [`PriorityField`] and
 //! [`ResponsePriorityField`] are consumers ([`sf_field::Consumer`]) for [`sf_field::ask`], whose
-//! answer is the same for every spelling of a value. [`select`] finds the
-//! field of a target list that a cache obeys, and its [`Policy`]; [`select_rules`] finds its
-//! [`CacheRules`], which decide how a response is stored and used. [`merge`] merges the priorities
-//! of a client and a server; the defaults are filled in afterwards.
+//! answer is the same for every spelling of a value. [`select`] finds the field of a target list
+//! that a cache obeys, and its [`Policy`]; [`select_rules`] finds its [`CacheRules`], which decide
+//! how a response is stored and used. [`merge`] merges the priorities of a client and a server; the
+//! defaults are filled in afterwards, by [`Asked::with_defaults`].
 //!
 //! Contracts state that each answer is the meaning of the field, which `specs/` defines in the
 //! terms of the RFC.

@@ -264,7 +264,8 @@ pub fn merge(client: Asked, server: Asked) -> Asked
 
 /// Returns the Dictionary of a priority: `u` if the urgency is not 3, then `i` if it is incremental
 /// (RFC 9218 section 4). For the default priority it has no members, so the field is not sent, and
-/// the call does not allocate. Fails only if an allocation fails.
+/// the call does not allocate. This is the field of a request. In a response an absent parameter is
+/// not a default: use [`crate::response_priority_field`] there. Fails only if an allocation fails.
 ///
 /// ```
 /// let dict = priority_field(alloc, &seed, priority)?;

@@ -140,8 +140,11 @@ impl Policy {
 
     /// Returns the freshness lifetime of the response in a shared or a private cache, in seconds,
     /// or `None` if the field doesn't set it. In a shared cache `s-maxage` takes precedence over
-    /// `max-age` (RFC 9111 section 4.2.1); in a private cache only `max-age` counts. Does not
-    /// allocate.
+    /// `max-age` (RFC 9111 section 4.2.1); in a private cache only `max-age` counts. A directive
+    /// whose value can't be used counts as absent here, unlike for [`CacheRules::lifetime`]. Does
+    /// not allocate.
+    ///
+    /// [`CacheRules::lifetime`]: crate::CacheRules::lifetime
     ///
     /// ```
     /// // s-maxage=5

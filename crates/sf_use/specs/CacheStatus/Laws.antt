@@ -1,4 +1,4 @@
--- What is written is read back. The law is the contract of a function in `src/laws.rt`.
+-- What is written is read back. Each law is the contract of a function in `src/laws.rt`.
 use Rattle.std.specs.Prelude.{◌≡◌, ℕ, List as Seq, [], ◌∷◌, ◌++◌, Result, Ok, Err}
 use Rattle.std.specs.Option.{option_and_then, ForSome}
 use Rattle.sf_value.specs.declared.value.Member.{Member}

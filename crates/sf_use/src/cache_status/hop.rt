@@ -30,7 +30,8 @@ pub enum Forward {
     UriMiss,
     /// `vary-miss`: a stored response matched the URI, but none matched the request's headers.
     VaryMiss,
-    /// `miss`: no stored response could be used, for one of these two reasons or both.
+    /// `miss`: no stored response could be used, and the cache can't say whether it is a `uri-miss`
+    /// or a `vary-miss`.
     Miss,
     /// `request`: a fresh response was stored, but the request did not allow its use.
     Request,
@@ -47,11 +48,14 @@ pub enum Forward {
 pub struct Passed {
     /// The reason: `fwd` (RFC 9211 section 2.2).
     pub why: Forward,
-    /// The status code of the next hop's response: `fwd-status` (section 2.3).
+    /// The status code of the next hop's response: `fwd-status` (section 2.3). If it is absent, it
+    /// defaults to the status code of the response itself.
     pub status: Option<HopStatus>,
     /// Whether the cache stored the response: `stored` (section 2.5).
     pub stored: Option<bool>,
-    /// Whether the request was collapsed with others: `collapsed` (section 2.6).
+    /// Whether the request was collapsed with others: `collapsed` (section 2.6). If it is false,
+    /// the cache tried, but had to make a new request; if it is absent, the request was not
+    /// collapsed.
     pub collapsed: Option<bool>,
 }
 
@@ -150,21 +154,23 @@ impl Outcome {
         }
     }
 
-    /// Returns the status code of the next hop's response, if present. Does not allocate.
+    /// Returns the status code of the next hop's response, if `fwd-status` is present. Does not
+    /// allocate.
     pub fn status(&self) -> Option<HopStatus>
         ensures { result ≡ option_and_then (λ p. p.status) (passed_by self.now) }
     {
         self.passed()?.status
     }
 
-    /// Returns whether the response was stored, if present. Does not allocate.
+    /// Returns whether the response was stored, if `stored` is present. Does not allocate.
     pub fn stored(&self) -> Option<bool>
         ensures { result ≡ option_and_then (λ p. p.stored) (passed_by self.now) }
     {
         self.passed()?.stored
     }
 
-    /// Returns whether the request was collapsed with others, if present. Does not allocate.
+    /// Returns whether the request was collapsed with others, if `collapsed` is present. Does not
+    /// allocate.
     pub fn collapsed(&self) -> Option<bool>
         ensures { result ≡ option_and_then (λ p. p.collapsed) (passed_by self.now) }
     {

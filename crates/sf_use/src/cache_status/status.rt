@@ -47,8 +47,8 @@ impl HopStatus {
         }
     }
 
-    /// Returns whether the code is a valid one, from 100 to 599: RFC 9110 section 15 calls the
-    /// others of three digits invalid, of which caches read some. Does not allocate.
+    /// Returns whether the code is a valid one, from 100 to 599. RFC 9110 section 15 calls others
+    /// invalid; those from 600 to 999 are often used within a program. Does not allocate.
     ///
     /// ```
     /// HopStatus::new(600)?.is_valid() // false
