@@ -115,29 +115,6 @@ impl ShortBytes {
     {
         self.bytes.is_empty()
     }
-
-    /// The bytes of a vector, whose memory is kept if its capacity is more than 16. It does not
-    /// allocate.
-    pub(crate) fn from_vec(bytes: Vec<u8>) -> ShortBytes
-        ensures { result ≡ bytes.items }
-    {
-        ShortBytes {
-            bytes: SmallVec::from_vec(bytes),
-        }
-    }
-
-    /// The bytes as a vector, or unchanged if an allocation fails.
-    pub(crate) fn into_vec(self) -> Result<Vec<u8>, ShortBytes>
-        ensures { MatchResult result (λ v. v.items ≡ self) (λ b. b ≡ self) }
-    {
-        let ShortBytes { bytes } = self;
-        match bytes.into_vec() {
-            Ok(bytes) => Ok(bytes),
-            Err(refused) => Err(ShortBytes {
-                bytes: refused.value,
-            }),
-        }
-    }
 }
 
 // Written out, so that proofs about types that contain such bytes don't unfold them at a drop.
