@@ -3,16 +3,17 @@
  * join the lines of a field, and interpret three kinds of fields: Priority (RFC 9218), the targeted
  * cache control fields (RFC 9213) and Cache-Status (RFC 9211). In this order:
  *
- *   Texts and buffers         sf_text, sf_context, sf_buffer, and what all calls have in common
+ *   Texts and buffers         sf_text, sf_context, sf_random_seed, sf_buffer, and what all calls
+ *                             have in common
  *   The lines of a field      sf_add_line, sf_joined_text
  *   Malformed fields          sf_check_text, sf_write_refusal, sf_show_excerpt_of_line
  *   Canonical texts           sf_write_canonical, sf_equal_texts
- *   Values that are read      sf_read_tree, sf_find_member, sf_set_number, sf_write_tree
+ *   Values that are read      sf_read_tree, sf_find_member_of, sf_set_number, sf_write_tree
  *   Values that are built     sf_build, sf_put_string and the like, sf_put_copy, sf_write_built
  *   Priority                  sf_read_priority, sf_merge_priority, sf_write_priority
- *   Cache-Status              sf_read_hops, sf_append_or_write_hop
- *   Heads of messages         sf_take_head, sf_find_field, sf_locate_in_head
- *   The fields of a head      sf_find_priority, sf_find_hops, sf_add_hop, sf_show_fault
+ *   Cache-Status              sf_read_hops, sf_write_hop_in, sf_append_or_write_hop
+ *   Heads of messages         sf_head_in_memory, sf_take_head, sf_find_field, sf_locate_in_head
+ *   The fields of a head      sf_find_priority, sf_find_hops, sf_add_hop, sf_show_fault_in
  *   What a cache decides      sf_decide_response; its parts, such as sf_choose_rules
  *
  * All of them are inline functions, which are tested, over those of the library, which are proved.
@@ -56,6 +57,15 @@
 #include <stddef.h>
 #include <stdint.h>
 #include <string.h>
+
+/* Defined if the system has the getrandom of sf_random_seed. */
+#if defined(__has_include)
+#if __has_include(<sys/random.h>) && !defined(__APPLE__)
+#include <errno.h>
+#include <sys/random.h>
+#define SF_HAS_RANDOM_SEED 1
+#endif
+#endif
 
 #if SIZE_MAX < UINT64_MAX
 #error "libsf.a is for machines where a size_t has 64 bits"
@@ -176,13 +186,31 @@ static inline sf_text sf_trim(const void *text, size_t length);
 #define SF_ARGS(text) ((int)(text).length), ((text).at)
 
 /*
- * A seed for the hashes of keys. Fill it from a source that attackers can't predict, such as
- * getrandom, once per program or per call: attackers choose the keys, and if they can predict the
- * hashes, a long Dictionary takes quadratic time. No result depends on the seed.
+ * A seed for the hashes of keys. Fill it by sf_random_seed, or from another source that attackers
+ * can't predict, once per program or per call: attackers choose the keys, and if they can predict
+ * the hashes, a long Dictionary takes quadratic time. No result depends on the seed.
  */
 typedef struct sf_seed {
   uint8_t bytes[SF_SEED_SIZE];
 } sf_seed;
+
+/*
+ * Fills a seed with random bytes of the system, by getrandom. Early in the start of the system, it
+ * waits until there are such bytes.
+ *
+ *   sf_seed seed;
+ *   if (!sf_random_seed(&seed))
+ *     return EXIT_FAILURE;
+ *
+ * Returns 1 if the seed is filled. Returns 0 if the system gives no random bytes: errno says why,
+ * and the seed is unchanged. The result is not an sf_status. The call is declared only if
+ * SF_HAS_RANDOM_SEED is defined: on systems with getrandom in <sys/random.h>, by a compiler with
+ * __has_include.
+ */
+#if defined(SF_HAS_RANDOM_SEED)
+SF_USE_RESULT
+static inline int sf_random_seed(sf_seed *seed);
+#endif
 
 /* Where and why a text is refused (RFC 9651 section 4.2). */
 typedef struct sf_refusal {
@@ -528,9 +556,9 @@ static inline sf_tree sf_tree_in(sf_nodes nodes, sf_buffer bytes);
  *   sf_tree tree = sf_tree_in(SF_NODES(nodes), SF_BUFFER(bytes));
  *   if (sf_read_tree(&context, SF_DICT, sf_cstr("a=1, sig=:YQ==:;created=7, b"), &tree) != SF_OK)
  *     return EXIT_FAILURE;
- *   const sf_node *sig = sf_find_member(&tree, "sig");
- *   const sf_node *created = sig == NULL ? NULL : sf_find_parameter(&tree, sig, "created");
- *   if (created != NULL && created->type == SF_INTEGER)
+ *   const sf_node *sig = sf_find_member_of(&tree, "sig", SF_BYTE_SEQUENCE);
+ *   const sf_node *created = sf_find_parameter_of(&tree, sig, "created", SF_INTEGER);
+ *   if (created != NULL)
  *     printf("%d\n", (int)created->number); // 7
  *
  *   SF_OK         the tree is the value
@@ -574,9 +602,15 @@ static inline const sf_node *sf_next_item(const sf_node *list, const sf_node *it
 static inline sf_node *sf_find_member(const sf_tree *tree, const char *key);
 
 /* Returns the parameter of an Item or an Inner List that has this key (RFC 9651 section 3.1.2), or
- * NULL. The node is one of the tree; the key ends with a NUL. */
+ * NULL. The node is one of the tree, or NULL, which has no parameters; the key ends with a NUL. */
 static inline sf_node *sf_find_parameter(const sf_tree *tree, const sf_node *node,
                                          const char *key);
+
+/* Return the same member and the same parameter, but NULL also if it is of another type than this:
+ * SF_INNER_LIST, or the type of its bare item. */
+static inline sf_node *sf_find_member_of(const sf_tree *tree, const char *key, sf_type type);
+static inline sf_node *sf_find_parameter_of(const sf_tree *tree, const sf_node *node,
+                                            const char *key, sf_type type);
 
 /*
  * Changes the bare item of a node of a tree to an Integer, Decimal, Boolean or Date with this
@@ -1071,6 +1105,26 @@ SF_USE_RESULT
 static inline sf_status sf_write_hop(sf_context *context, const sf_own_hop *own, sf_buffer *out);
 
 /*
+ * Writes a hop of a list that sf_read_hops read, as the canonical text of its member, for messages:
+ * edge;hit;ttl=30. What sf_hop does not have is left out: parameters that the RFC does not define,
+ * and those that count as absent. A buffer of SF_HOP_SIZE(list->bytes.length) bytes is always large
+ * enough. The results are those of sf_write_hop.
+ *
+ *   sf_hop hops[8];
+ *   char bytes[64], text[SF_HOP_SIZE(64)];
+ *   sf_buffer out = SF_BUFFER(text);
+ *   sf_hop_list list = sf_hop_list_in(SF_HOPS(hops), SF_BUFFER(bytes));
+ *   if (sf_read_hops(&context, sf_cstr("origin; fwd=miss, edge; x; ttl=30; hit"), &list) != SF_OK)
+ *     return EXIT_FAILURE;
+ *   for (size_t i = 0; i < list.hops.length; ++i)
+ *     if (sf_write_hop_in(&list, &hops[i], &out) == SF_OK)
+ *       printf("%.*s\n", SF_ARGS(out)); // origin;fwd=miss
+ *       // edge;hit;ttl=30
+ */
+SF_USE_RESULT
+static inline sf_status sf_write_hop_in(const sf_hop_list *list, const sf_hop *hop, sf_buffer *out);
+
+/*
  * Writes the Cache-Status field that was received with this hop as its last member (RFC 9211
  * section 2), by sf_cache_status_append. The text is that of the lines that were received, joined,
  * or empty; what is written is sent in their place. A buffer of SF_APPENDED_SIZE(text.length,
@@ -1153,17 +1207,21 @@ typedef enum sf_reason {
                                5.1) */
   SF_FAULT_NOT_A_LINE = 95, /* the line is no field line: location.refusal says where and why; see
                                sf_add_head_line */
-  SF_FAULT_NO_END = 96      /* the head does not end with an empty line: see sf_take_head */
+  SF_FAULT_NO_END = 96,     /* the head does not end with an empty line: see sf_take_head */
+  SF_FAULT_NOT_A_START = 97 /* the first line is neither a start line nor a field line: the refusal
+                               is that of SF_FAULT_NOT_A_LINE */
 } sf_reason;
 
 /* A line or a field of a head that is malformed. */
 typedef struct sf_fault {
-  const char *field;    /* the name by which the field was looked up; "" for SF_FAULT_NOT_A_LINE and
-                           SF_FAULT_NO_END */
+  const char *field;    /* the name by which the field was looked up; "" for SF_FAULT_NOT_A_LINE,
+                           SF_FAULT_NOT_A_START and SF_FAULT_NO_END */
   uint32_t reason;      /* an sf_reason */
-  sf_location location; /* the line as it was received, and the place in it. Unless the reason is
-                           SF_FAULT_REFUSED or SF_FAULT_NOT_A_LINE, that is where the value begins,
-                           and the refusal says no more; for SF_FAULT_NO_END the line is empty */
+  sf_location location; /* the line as it was received, and the place in it. For the reasons of
+                           Expires and Date, that is where the value begins; for that of Age, the
+                           first byte of the first member that is no digit or, if the member is
+                           empty, its end; of these three the refusal says no more. For
+                           SF_FAULT_NO_END the line is empty */
 } sf_fault;
 
 /* A buffer for faults. A head has at most one for each line that is no field line, two for each of
@@ -1191,14 +1249,45 @@ typedef struct sf_head {
   uint32_t is_incomplete; /* 1 if a line was refused, otherwise 0. It may have had a directive, so
                              sf_decide_response does not permit to store the response */
   uint32_t is_truncated;  /* 1 from SF_EMPTY of sf_take_head until SF_OK, otherwise 0; likewise */
-  sf_faults faults;       /* what was found to be malformed, if the caller sets a buffer for it:
-                             head.faults = SF_FAULTS(array); */
+  sf_faults faults;       /* what was found to be malformed, if there is a buffer for it: that of
+                             sf_head_in_memory, or head.faults = SF_FAULTS(array); */
 } sf_head;
 
 /* Returns a head without lines, with these buffers, which must be valid as long as it is used. A
  * second buffer of as many bytes as the head has is always large enough if no field is looked up
  * again after sf_find_field or sf_find_tree looked it up: only they keep what they join. */
 static inline sf_head sf_head_in(sf_head_lines lines, sf_buffer joined);
+
+/*
+ * Returns the size in bytes of the memory that sf_head_in_memory requires for the head that this
+ * text begins with: at most 70 times the length of that head, and 150. What comes after the empty
+ * line that ends the head does not count.
+ */
+static inline size_t sf_head_memory_size(sf_text received);
+
+/*
+ * Returns a head without lines whose buffers, for its lines, for the fields of several lines and
+ * for faults, are parts of the caller's memory, which is aligned as that of malloc, and must be
+ * valid as long as the head is used. It begins at head.lines.at, so it is freed by one call:
+ *
+ *   sf_text rest = sf_cstr("GET / HTTP/1.1\r\nPriority: u=5\r\nPriority: i\r\n\r\n");
+ *   size_t size = sf_head_memory_size(rest);
+ *   sf_head head = sf_head_in_memory(malloc(size), size, rest);
+ *   if (sf_take_head(&head, &rest) != SF_OK)
+ *     return EXIT_FAILURE;
+ *   printf("%d lines\n", (int)head.lines.length); // 2 lines
+ *   free(head.lines.at);
+ *
+ * The memory is enough for the lines that sf_take_head takes from this text, up to the end of one
+ * head. Then no call returns SF_SHORT because head.joined is too small if sf_find_field and
+ * sf_find_tree look up each field at most once: they keep what they join. The other calls may look
+ * up any field as often as they like. And no fault is lost if each field is looked up by one name,
+ * always spelled the same, and read as one kind in one dialect.
+ *
+ * If memory is NULL or not aligned, or size is less than sf_head_memory_size(received), the buffers
+ * are empty: the first field line is SF_SHORT, and faults are only counted.
+ */
+static inline sf_head sf_head_in_memory(void *memory, size_t size, sf_text received);
 
 /*
  * Returns the first line of a text, with its LF if it has one, and takes it off the text. The empty
@@ -1218,12 +1307,13 @@ static inline sf_text sf_take_line(sf_text *rest);
  *   SF_OK       the line is added; or it is the first one, and a status line or a request line
  *               (sections 3 and 4), which sets head->status or head->is_request
  *   SF_EMPTY    it is empty: the head ends, unless it has not begun
- *   SF_REFUSED  it is no field line: it has no colon, or before it no name (RFC 9110 section 5.1);
- *               it has a CR, LF or NUL within (section 5.5); it begins with white space, as one
- *               does that continues the line before (RFC 9112 section 5.2); or, in a request, there
- *               is white space before the colon (section 5.1), which is skipped otherwise. A
- *               cache that skips such a line may miss a directive: head->is_incomplete is 1, and
- *               head->faults has the line, and where and why. No context->refusal is written
+ *   SF_REFUSED  it is no field line nor, as the first one, a start line: it has no colon, or before
+ *               it no name (RFC 9110 section 5.1); it has a CR, LF or NUL within (section 5.5); it
+ *               begins with white space, as one does that continues the line before (RFC 9112
+ *               section 5.2); or, in a request, there is white space before the colon (section
+ *               5.1), which is skipped otherwise. A cache that skips such a line may miss a
+ *               directive: head->is_incomplete is 1, and head->faults has the line, and where and
+ *               why. No context->refusal is written
  *   SF_SHORT    head->lines.required lines are required
  *
  * Unless SF_SHORT is returned, the line counts: head->number is one greater.
@@ -1324,8 +1414,7 @@ static inline sf_location sf_locate_in_head(const sf_refusal *refusal, const sf_
  *   for (size_t i = 0; i < head.faults.length; ++i)
  *     if (sf_show_fault(&faults[i], 40, &out) == SF_OK)
  *       printf("%.*s\n", SF_ARGS(out));
- *       // Priority: byte 0x32 '2' at place 13, expected `0` or `1`
- *       // line 3, place 13:
+ *       // line 3, place 13: Priority: byte 0x32 '2', expected `0` or `1`
  *       // priority: i=?2
  *       //              ^
  *
@@ -1412,21 +1501,46 @@ static inline sf_status sf_check_field(sf_context *context, sf_kind kind, sf_hea
  * sf_find_field. Returns nothing. */
 static inline void sf_note_refusal(sf_head *head, const char *name, const sf_refusal *refusal);
 
-/* The size in bytes of a buffer that is large enough for each message of sf_show_fault of a field
+/* The sizes in bytes of buffers that are large enough for each message of sf_show_fault of a field
  * whose name has this length, such as that of the longest name, with this number of bytes of the
- * line at most. */
+ * line at most; and of sf_show_fault_in, if the name of the file has so many bytes. */
 #define SF_FAULT_SIZE(name_length, most)                                                           \
   (SF_REFUSAL_EXCERPT_SIZE(most) + sizeof(char) * (name_length))
+#define SF_FAULT_IN_SIZE(file_length, name_length, most)                                           \
+  (SF_FAULT_SIZE(name_length, most) + sizeof(char) * (file_length))
 
 /*
- * Writes the error message of a fault: the name of the field, what is wrong, the number of the line
- * and the place in it, from 0, and at most so many bytes of the line around the place, as
- * sf_show_excerpt_of_line does; bytes that can't be printed are question marks. A buffer of
- * SF_FAULT_SIZE(strlen(fault->field), most) bytes is always large enough. The results are those of
- * sf_write_refusal.
+ * Writes the error message of a fault: the number of the line and the place in it, from 0; the name
+ * of the field, if it is about one; what is wrong; and, as sf_show_excerpt does, at most so many
+ * bytes of the line around the place. Bytes of the line that can't be printed are question marks. A
+ * buffer of SF_FAULT_SIZE(strlen(fault->field), most) bytes is always large enough. The results are
+ * those of sf_write_refusal.
  */
 SF_USE_RESULT
 static inline sf_status sf_show_fault(const sf_fault *fault, size_t most, sf_buffer *out);
+
+/*
+ * Writes the same message, and before it the name of the file that the head is from, which ends
+ * with a NUL. If it is NULL or empty, it is left out. Bytes of the name that can't be printed are
+ * question marks. A buffer of SF_FAULT_IN_SIZE(strlen(file), strlen(fault->field), most) bytes is
+ * always large enough.
+ *
+ *   char message[SF_FAULT_IN_SIZE(5, 0, 40)];
+ *   sf_buffer out = SF_BUFFER(message);
+ *   sf_head_line head_lines[2];
+ *   sf_fault faults[2];
+ *   sf_head head = sf_head_in(SF_HEAD_LINES(head_lines), sf_buffer_of(NULL, 0));
+ *   head.faults = SF_FAULTS(faults);
+ *   if (sf_add_head_line(&head, sf_cstr("Age 20")) == SF_REFUSED &&
+ *       sf_show_fault_in("a.txt", &faults[0], 40, &out) == SF_OK)
+ *     printf("%.*s\n", SF_ARGS(out));
+ *     // a.txt, line 1, place 4: neither a start line nor a field line: no colon after the name
+ *     // Age 20
+ *     //     ^
+ */
+SF_USE_RESULT
+static inline sf_status sf_show_fault_in(const char *file, const sf_fault *fault, size_t most,
+                                        sf_buffer *out);
 
 /* == What a cache decides (RFC 9111 and 9213). == */
 
@@ -1508,6 +1622,8 @@ typedef struct sf_exchange {
                              requirements, otherwise 0: counts for 206, 304 and must-understand.
                              Most caches understand 200; with 0, fewer responses are stored */
   uint32_t is_authorized; /* 1 if the request had Authorization, otherwise 0: see sf_set_request */
+  uint32_t is_request_incomplete; /* 1 if it may have had Authorization, since a line of its head is
+                                     no field line, or the head did not end; otherwise 0 */
   uint64_t requested;     /* when the request was sent */
   uint64_t received;      /* when the response was received */
   uint64_t now;           /* when the response would be used */
@@ -1517,8 +1633,8 @@ typedef struct sf_exchange {
  * be used now. Of its other members, which are 0, set what is known. */
 static inline sf_exchange sf_exchange_of(sf_cache cache, uint64_t now);
 
-/* Sets is_authorized of an exchange by the head of the request: to 1 if it has Authorization, or
- * may have had it, since a line of it is no field line or it did not end. Returns nothing. */
+/* Sets is_authorized and is_request_incomplete of an exchange by the head of the request. Returns
+ * nothing. */
 static inline void sf_set_request(sf_exchange *exchange, const sf_head *request);
 
 /* Why a response may not be stored (RFC 9111 section 3). */
@@ -1532,7 +1648,11 @@ typedef enum sf_obstacle {
                                  code is not heuristically cacheable (RFC 9110 section 15.1) */
   SF_BARRED_HEAD = 86,        /* a line of the head is no field line (sf_head.is_incomplete), or the
                                  head did not end (is_truncated) */
-  SF_BARRED_NO_RESPONSE = 87  /* the head is that of a request (is_request) */
+  SF_BARRED_NO_RESPONSE = 87, /* the head is that of a request (is_request) */
+  SF_BARRED_MALFORMED = 88,   /* no target decides, and a line of Cache-Control is malformed, so
+                                 that it counts as no-store */
+  SF_BARRED_REQUEST_HEAD = 89 /* the request may have had Authorization, as its head is incomplete,
+                                 the cache is shared, and no directive permits it (3.5) */
 } sf_obstacle;
 
 /* Returns an obstacle in words, such as "the status code forbids it"; "" for SF_NO_OBSTACLE and for
@@ -1610,12 +1730,12 @@ static inline sf_status sf_decide_response(sf_context *context, sf_head *head, s
 
 /* The size in bytes of a buffer that is large enough for each text of sf_write_verdict if the name
  * of the field has this length. */
-#define SF_VERDICT_SIZE(name_length) (sizeof(char) * (name_length) + 128)
+#define SF_VERDICT_SIZE(name_length) (sizeof(char) * (name_length) + 192)
 
 /*
  * Writes a verdict in words: the field, unless it is NULL; sf_reuse_name and, if fresh, seconds;
- * sf_cause_name, or "malformed" if is_refused is 1; and the obstacle if that is no directive. Such
- * as
+ * sf_cause_name, or "malformed" if is_refused is 1; and the obstacle, unless it is
+ * SF_BARRED_DIRECTIVE or SF_BARRED_MALFORMED. Such as
  *
  *   CDN-Cache-Control: fresh for 600 s (max-age); not stored: the head is incomplete
  *

@@ -211,6 +211,22 @@ static inline sf_text sf_cstr(const char *string) {
   return sf_text_of(string, string == NULL ? 0 : strlen(string));
 }
 
+#if defined(SF_HAS_RANDOM_SEED)
+static inline int sf_random_seed(sf_seed *seed) {
+  sf_seed filled;
+  size_t length = 0;
+  while (length < sizeof filled.bytes) {
+    ssize_t got = getrandom(filled.bytes + length, sizeof filled.bytes - length, 0);
+    if (got > 0)
+      length += (size_t)got;
+    else if (got == 0 || errno != EINTR)
+      return 0;
+  }
+  *seed = filled;
+  return 1;
+}
+#endif
+
 static inline sf_context sf_context_of(sf_seed seed, sf_dialect dialect) {
   sf_context context;
   memset(&context, 0, sizeof context);
@@ -308,44 +324,37 @@ static inline char *sf_put_text(char *to, sf_text text) {
   return to + text.length;
 }
 
-/* Writes the name of a field and a colon, unless it is empty; the error message of a refusal,
- * unless other words take its place; a text; and the lines of sf_show_excerpt. For the functions
- * below. */
+/* Replaces bytes that can't be printed by question marks: for the functions below. */
+static inline void sf_hide_bytes(char *at, size_t length) {
+  size_t i;
+  for (i = 0; i < length; ++i)
+    if (at[i] < ' ' || at[i] > '~')
+      at[i] = '?';
+}
+
+/* Writes these texts, then the lines of sf_show_excerpt: at most so many bytes of a line around a
+ * place, and a caret below it. For the functions below. */
 SF_USE_RESULT
-static inline sf_status sf_show_excerpt_below(sf_text field, const char *words,
-                                             const sf_refusal *refusal, sf_text place,
-                                             sf_text text, size_t most, sf_buffer *out) {
-  sf_text colon = sf_text_of(": ", field.length == 0 ? 0 : 2);
-  size_t at = refusal->offset < text.length ? (size_t)refusal->offset : text.length;
-  size_t from = at > most / 2 ? at - most / 2 : 0, length, message = 0, required, i;
-  uint32_t status = SF_SHORT;
-  char *to;
-  if (text.length - from < most)
-    from = text.length > most ? text.length - most : 0;
-  length = text.length - from < most ? text.length - from : most;
-  if (words != NULL)
-    message = strlen(words);
-  else
-    status = sf_refusal_text(refusal, NULL, 0, &message);
-  if (status != SF_SHORT)
-    return sf_wrote(out, status, 0);
-  required =
-      field.length + colon.length + message + place.length + length + (at - from) + 3;
+static inline sf_status sf_show_excerpt_below(const sf_text *parts, size_t parts_length,
+                                             uint64_t place, sf_text line, size_t most,
+                                             sf_buffer *out) {
+  size_t at = place < line.length ? (size_t)place : line.length;
+  size_t from = at > most / 2 ? at - most / 2 : 0, length, required, i;
+  char *to = out->at, *excerpt;
+  if (line.length - from < most)
+    from = line.length > most ? line.length - most : 0;
+  length = line.length - from < most ? line.length - from : most;
+  required = length + (at - from) + 3;
+  for (i = 0; i < parts_length; ++i)
+    required += parts[i].length;
   if (required > out->capacity)
     return sf_wrote(out, SF_SHORT, required);
-  to = sf_put_text(sf_put_text(out->at, field), colon);
-  if (words != NULL)
-    memcpy(to, words, message);
-  else
-    status = sf_refusal_text(refusal, to, message, &message);
-  if (words == NULL && status != SF_OK)
-    return sf_wrote(out, status, 0);
-  to = sf_put_text(to + message, place);
+  for (i = 0; i < parts_length; ++i)
+    to = sf_put_text(to, parts[i]);
   *to++ = '\n';
-  for (i = 0; i < length; ++i) {
-    char byte = text.at[from + i];
-    *to++ = byte >= ' ' && byte <= '~' ? byte : '?';
-  }
+  excerpt = to;
+  to = sf_put_text(to, sf_text_of(length == 0 ? "" : line.at + from, length));
+  sf_hide_bytes(excerpt, length);
   *to++ = '\n';
   memset(to, ' ', at - from);
   to[at - from] = '^';
@@ -354,11 +363,16 @@ static inline sf_status sf_show_excerpt_below(sf_text field, const char *words,
 
 static inline sf_status sf_show_excerpt(const sf_refusal *refusal, sf_text text, size_t most,
                                        sf_buffer *out) {
-  sf_text nothing = sf_text_of("", 0);
-  return sf_show_excerpt_below(nothing, NULL, refusal, nothing, text, most, out);
+  char message[SF_REFUSAL_SIZE];
+  sf_buffer words = SF_BUFFER(message);
+  sf_status status = sf_write_refusal(refusal, &words);
+  sf_text part = sf_written(&words);
+  if (status != SF_OK)
+    return sf_wrote(out, status, 0);
+  return sf_show_excerpt_below(&part, 1, refusal->offset, text, most, out);
 }
 
-/* Writes these bytes and a number, and returns the place after them: for the function below. */
+/* Writes these bytes and a number, and returns the place after them: for the functions below. */
 static inline char *sf_put_number(char *to, const char *before, uint64_t number) {
   size_t length = strlen(before);
   uint64_t unit = 1;
@@ -406,22 +420,20 @@ static inline sf_location sf_locate_in_lines(const sf_refusal *refusal, const sf
   return location;
 }
 
-/* Writes the message of sf_show_excerpt_of_line after the name of a field, and with other words
- * unless they are NULL: for the functions below. */
-SF_USE_RESULT
-static inline sf_status sf_show_place(sf_text field, const char *words,
-                                     const sf_location *location, size_t most, sf_buffer *out) {
-  char place[64], *end;
+static inline sf_status sf_show_excerpt_of_line(const sf_location *location, size_t most,
+                                               sf_buffer *out) {
+  char message[SF_REFUSAL_SIZE], place[64], *end;
+  sf_buffer words = SF_BUFFER(message);
+  sf_status status = sf_write_refusal(&location->refusal, &words);
+  sf_text parts[2];
+  if (status != SF_OK)
+    return sf_wrote(out, status, 0);
   end = sf_put_number(place, "\nline ", location->number);
   end = sf_put_number(end, ", place ", location->refusal.offset);
   *end++ = ':';
-  return sf_show_excerpt_below(field, words, &location->refusal,
-                               sf_text_of(place, (size_t)(end - place)), location->line, most, out);
-}
-
-static inline sf_status sf_show_excerpt_of_line(const sf_location *location, size_t most,
-                                               sf_buffer *out) {
-  return sf_show_place(sf_text_of("", 0), NULL, location, most, out);
+  parts[0] = sf_written(&words);
+  parts[1] = sf_text_of(place, (size_t)(end - place));
+  return sf_show_excerpt_below(parts, 2, location->refusal.offset, location->line, most, out);
 }
 
 static inline sf_status sf_write_canonical(sf_context *context, sf_kind kind, sf_text text,
@@ -512,11 +524,27 @@ static inline sf_node *sf_find_member(const sf_tree *tree, const char *key) {
   return sf_find_node(tree, 0, tree->nodes.length, SF_MEMBER, sf_cstr(key));
 }
 
+/* Returns a node, or NULL if it is of another type or NULL: for the functions below. */
+static inline sf_node *sf_of_type(sf_node *node, sf_type type) {
+  return node != NULL && node->type == (uint32_t)type ? node : NULL;
+}
+
+static inline sf_node *sf_find_member_of(const sf_tree *tree, const char *key, sf_type type) {
+  return sf_of_type(sf_find_member(tree, key), type);
+}
+
 static inline sf_node *sf_find_parameter(const sf_tree *tree, const sf_node *node,
                                          const char *key) {
+  if (node == NULL)
+    return NULL;
   return sf_find_node(tree, (size_t)(node - tree->nodes.at), node->size,
                       node->type == SF_INNER_LIST ? SF_INNER_PARAMETER : SF_PARAMETER,
                       sf_cstr(key));
+}
+
+static inline sf_node *sf_find_parameter_of(const sf_tree *tree, const sf_node *node,
+                                            const char *key, sf_type type) {
+  return sf_of_type(sf_find_parameter(tree, node, key), type);
 }
 
 static inline void sf_set_number(sf_node *node, sf_type type, int64_t number) {
@@ -911,6 +939,17 @@ static inline sf_status sf_read_age(sf_text text, uint64_t *seconds) {
   return SF_OK;
 }
 
+/* Returns where the first member of a malformed Age has its first byte that is no digit: for the
+ * functions below. */
+static inline size_t sf_place_in_age(sf_text value) {
+  size_t at = 0;
+  while (at < value.length && (value.at[at] == ' ' || value.at[at] == '\t'))
+    ++at;
+  while (at < value.length && value.at[at] >= '0' && value.at[at] <= '9')
+    ++at;
+  return at;
+}
+
 static inline sf_hop_list sf_hop_list_in(sf_hops hops, sf_buffer bytes) {
   sf_hop_list list;
   list.hops = hops;
@@ -988,6 +1027,15 @@ static inline sf_status sf_write_hop(sf_context *context, const sf_own_hop *own,
   return sf_wrote(out, status, required);
 }
 
+static inline sf_status sf_write_hop_in(const sf_hop_list *list, const sf_hop *hop,
+                                       sf_buffer *out) {
+  static const sf_seed seed = {{0}}; /* a hop has few parameters, and no result depends on it */
+  size_t required = 0;
+  uint32_t status = sf_hop_text(&seed, hop, list->bytes.at, list->bytes.length, out->at,
+                                out->capacity, &required);
+  return sf_wrote(out, status, required);
+}
+
 static inline sf_status sf_append_hop(sf_context *context, sf_text text, const sf_own_hop *own,
                                      sf_buffer *out) {
   size_t required = 0;
@@ -1043,6 +1091,66 @@ static inline sf_head sf_head_in(sf_head_lines lines, sf_buffer joined) {
   return head;
 }
 
+static inline sf_text sf_take_line(sf_text *rest) {
+  sf_text line = *rest;
+  const char *end = rest->length == 0 ? NULL : (const char *)memchr(rest->at, '\n', rest->length);
+  if (end != NULL)
+    line.length = (size_t)(end - rest->at) + 1;
+  rest->at = rest->length == 0 ? rest->at : rest->at + line.length;
+  rest->length -= line.length;
+  return line;
+}
+
+/* Returns the length of a head up to the empty line that ends it, and counts its other lines: for
+ * the functions below. */
+static inline size_t sf_head_length(sf_text received, size_t *lines) {
+  sf_text rest = sf_text_of(received.at, received.at == NULL ? 0 : received.length);
+  size_t length = rest.length;
+  *lines = 0;
+  while (rest.length > 0) {
+    sf_text line = sf_take_line(&rest);
+    int is_empty = *line.at == '\n' || (line.length == 2 && memcmp(line.at, "\r\n", 2) == 0);
+    if (is_empty && *lines > 0)
+      break;
+    *lines += !is_empty;
+  }
+  return length - rest.length;
+}
+
+/* Returns so many bytes, and a number of elements of a size; SIZE_MAX if that is more: for the
+ * function below. */
+static inline size_t sf_add_size(size_t bytes, size_t count, size_t size) {
+  return count > (SIZE_MAX - bytes) / size ? SIZE_MAX : bytes + count * size;
+}
+
+/* Returns the bytes that are enough for a head of so many lines and bytes: for the functions below.
+ * A line that is no field line has one fault, a field has at most as many as it has lines, and a
+ * missing end is one more. All fields, joined, have fewer bytes than the head, and each of them has
+ * when it is joined again while all are kept. */
+static inline size_t sf_head_memory_of(size_t lines, size_t length) {
+  size_t bytes = sf_add_size(sizeof(sf_fault), lines, sizeof(sf_head_line) + sizeof(sf_fault));
+  return sf_add_size(bytes, length, 2);
+}
+
+static inline size_t sf_head_memory_size(sf_text received) {
+  size_t lines, length = sf_head_length(received, &lines);
+  return sf_head_memory_of(lines, length);
+}
+
+static inline sf_head sf_head_in_memory(void *memory, size_t size, sf_text received) {
+  size_t lines, length = sf_head_length(received, &lines);
+  int is_aligned = (uintptr_t)memory % sizeof(uint64_t) == 0;
+  sf_head_line *at = is_aligned ? (sf_head_line *)memory : NULL;
+  int fits = at != NULL && size >= sf_head_memory_of(lines, length);
+  sf_fault *faults = fits ? (sf_fault *)(void *)(at + lines) : NULL;
+  sf_head head = sf_head_in(sf_head_lines_of(at, fits ? lines : 0), sf_buffer_of(NULL, 0));
+  if (fits) {
+    head.faults = sf_faults_of(faults, lines + 1);
+    head.joined = sf_buffer_of(faults + lines + 1, 2 * length);
+  }
+  return head;
+}
+
 /* Adds a field line that was received so: for the functions below. */
 SF_USE_RESULT
 static inline sf_status sf_add_received(sf_head *head, sf_text name, sf_text value,
@@ -1064,16 +1172,6 @@ static inline sf_status sf_add_received(sf_head *head, sf_text name, sf_text val
 
 static inline sf_status sf_add_field_line(sf_head *head, sf_text name, sf_text value) {
   return sf_add_received(head, name, value, value);
-}
-
-static inline sf_text sf_take_line(sf_text *rest) {
-  sf_text line = *rest;
-  const char *end = rest->length == 0 ? NULL : (const char *)memchr(rest->at, '\n', rest->length);
-  if (end != NULL)
-    line.length = (size_t)(end - rest->at) + 1;
-  rest->at = rest->length == 0 ? rest->at : rest->at + line.length;
-  rest->length -= line.length;
-  return line;
 }
 
 /* Returns whether a byte is one of a token (RFC 9110 section 5.6.2): for the functions below. */
@@ -1173,6 +1271,7 @@ static inline void sf_note_fault(sf_head *head, const char *field, sf_reason rea
   size_t i = head->faults.length;
   for (; i > 0 && faults[i - 1].location.number >= location->number; --i)
     if (strcmp(faults[i - 1].field, field) == 0 && faults[i - 1].reason == (uint32_t)reason &&
+        faults[i - 1].location.number == location->number &&
         faults[i - 1].location.refusal.offset == location->refusal.offset)
       return;
   ++head->faults.required;
@@ -1202,6 +1301,7 @@ static inline int sf_take_start_line(sf_head *head, sf_text line) {
 static inline sf_status sf_add_head_line(sf_head *head, sf_text line) {
   sf_text name, value;
   sf_location location;
+  sf_reason reason = head->is_begun ? SF_FAULT_NOT_A_LINE : SF_FAULT_NOT_A_START;
   line.length -= line.length > 0 && line.at[line.length - 1] == '\n';
   line.length -= line.length > 0 && line.at[line.length - 1] == '\r';
   if (!head->is_begun && sf_take_start_line(head, line))
@@ -1216,7 +1316,7 @@ static inline sf_status sf_add_head_line(sf_head *head, sf_text line) {
     return SF_EMPTY;
   head->is_begun = 1;
   head->is_incomplete = 1;
-  sf_note_fault(head, "", SF_FAULT_NOT_A_LINE, &location);
+  sf_note_fault(head, "", reason, &location);
   return SF_REFUSED;
 }
 
@@ -1342,30 +1442,88 @@ static inline void sf_note_value(sf_head *head, const char *name, sf_reason reas
 }
 
 /* Returns in words why a line is no field line: for the function below. */
-static inline const char *sf_line_fault(const sf_location *location) {
-  const sf_refusal *refusal = &location->refusal;
+static inline const char *sf_line_fault(const sf_fault *fault) {
+  const sf_refusal *refusal = &fault->location.refusal;
   int is_space = refusal->found == ' ' || refusal->found == '\t';
-  if (location->line.length >= 5 && memcmp(location->line.at, "HTTP/", 5) == 0)
-    return "neither a status line nor a field line";
   if (refusal->may_end)
-    return "not a field line: a CR, LF or NUL in the value";
-  if (refusal->offset == 0)
-    return is_space ? "not a field line: it continues the line before"
-                    : "not a field line: no name";
-  return is_space ? "not a field line: white space after the name"
-                  : "not a field line: no colon after the name";
+    return "a CR, LF or NUL in the value";
+  if (refusal->offset > 0)
+    return is_space ? "white space after the name" : "no colon after the name";
+  if (!is_space)
+    return "no name";
+  return fault->reason == SF_FAULT_NOT_A_START ? "it begins with white space"
+                                               : "it continues the line before";
+}
+
+/* Returns the words for a reason, which sf_line_fault ends for lines; NULL if a refusal has them:
+ * for the function below. */
+static inline const char *sf_fault_words(uint32_t reason) {
+  switch (reason) {
+  case SF_FAULT_NOT_A_DATE:
+    return "expected an HTTP-date, such as Sun, 06 Nov 1994 08:49:37 GMT";
+  case SF_FAULT_REPEATED:
+    return "there are several lines";
+  case SF_FAULT_NOT_AN_AGE:
+    return "expected a number of seconds";
+  case SF_FAULT_NOT_A_LINE:
+    return "not a field line: ";
+  case SF_FAULT_NO_END:
+    return "the head does not end with an empty line";
+  case SF_FAULT_NOT_A_START:
+    return "neither a start line nor a field line: ";
+  default:
+    return NULL;
+  }
+}
+
+/* Sets two texts to what comes before and after the words " at place N" of the error message of a
+ * refusal: for the function below. */
+static inline void sf_leave_out_place(sf_text message, sf_text *before, sf_text *after) {
+  const char *place = " at place ";
+  size_t length = strlen(place), at = 0, end;
+  while (at < message.length &&
+         (message.length - at < length || memcmp(message.at + at, place, length) != 0))
+    ++at;
+  end = at < message.length ? at + length : at;
+  while (end < message.length && message.at[end] >= '0' && message.at[end] <= '9')
+    ++end;
+  *before = sf_text_of(message.at, at);
+  *after = sf_text_of(message.at + end, message.length - end);
+}
+
+static inline sf_status sf_show_fault_in(const char *file, const sf_fault *fault, size_t most,
+                                        sf_buffer *out) {
+  const sf_location *location = &fault->location;
+  const char *words = sf_fault_words(fault->reason);
+  int is_line = fault->reason == SF_FAULT_NOT_A_LINE || fault->reason == SF_FAULT_NOT_A_START;
+  char message[SF_REFUSAL_SIZE], place[64], *end;
+  sf_buffer refused = SF_BUFFER(message);
+  sf_text parts[7];
+  sf_status status;
+  end = sf_put_number(place, "line ", location->number);
+  end = sf_put_number(end, ", place ", location->refusal.offset);
+  end = sf_put_text(end, sf_text_of(": ", 2));
+  parts[0] = sf_cstr(file);
+  parts[1] = sf_text_of(", ", parts[0].length == 0 ? 0 : 2);
+  parts[2] = sf_text_of(place, (size_t)(end - place));
+  parts[3] = sf_cstr(fault->field);
+  parts[4] = sf_text_of(": ", parts[3].length == 0 ? 0 : 2);
+  parts[5] = sf_cstr(words);
+  parts[6] = sf_cstr(is_line ? sf_line_fault(fault) : "");
+  if (words == NULL) {
+    status = sf_write_refusal(&location->refusal, &refused);
+    if (status != SF_OK)
+      return sf_wrote(out, status, 0);
+    sf_leave_out_place(sf_written(&refused), &parts[5], &parts[6]);
+  }
+  status = sf_show_excerpt_below(parts, 7, location->refusal.offset, location->line, most, out);
+  if (status == SF_OK)
+    sf_hide_bytes(out->at, parts[0].length);
+  return status;
 }
 
 static inline sf_status sf_show_fault(const sf_fault *fault, size_t most, sf_buffer *out) {
-  const char *words =
-      fault->reason == SF_FAULT_NOT_A_DATE
-          ? "expected an HTTP-date, such as Sun, 06 Nov 1994 08:49:37 GMT"
-      : fault->reason == SF_FAULT_REPEATED   ? "there are several lines"
-      : fault->reason == SF_FAULT_NOT_AN_AGE ? "expected a number of seconds"
-      : fault->reason == SF_FAULT_NOT_A_LINE ? sf_line_fault(&fault->location)
-      : fault->reason == SF_FAULT_NO_END     ? "the head does not end with an empty line"
-                                             : NULL;
-  return sf_show_place(sf_cstr(fault->field), words, &fault->location, most, out);
+  return sf_show_fault_in(NULL, fault, most, out);
 }
 
 /* Returns the status of a call that looked up a field and read it with this status. One that is
@@ -1479,8 +1637,8 @@ static inline sf_exchange sf_exchange_of(sf_cache cache, uint64_t now) {
 }
 
 static inline void sf_set_request(sf_exchange *exchange, const sf_head *request) {
-  exchange->is_authorized =
-      request->is_incomplete || request->is_truncated || sf_has_field(request, "Authorization");
+  exchange->is_authorized = sf_has_field(request, "Authorization") != 0;
+  exchange->is_request_incomplete = request->is_incomplete || request->is_truncated;
 }
 
 static inline const char *sf_obstacle_name(uint32_t obstacle) {
@@ -1497,6 +1655,10 @@ static inline const char *sf_obstacle_name(uint32_t obstacle) {
     return "the head is incomplete";
   case SF_BARRED_NO_RESPONSE:
     return "the head is that of a request";
+  case SF_BARRED_MALFORMED:
+    return "Cache-Control is malformed";
+  case SF_BARRED_REQUEST_HEAD:
+    return "the request may have had Authorization, as its head is incomplete";
   default:
     return "";
   }
@@ -1504,10 +1666,11 @@ static inline const char *sf_obstacle_name(uint32_t obstacle) {
 
 /* Returns why a response may not be stored: for the function below. */
 static inline uint32_t sf_obstacle_of(const sf_decision *decision, const sf_exchange *exchange,
-                                      const sf_head *head, int has_expires) {
+                                      const sf_head *head, int is_refused, int has_expires) {
   uint32_t status = exchange->status != 0 ? exchange->status : head->status;
+  int is_for_one = exchange->cache == SF_SHARED_CACHE && !decision->allows_authorized;
   if (decision->reuse == SF_REUSE_NOT_STORED)
-    return SF_BARRED_DIRECTIVE;
+    return is_refused ? SF_BARRED_MALFORMED : SF_BARRED_DIRECTIVE;
   if (head->is_request)
     return SF_BARRED_NO_RESPONSE;
   if (head->is_incomplete || head->is_truncated)
@@ -1516,8 +1679,10 @@ static inline uint32_t sf_obstacle_of(const sf_decision *decision, const sf_exch
     return SF_BARRED_STATUS;
   if ((status == 206 || status == 304) && !exchange->is_understood)
     return SF_BARRED_STATUS;
-  if (exchange->cache == SF_SHARED_CACHE && exchange->is_authorized && !decision->allows_authorized)
+  if (is_for_one && exchange->is_authorized)
     return SF_BARRED_REQUEST;
+  if (is_for_one && exchange->is_request_incomplete)
+    return SF_BARRED_REQUEST_HEAD;
   if (decision->allows_storing || has_expires)
     return SF_NO_OBSTACLE;
   switch (status) {
@@ -1691,6 +1856,7 @@ static inline uint64_t sf_age_of(sf_head *head, uint32_t *is_malformed) {
   if (*is_malformed) {
     sf_refusal refusal;
     memset(&refusal, 0, sizeof refusal);
+    refusal.offset = sf_place_in_age(head->lines.at[i].value);
     sf_note_value(head, "Age", SF_FAULT_NOT_AN_AGE, i, &refusal);
   }
   return age;
@@ -1741,7 +1907,8 @@ static inline sf_status sf_decide_response(sf_context *context, sf_head *head, s
   status = (sf_status)sf_decide(&choice.rules, exchange->cache, &response, &decision);
   if (status != SF_OK)
     return status;
-  verdict->obstacle = sf_obstacle_of(&decision, exchange, head, response.has_lifetime);
+  verdict->obstacle = sf_obstacle_of(&decision, exchange, head, fallback.is_refused != 0,
+                                     response.has_lifetime);
   verdict->may_store = verdict->obstacle == SF_NO_OBSTACLE;
   verdict->decision = decision;
   verdict->age = response.age;
@@ -1787,7 +1954,8 @@ static inline sf_status sf_write_verdict(const sf_verdict *verdict, sf_buffer *o
     sf_put_words(out, cause);
     sf_put_words(out, ")");
   }
-  if (verdict->obstacle != SF_NO_OBSTACLE && verdict->obstacle != SF_BARRED_DIRECTIVE) {
+  if (verdict->obstacle != SF_NO_OBSTACLE && verdict->obstacle != SF_BARRED_DIRECTIVE &&
+      verdict->obstacle != SF_BARRED_MALFORMED) {
     sf_put_words(out, "; not stored: ");
     sf_put_words(out, sf_obstacle_name(verdict->obstacle));
   }

@@ -10,16 +10,6 @@
 #include <stdio.h>
 #include <stdlib.h>
 
-/* A seed that strangers can't guess. */
-static int fill(sf_seed *seed) {
-  FILE *random = fopen("/dev/urandom", "rb");
-  if (random == NULL)
-    return 0;
-  size_t got = fread(seed->bytes, 1, sizeof seed->bytes, random);
-  fclose(random);
-  return got == sizeof seed->bytes;
-}
-
 /* Joins a line to those before, in a buffer that grows as it must. */
 static int add(sf_lines *lines, sf_text line) {
   sf_status status = sf_add_line(lines, line);
@@ -40,7 +30,7 @@ int main(int argc, char **argv) {
     return 2;
   }
   sf_seed seed;
-  if (!fill(&seed)) {
+  if (!sf_random_seed(&seed)) {
     fprintf(stderr, "normalise: no random bytes\n");
     return 3;
   }

@@ -14,10 +14,8 @@ int main(int argc, char **argv) {
     return 2;
   }
   sf_seed seed;
-  FILE *random = fopen("/dev/urandom", "rb");
-  if (random == NULL || fread(&seed, 1, sizeof seed, random) != sizeof seed)
+  if (!sf_random_seed(&seed))
     return 3;
-  fclose(random);
 
   /* a field that is refused sets nothing */
   sf_context context = sf_context_of(seed, SF_RFC8941);

@@ -6,13 +6,11 @@
  * it understands the status code. What is malformed is told on standard error, with the number of
  * its line. Left out: method, status code, Authorization, Vary (RFC 9111 sections 3 and 4). Status 3
  * if memory, the input or the output fails, or the input is too long. */
-#define _DEFAULT_SOURCE
 #include <sf.h>
 #include <stdio.h>
 #include <stdlib.h>
 #include <string.h>
 #include <time.h>
-#include <unistd.h>
 
 enum { MOST = 65536 };
 
@@ -58,7 +56,7 @@ int main(int count, char **words) {
 
   /* The priority. A field that is malformed or absent sets nothing (RFC 9218 section 8). */
   sf_seed seed;
-  if (getentropy(&seed, sizeof seed) != 0)
+  if (!sf_random_seed(&seed))
     give_up("no random bytes");
   sf_context context = sf_context_of(seed, SF_RFC8941); /* that the RFCs of these fields cite */
   sf_priority_flags client;

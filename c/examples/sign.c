@@ -48,10 +48,8 @@ int main(int argc, char **argv) {
     return 2;
   }
   sf_seed seed;
-  FILE *random = fopen("/dev/urandom", "rb");
-  if (random == NULL || fread(&seed, 1, sizeof seed, random) != sizeof seed)
+  if (!sf_random_seed(&seed))
     return 3;
-  fclose(random);
 
   /* As many nodes and bytes as all words can have, and as the parameters below have. */
   size_t size = 64;

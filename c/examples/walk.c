@@ -84,10 +84,8 @@ int main(int argc, char **argv) {
     return 2;
   }
   sf_seed seed;
-  FILE *random = fopen("/dev/urandom", "rb");
-  if (random == NULL || fread(&seed, 1, sizeof seed, random) != sizeof seed)
+  if (!sf_random_seed(&seed))
     return 3;
-  fclose(random);
 
   sf_context context = sf_context_of(seed, SF_RFC9651);
   sf_text text = sf_trim(argv[2], strlen(argv[2]));

@@ -820,6 +820,28 @@ static void faults_of(uint32_t dialect, sf_head *head) {
   }
 }
 
+/* A head of a text in one memory of the size for it: it has each line and each fault, and the lines of
+ * all of its fields can be joined in what the memory has for them, twice. */
+static void head_in_memory(const uint8_t *text, size_t length) {
+  sf_text rest = sf_text_of(text, length);
+  size_t size = sf_head_memory_size(rest), joined = 0;
+  void *memory = malloc(size);
+  CHECK(memory != NULL && size <= 70 * length + 150);
+  sf_head head = sf_head_in_memory(memory, size, rest);
+  CHECK(sf_take_head(&head, &rest) != SF_SHORT && head.faults.length == head.faults.required);
+  for (size_t i = 0; i < head.lines.length; ++i)
+    joined += head.lines.at[i].value.length + 2;
+  CHECK(2 * joined <= head.joined.capacity && head.lines.length + 1 <= head.faults.capacity);
+  for (size_t i = 0; i < head.faults.length; ++i) {
+    char message[SF_FAULT_IN_SIZE(1, 0, 20)];
+    sf_buffer out = SF_BUFFER(message);
+    const sf_fault *fault = &head.faults.at[i];
+    CHECK(sf_show_fault_in("f", fault, 20, &out) == SF_OK && memcmp(message, "f, line ", 8) == 0);
+    CHECK(fault->reason != SF_FAULT_NOT_A_START || i == 0);
+  }
+  free(memory);
+}
+
 /* The lines of a text, and a head with the parts of it between its commas as the lines of two fields. */
 static void heads(uint32_t dialect, const uint8_t *text, size_t length) {
   sf_context context = sf_context_of(seed, (sf_dialect)dialect);
@@ -890,6 +912,7 @@ static void heads(uint32_t dialect, const uint8_t *text, size_t length) {
       CHECK(location.refusal.found == -1 && location.refusal.may_end == 0);
   }
   faults_of(dialect, &head);
+  head_in_memory(text, length);
   give_buffer(buffer);
   free(lines);
 }

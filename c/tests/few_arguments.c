@@ -3,7 +3,9 @@
  * not compile.
  *
  * Prints 'N passed, M failed'. */
+#define getrandom few_random_bytes /* a function below */
 #include <sf.h>
+#undef getrandom
 #include <stdio.h>
 #include <stdlib.h>
 #include "decisions.h"
@@ -37,6 +39,72 @@ static sf_context no_dialect(void) {
 }
 
 static const sf_kind no_kind = (sf_kind)0;
+
+/* What sf_random_seed calls: it does what the steps say, and then what the system does. A step is the
+ * number of bytes that it writes, numbered from 1; below 0, it fails. */
+enum { INTERRUPTED = -1, FAILS = -2, NO_STEP = -3 };
+static const int *steps;
+static int written_bytes;
+
+#if defined(__cplusplus)
+extern "C" {
+#endif
+ssize_t getrandom(void *bytes, size_t length, unsigned flags);
+
+ssize_t few_random_bytes(void *bytes, size_t length, unsigned flags) {
+  int step = steps == NULL ? (int)NO_STEP : *steps++;
+  CHECK(flags == 0 && length >= 1 && length <= 16);
+  if (step == NO_STEP)
+    return getrandom(bytes, length, flags);
+  errno = step == FAILS ? ENOSYS : EINTR;
+  CHECK(step <= (int)length);
+  for (int i = 0; i < step; ++i)
+    ((unsigned char *)bytes)[i] = (unsigned char)++written_bytes;
+  return step < 0 ? -1 : step;
+}
+#if defined(__cplusplus)
+}
+#endif
+
+static void seeds(void) {
+  static const struct {
+    int steps[17], is_filled;
+  } rows[] = {
+      {{16}, 1},
+      {{5, 11}, 1},
+      {{1, 1, 1, 1, 1, 1, 1, 1, 1, 1, 1, 1, 1, 1, 1, 1}, 1},
+      {{INTERRUPTED, INTERRUPTED, 16}, 1},
+      {{15, INTERRUPTED, 1}, 1},
+      {{FAILS, 16}, 0},
+      {{15, FAILS, 1}, 0},
+      {{7, INTERRUPTED, FAILS, 9}, 0},
+      {{0, 16}, 0},
+      {{3, 0, 13}, 0},
+  };
+  static const sf_seed filled = {{1, 2, 3, 4, 5, 6, 7, 8, 9, 10, 11, 12, 13, 14, 15, 16}};
+  sf_seed first, second;
+  for (size_t i = 0; i < sizeof rows / sizeof *rows; ++i) {
+    steps = rows[i].steps;
+    written_bytes = 0;
+    first = seed;
+    CHECK(sf_random_seed(&first) == rows[i].is_filled);
+    CHECK(memcmp(&first, rows[i].is_filled ? &filled : &seed, sizeof first) == 0);
+    CHECK(errno == (*(steps - 1) == FAILS ? ENOSYS : EINTR)); /* as the last call left it */
+  }
+  /* by the system; no byte stays in each of 20 seeds, but for a chance of 1 in 2^156 */
+  steps = NULL;
+  CHECK(sf_random_seed(&first) == 1 && sf_random_seed(&second) == 1);
+  CHECK(memcmp(&first, &second, sizeof first) != 0);
+  for (size_t i = 0; i < sizeof seed.bytes; ++i) {
+    int is_new = 0;
+    for (int k = 0; k < 20; ++k) {
+      second = seed;
+      CHECK(sf_random_seed(&second) == 1);
+      is_new |= second.bytes[i] != seed.bytes[i];
+    }
+    CHECK(is_new);
+  }
+}
 
 static void texts_and_buffers(void) {
   sf_context context = sf_context_of(seed, SF_RFC8941);
@@ -248,6 +316,41 @@ static void trees(void) {
   CHECK(jk != NULL && jk->number == 4);
   CHECK(sf_find_parameter(&tree, abc, "q") == NULL && sf_find_parameter(&tree, inner, "jk") == NULL);
   CHECK(sf_find_parameter(&tree, inner, "r") == nodes + 9);
+
+  /* of a type: that of the bare item, or SF_INNER_LIST; NULL is no node and has no parameters */
+  static const struct {
+    const char *key;
+    sf_type type;
+  } types[] = {{"a", SF_INNER_LIST}, {"b", SF_INTEGER}, {"c", SF_DECIMAL}, {"d", SF_STRING}, {"e", SF_TOKEN},
+               {"f", SF_BYTE_SEQUENCE}, {"g", SF_BOOLEAN}, {"h", SF_DATE}, {"i", SF_DISPLAY_STRING}};
+  sf_node more[20];
+  char decoded[32];
+  sf_tree typed = sf_tree_in(SF_NODES(more), SF_BUFFER(decoded));
+#define BARE_ITEMS "b=1;x=y, c=1.0, d=\"\", e=t, f=::, g, h=@1, i=%\"\""
+  CHECK(sf_read_tree(&context, SF_DICT, sf_cstr("a=(b);x=y, " BARE_ITEMS), &typed) == SF_OK);
+  for (size_t i = 0; i < sizeof types / sizeof *types; ++i) {
+    sf_node *member = sf_find_member(&typed, types[i].key);
+    CHECK(member != NULL && member->type == types[i].type);
+    for (size_t k = 0; k < sizeof types / sizeof *types; ++k)
+      CHECK(sf_find_member_of(&typed, types[i].key, types[k].type) == (i == k ? member : NULL));
+  }
+  CHECK(sf_find_member_of(&typed, "", SF_TOKEN) == NULL && sf_find_member_of(&typed, "x", SF_TOKEN) == NULL);
+  CHECK(sf_find_member_of(&typed, "b", (sf_type)0) == NULL);
+  CHECK(sf_find_member_of(&tree, "b", SF_INTEGER) == NULL); /* of a List */
+  for (int i = 0; i < 2; ++i) {
+    sf_node *member = sf_find_member(&typed, types[i].key), *x = sf_find_parameter(&typed, member, "x");
+    CHECK(x != NULL && x->role == (i == 0 ? SF_INNER_PARAMETER : SF_PARAMETER));
+    CHECK(sf_find_parameter_of(&typed, member, "x", SF_TOKEN) == x);
+    CHECK(sf_find_parameter_of(&typed, member, "x", SF_STRING) == NULL);
+    CHECK(sf_find_parameter_of(&typed, member, "y", SF_TOKEN) == NULL);
+    CHECK(sf_find_parameter_of(&typed, member, "x", SF_INNER_LIST) == NULL);
+  }
+  CHECK(sf_find_parameter(&typed, NULL, "x") == NULL);
+  CHECK(sf_find_parameter_of(&typed, NULL, "x", SF_TOKEN) == NULL);
+  CHECK(sf_read_tree(&context, SF_DICT, sf_cstr(BARE_ITEMS), &typed) == SF_OK);
+  const sf_node *items = typed.nodes.at;
+  for (size_t i = 1; i < sizeof types / sizeof *types; ++i, items += items->size)
+    CHECK(sf_find_member_of(&typed, types[i].key, types[i].type) == items);
 
   /* each status; the tree is empty then */
   sf_tree small = sf_tree_in(sf_nodes_of(nodes, 9), SF_BUFFER(bytes));
@@ -622,18 +725,26 @@ static void heads(void) {
   CHECK(location.refusal.offset == 2 && location.line.at == few[0].value.at);
 }
 
-/* A message of a fault, compared with what is expected. */
+/* A message of a fault in a file, compared with what is expected; NULL is without a file. */
+static int says_in(const char *file, const sf_fault *fault, size_t most, const char *expected) {
+  char message[SF_FAULT_IN_SIZE(32, 32, 80)], again[1024];
+  size_t length = strlen(expected);
+  sf_buffer out = SF_BUFFER(message), exact = sf_buffer_of(again, length);
+  sf_buffer one_less = sf_buffer_of(again, length - 1);
+  memset(again, 'z', sizeof again);
+  return sf_show_fault_in(file, fault, most, &out) == SF_OK && is(sf_written(&out), expected) &&
+         sf_show_fault_in(file, fault, most, &one_less) == SF_SHORT && one_less.length == 0 &&
+         one_less.required == length && again[0] == 'z' &&
+         sf_show_fault_in(file, fault, most, &exact) == SF_OK && is(sf_written(&exact), expected) &&
+         again[length] == 'z';
+}
+
+/* A message of a fault, likewise. */
 static int says(const sf_fault *fault, size_t most, const char *expected) {
   char message[SF_FAULT_SIZE(32, 80)];
-  sf_buffer out = SF_BUFFER(message), exact, one_less;
-  if (sf_show_fault(fault, most, &out) != SF_OK || !is(sf_written(&out), expected))
-    return 0;
-  char again[1024];
-  exact = sf_buffer_of(again, strlen(expected));
-  one_less = sf_buffer_of(again, strlen(expected) - 1);
-  return sf_show_fault(fault, most, &one_less) == SF_SHORT &&
-         one_less.required == strlen(expected) && sf_show_fault(fault, most, &exact) == SF_OK &&
-         is(sf_written(&exact), expected);
+  sf_buffer out = SF_BUFFER(message);
+  return sf_show_fault(fault, most, &out) == SF_OK && is(sf_written(&out), expected) &&
+         says_in(NULL, fault, most, expected) && says_in("", fault, most, expected);
 }
 
 /* The first lines of messages (RFC 9112 sections 2.1, 3 and 4), and whole heads. */
@@ -745,7 +856,7 @@ static void whole_heads(void) {
     sf_head head = sf_head_in(SF_HEAD_LINES(lines), sf_buffer_of(NULL, 0));
     head.faults = SF_FAULTS(faults);
     CHECK(sf_take_head(&head, &rest) == SF_EMPTY && head.is_truncated == 1 && rest.length == 0);
-    CHECK(says(&faults[0], 40, "the head does not end with an empty line\nline 3, place 0:\n\n^"));
+    CHECK(says(&faults[0], 40, "line 3, place 0: the head does not end with an empty line\n\n^"));
     CHECK(sf_take_head(&head, &more) == SF_OK && head.is_truncated == 0 && is(more, "rest"));
   }
 
@@ -773,9 +884,9 @@ static void whole_heads(void) {
   head.faults = SF_FAULTS(faults);
   rest = sf_cstr("HTTP/1.1 2x0\na: b\n");
   CHECK(sf_take_head(&head, &rest) == SF_EMPTY && head.faults.length == 2);
-  CHECK(says(&faults[0], 40, "neither a status line nor a field line\nline 1, place 4:\n"
-                             "HTTP/1.1 2x0\n    ^"));
-  CHECK(says(&faults[1], 40, "the head does not end with an empty line\nline 3, place 0:\n\n^"));
+  CHECK(says(&faults[0], 40, "line 1, place 4: neither a start line nor a field line: no colon after "
+                             "the name\nHTTP/1.1 2x0\n    ^"));
+  CHECK(says(&faults[1], 40, "line 3, place 0: the head does not end with an empty line\n\n^"));
   head = sf_head_in(SF_HEAD_LINES(lines), sf_buffer_of(NULL, 0));
   rest = sf_cstr("a: b\n\r\nc");
   CHECK(sf_take_head(&head, &rest) == SF_OK && is(rest, "c") && head.is_truncated == 0);
@@ -813,45 +924,71 @@ static void whole_heads(void) {
   /* what the request may have had counts */
   static const struct {
     const char *head;
-    uint32_t is_authorized;
+    uint32_t is_authorized, is_incomplete;
   } requests[] = {
-      {"GET / HTTP/1.1\r\nAge: 1\r\n\r\n", 0},
-      {"GET / HTTP/1.1\r\nauthorization: a\r\n\r\n", 1},
-      {"GET / HTTP/1.1\r\nAuthorization : a\r\n\r\n", 1},
-      {"GET / HTTP/1.1\r\nAge: 1\r\n", 1},
+      {"GET / HTTP/1.1\r\nAge: 1\r\n\r\n", 0, 0},
+      {"GET / HTTP/1.1\r\nauthorization: a\r\n\r\n", 1, 0},
+      {"GET / HTTP/1.1\r\nAuthorization : a\r\n\r\n", 0, 1},
+      {"GET / HTTP/1.1\r\nAge: 1\r\n", 0, 1},
+      {"GET / HTTP/1.1\r\nb\r\nAuthorization: a\r\n", 1, 1},
+      {"GET /\r\n\r\n", 0, 1},
   };
   for (size_t i = 0; i < sizeof requests / sizeof *requests; ++i) {
     sf_exchange exchange = sf_exchange_of(SF_SHARED_CACHE, 0);
     head = sf_head_in(SF_HEAD_LINES(lines), sf_buffer_of(NULL, 0));
     rest = sf_cstr(requests[i].head);
     (void)!sf_take_head(&head, &rest);
-    sf_set_request(&exchange, &head);
-    CHECK(exchange.is_authorized == requests[i].is_authorized);
+    CHECK(exchange.is_authorized == 0 && exchange.is_request_incomplete == 0);
+    for (int twice = 0; twice < 2; ++twice) {
+      sf_set_request(&exchange, &head);
+      CHECK(exchange.is_authorized == requests[i].is_authorized);
+      CHECK(exchange.is_request_incomplete == requests[i].is_incomplete);
+      exchange.is_authorized = exchange.is_request_incomplete = 7; /* what was there before */
+    }
   }
 
-  /* why lines are no field lines, in words */
+  /* why lines are no field lines, in words: the second of a response, or its first that is not empty */
   static const struct {
-    const char *line, *words;
+    const char *line, *second, *first;
     size_t length;
   } whys[] = {
-      {" x: y", "not a field line: it continues the line before\nline 2, place 0:\n x: y\n^", 5},
-      {": y", "not a field line: no name\nline 2, place 0:\n: y\n^", 3},
-      {"a b: c", "not a field line: no colon after the name\nline 2, place 2:\na b: c\n  ^", 6},
-      {"a: \0", "not a field line: a CR, LF or NUL in the value\nline 2, place 3:\na: ?\n   ^", 4},
-      {"HTTP/1.1 200", "neither a status line nor a field line\nline 2, place 4:\nHTTP/1.1 200\n    ^", 12},
+      {" x: y", "line 2, place 0: not a field line: it continues the line before\n x: y\n^",
+       "line 2, place 0: neither a start line nor a field line: it begins with white space\n x: y\n^", 5},
+      {"\t", "line 2, place 0: not a field line: it continues the line before\n?\n^",
+       "line 2, place 0: neither a start line nor a field line: it begins with white space\n?\n^", 1},
+      {": y", "line 2, place 0: not a field line: no name\n: y\n^",
+       "line 2, place 0: neither a start line nor a field line: no name\n: y\n^", 3},
+      {"\xe9", "line 2, place 0: not a field line: no name\n?\n^",
+       "line 2, place 0: neither a start line nor a field line: no name\n?\n^", 1},
+      {"a b: c", "line 2, place 2: not a field line: no colon after the name\na b: c\n  ^",
+       "line 2, place 2: neither a start line nor a field line: no colon after the name\na b: c\n  ^", 6},
+      {"a: \0", "line 2, place 3: not a field line: a CR, LF or NUL in the value\na: ?\n   ^",
+       "line 2, place 3: neither a start line nor a field line: a CR, LF or NUL in the value\na: ?\n   ^", 4},
+      {"HTTP/1.1 2x0", "line 2, place 4: not a field line: no colon after the name\nHTTP/1.1 2x0\n    ^",
+       "line 2, place 4: neither a start line nor a field line: no colon after the name\nHTTP/1.1 2x0\n    ^", 12},
   };
-  for (size_t i = 0; i < sizeof whys / sizeof *whys; ++i) {
-    head = sf_head_in(SF_HEAD_LINES(lines), sf_buffer_of(NULL, 0));
-    head.faults = SF_FAULTS(faults);
-    CHECK(sf_add_head_line(&head, sf_cstr("HTTP/1.1 200")) == SF_OK);
-    CHECK(sf_add_head_line(&head, sf_text_of(whys[i].line, whys[i].length)) == SF_REFUSED);
-    CHECK(says(&faults[0], 40, whys[i].words));
-  }
+  for (size_t i = 0; i < sizeof whys / sizeof *whys; ++i)
+    for (int is_first = 0; is_first < 2; ++is_first) {
+      head = sf_head_in(SF_HEAD_LINES(lines), sf_buffer_of(NULL, 0));
+      head.faults = SF_FAULTS(faults);
+      CHECK(sf_add_head_line(&head, sf_cstr(is_first ? "\r\n" : "HTTP/1.1 200")) ==
+            (is_first ? SF_EMPTY : SF_OK));
+      CHECK(sf_add_head_line(&head, sf_text_of(whys[i].line, whys[i].length)) == SF_REFUSED);
+      CHECK(faults[0].reason == (is_first ? SF_FAULT_NOT_A_START : SF_FAULT_NOT_A_LINE));
+      CHECK(says(&faults[0], 40, is_first ? whys[i].first : whys[i].second));
+      /* only one line is the first */
+      CHECK(sf_add_head_line(&head, sf_cstr("x")) == SF_REFUSED);
+      CHECK(faults[1].reason == SF_FAULT_NOT_A_LINE && *faults[1].field == 0);
+    }
   head = sf_head_in(SF_HEAD_LINES(lines), sf_buffer_of(NULL, 0));
   head.faults = SF_FAULTS(faults);
   CHECK(sf_add_head_line(&head, sf_cstr("GET / HTTP/1.1")) == SF_OK);
   CHECK(sf_add_head_line(&head, sf_cstr("a : b")) == SF_REFUSED);
-  CHECK(says(&faults[0], 40, "not a field line: white space after the name\nline 2, place 1:\na : b\n ^"));
+  CHECK(says(&faults[0], 40, "line 2, place 1: not a field line: white space after the name\na : b\n ^"));
+  head = sf_head_in(SF_HEAD_LINES(lines), sf_buffer_of(NULL, 0));
+  head.faults = SF_FAULTS(faults);
+  CHECK(sf_add_field_line(&head, sf_cstr("a"), sf_cstr("b")) == SF_OK); /* it is the first line */
+  CHECK(sf_add_head_line(&head, sf_cstr("c")) == SF_REFUSED && faults[0].reason == SF_FAULT_NOT_A_LINE);
 
   /* a buffer of this many lines is large enough for each head, and for the shortest lines no less */
   for (size_t length = 0; length < 12; ++length) {
@@ -862,6 +999,205 @@ static void whole_heads(void) {
     CHECK(sf_take_head(&head, &rest) == SF_EMPTY);
     CHECK(length % 3 != 2 || head.lines.length == head.lines.capacity);
   }
+}
+
+/* Messages of faults with the name of a file, and of faults that hold nonsense. */
+static void messages_of_faults(void) {
+  sf_context context = sf_context_of(seed, SF_RFC8941);
+  sf_head_line lines[4];
+  sf_fault faults[4];
+  sf_head head = sf_head_in(SF_HEAD_LINES(lines), sf_buffer_of(NULL, 0));
+  head.faults = SF_FAULTS(faults);
+  head.number = 13;
+  sf_priority_flags client;
+  CHECK(sf_add_head_line(&head, sf_cstr("Priority: u=,")) == SF_OK);
+  CHECK(sf_add_head_line(&head, sf_cstr("b \xff\x01")) == SF_REFUSED);
+  CHECK(sf_find_priority(&context, &head, &client) == SF_OK && head.faults.length == 2);
+#define REFUSED                                                                                    \
+  "line 13, place 12: Priority: byte 0x2c ',', expected a letter, a digit, a quote, `(`, `*`, "    \
+  "`-`, `:` or `?`\n"
+#define NO_LINE "line 14, place 2: not a field line: no colon after the name\nb ??\n  ^"
+  CHECK(says_in("a", &faults[0], 40, "a, " REFUSED "Priority: u=,\n            ^"));
+  CHECK(says_in("b/c d.txt", &faults[0], 0, "b/c d.txt, " REFUSED "\n^"));
+  CHECK(says_in("b/c d.txt", &faults[0], 1, "b/c d.txt, " REFUSED ",\n^"));
+  CHECK(says_in("~", &faults[1], 40, "~, " NO_LINE));
+  CHECK(says_in("\xc3\xa9 \x7f\n\x1f", &faults[1], 40, "?? ???, " NO_LINE));
+  CHECK(says_in(NULL, &faults[1], 40, NO_LINE) && says_in("", &faults[1], 40, NO_LINE));
+  CHECK(says_in("a", &faults[1], SIZE_MAX, "a, " NO_LINE));
+
+  /* " at place N" is left out once, where the message has it */
+  sf_fault fault = faults[0];
+  fault.field = " at place 7";
+  CHECK(says_in("x at place 3", &fault, 1,
+                "x at place 3, line 13, place 12:  at place 7: byte 0x2c ',', expected a letter, a "
+                "digit, a quote, `(`, `*`, `-`, `:` or `?`\n,\n^"));
+
+  /* numbers that no fault has */
+  memset(&fault, 0xff, sizeof fault);
+  fault.field = NULL;
+  fault.location.line = sf_text_of(NULL, 0);
+#define NUMBER "18446744073709551615"
+  CHECK(says_in("file", &fault, 40,
+                "file, line " NUMBER ", place " NUMBER ": the text ended, expected a printable "
+                "character, 0x7f, 0x00, 0x01, 0x02, 0x03, 0x04, 0x05, 0x06, 0x07, 0x08, a tab, 0x0a, "
+                "0x0b, 0x0c, 0x0d, 0x0e, 0x0f, 0x10, 0x11, 0x12, 0x13, 0x14, 0x15, 0x16, 0x17, 0x18, "
+                "0x19, 0x1a, 0x1b, 0x1c, 0x1d, 0x1e, 0x1f or the end\n\n^"));
+  fault.location.line = sf_text_of("ab\0", 3);
+  fault.reason = SF_FAULT_NOT_A_LINE;
+  CHECK(says_in("f", &fault, 2,
+                "f, line " NUMBER ", place " NUMBER ": not a field line: a CR, LF or NUL in the "
+                "value\nb?\n  ^"));
+  sf_buffer out = sf_buffer_of(NULL, 0);
+  CHECK(sf_show_fault_in("f", &fault, 2, &out) == SF_SHORT && out.length == 0);
+
+  /* the longest names and messages fit */
+  char names[2][301], longest[SF_FAULT_IN_SIZE(300, 300, 10)];
+  memset(names, 'n', sizeof names);
+  names[0][300] = names[1][300] = 0;
+  for (uint32_t reason = 90; reason < 99; ++reason)
+    for (int found = -1; found < 256; ++found) {
+      memset(&fault, 0xff, sizeof fault);
+      fault.field = names[0];
+      fault.reason = reason;
+      fault.location.line = sf_text_of(names[1], 300);
+      fault.location.refusal.found = found;
+      fault.location.refusal.expected_low = UINT64_C(0xaaaaaaaaaaaaaaaa);
+      fault.location.refusal.expected_high = UINT64_C(0xaaaaaaaaaaaaaaaa);
+      out = sf_buffer_of(longest, sizeof longest);
+      CHECK(sf_show_fault_in(names[1], &fault, 10, &out) == SF_OK);
+      out.capacity = SF_FAULT_SIZE(300, 10);
+      CHECK(sf_show_fault(&fault, 10, &out) == SF_OK);
+    }
+}
+
+/* Heads whose buffers are parts of one memory: enough for each of them, and one byte less. */
+static void heads_in_memory(void) {
+  static const struct {
+    const char *head;
+    size_t length, taken, lines, count, faults; /* lines that are not empty, field lines, faults */
+  } rows[] = {
+      {NULL, 0, 0, 0, 0, 1},
+      {"", 0, 0, 0, 0, 1},
+      {"\n", 1, 1, 0, 0, 1},
+      {"\r", 1, 1, 1, 0, 1},
+      {"\r\n\r\n", 4, 4, 0, 0, 1},
+      {"a:", 2, 2, 1, 1, 1},
+      {"a:\n", 3, 3, 1, 1, 1},
+      {"a:\n\n", 4, 4, 1, 1, 0},
+      {"a:\nb:\nc:\n\n", 10, 10, 3, 3, 0},
+      {"\n\r\na:\n\r\nb:\n\n", 12, 8, 1, 1, 0},
+      {"HTTP/1.1 200\r\na:1\r\na:2\r\n\r\nbody\n\n", 32, 26, 3, 2, 0},
+      {"x\ny\n:\n z\n\n", 10, 10, 4, 0, 4},
+      {"GET / HTTP/1.1\na :\0\na:\0\n", 24, 24, 3, 0, 3},
+      {"a:\xff\n\xff\n", 6, 6, 2, 1, 2},
+      {"a:\r\n\r", 5, 5, 2, 1, 1},
+      {"a\n\r\r\n", 5, 5, 2, 0, 3},
+  };
+  for (size_t i = 0; i < sizeof rows / sizeof *rows; ++i) {
+    sf_text received = sf_text_of(rows[i].head, rows[i].length), rest = received;
+    size_t size = sf_head_memory_size(received);
+    CHECK(size == rows[i].lines * (sizeof(sf_head_line) + sizeof(sf_fault)) + sizeof(sf_fault) +
+                      2 * rows[i].taken);
+    CHECK(size <= 70 * rows[i].taken + 150);
+    char *memory = (char *)malloc(size);
+    CHECK(memory != NULL);
+    sf_head head = sf_head_in_memory(memory, size, received);
+    CHECK((char *)head.lines.at == memory && head.lines.length == 0 && head.number == 1);
+    CHECK(head.lines.capacity == rows[i].lines && head.faults.capacity == rows[i].lines + 1);
+    CHECK(head.joined.capacity == 2 * rows[i].taken && head.joined.length == 0);
+    CHECK((size_t)(head.joined.at - memory) + head.joined.capacity == size);
+    CHECK(sf_take_head(&head, &rest) != SF_SHORT);
+    CHECK(rest.length == rows[i].length - rows[i].taken && head.lines.length == rows[i].count);
+    CHECK(head.faults.length == rows[i].faults && head.faults.required == rows[i].faults);
+    free(memory);
+    /* one byte less, no memory, and memory that is not aligned */
+    memory = (char *)malloc(size + 1);
+    CHECK(memory != NULL);
+    for (int k = 0; k < 3; ++k) {
+      rest = received;
+      head = sf_head_in_memory(k == 1 ? NULL : memory + k / 2, k == 0 ? size - 1 : size, received);
+      CHECK(head.lines.capacity == 0 && head.faults.capacity == 0 && head.joined.capacity == 0);
+      CHECK(head.lines.at == (k == 0 ? (void *)memory : NULL));
+      sf_status status = sf_take_head(&head, &rest);
+      CHECK((status == SF_SHORT) == (rows[i].count > 0));
+      CHECK(status != SF_SHORT || head.lines.required == 1);
+      CHECK(head.faults.length == 0);
+    }
+    head = sf_head_in_memory(memory, SIZE_MAX, received); /* as if it were there */
+    CHECK(head.lines.capacity == rows[i].lines && head.joined.capacity == 2 * rows[i].taken);
+    free(memory);
+  }
+  CHECK(sf_head_memory_size(sf_text_of(NULL, SIZE_MAX)) == sizeof(sf_fault));
+  CHECK(sf_head_memory_of(SIZE_MAX, 0) == SIZE_MAX && sf_head_memory_of(0, SIZE_MAX) == SIZE_MAX);
+  CHECK(sf_head_memory_of(SIZE_MAX, SIZE_MAX) == SIZE_MAX);
+  CHECK(sf_head_memory_of(SIZE_MAX / sizeof(sf_fault), SIZE_MAX / 2) == SIZE_MAX);
+
+  /* What it is enough for: many lines, two of each field, and each of them looked up by a call that
+   * keeps what it joins, then by all of the others; and each line and field malformed. */
+  enum { FIELDS = 400 };
+  static char text[FIELDS * 64], names[FIELDS][16];
+  static const char *const known[] = {"Priority",      "Cache-Status", "T",  "Expires",
+                                      "Cache-Control", "Date",         "Age"};
+  sf_text received = sf_text_of(text, 0), rest;
+  for (int line = 0; line < 2; ++line)
+    for (int i = 0; i < FIELDS; ++i) {
+      snprintf(names[i], sizeof names[i], "f%d", i);
+      received.length += (size_t)snprintf(text + received.length, sizeof text - received.length, "%s:,\n%s",
+                                          i < 7 ? known[i] : names[i], i % 2 ? "\xff\n" : "");
+    }
+  sf_context context = sf_context_of(seed, SF_RFC8941);
+  size_t size = sf_head_memory_size(received), joined = 0;
+  void *memory = malloc(size);
+  CHECK(memory != NULL);
+  sf_head head = sf_head_in_memory(memory, size, received);
+  rest = received;
+  CHECK(sf_take_head(&head, &rest) == SF_EMPTY && head.lines.length == 2 * FIELDS);
+  CHECK(head.faults.length == FIELDS + 1 && rest.length == 0);
+  for (int i = 0; i < FIELDS; ++i) {
+    sf_text found;
+    CHECK(sf_find_field(&head, i < 7 ? known[i] : names[i], &found) == SF_OK && is(found, ",, ,"));
+    joined += found.length;
+  }
+  CHECK(head.joined.length == joined);
+  for (int twice = 0; twice < 2; ++twice) {
+    sf_priority_flags client;
+    sf_response_priority_flags server;
+    sf_hop hops[1];
+    char bytes[1], sent[32];
+    sf_hop_list list = sf_hop_list_in(SF_HOPS(hops), SF_BUFFER(bytes));
+    sf_buffer out = SF_BUFFER(sent);
+    sf_own_hop own = sf_hop_named("a", SF_TOKEN);
+    sf_target target = sf_target_of("T");
+    sf_exchange exchange = sf_exchange_of(SF_SHARED_CACHE, 0);
+    sf_verdict verdict;
+    CHECK(sf_find_priority(&context, &head, &client) == SF_OK);
+    CHECK(sf_find_response_priority(&context, &head, &server) == SF_OK);
+    CHECK(sf_find_hops(&context, &head, &list) == SF_OK && list.hops.length == 0);
+    CHECK(sf_add_hop(&context, &head, &own, &out) == SF_OK && is(sf_written(&out), "a"));
+    CHECK(sf_decide_response(&context, &head, &target, 1, &exchange, &verdict) == SF_OK);
+    for (int i = 7; i < FIELDS; ++i)
+      CHECK(sf_check_field(&context, SF_LIST, &head, names[i]) == SF_REFUSED);
+    CHECK(head.joined.length == joined);
+  }
+  /* Cache-Control is a list of directives here, Expires and Date have two faults each */
+  CHECK(head.faults.length == head.faults.required);
+  CHECK(head.faults.length == FIELDS + 1 + (FIELDS - 7) + 3 + 2 * 2 + 1);
+  free(memory);
+
+  /* a field that is nearly all of the head, which is kept and then joined again */
+  received.length = (size_t)snprintf(text, sizeof text, "Priority:u=1,x=%0900d\nPriority:y=%0900d\n\n", 1, 1);
+  size = sf_head_memory_size(received);
+  memory = malloc(size);
+  CHECK(memory != NULL);
+  head = sf_head_in_memory(memory, size, received);
+  rest = received;
+  CHECK(sf_take_head(&head, &rest) == SF_OK);
+  sf_priority_flags client;
+  sf_text found;
+  CHECK(sf_find_field(&head, "priority", &found) == SF_OK && found.length == 6 + 900 + 2 + 2 + 900);
+  CHECK(sf_find_priority(&context, &head, &client) == SF_OK && client.has_urgency == 0);
+  CHECK(head.faults.length == 1 && head.joined.length == found.length);
+  free(memory);
 }
 
 /* Verdicts in words, and hops by them. */
@@ -905,6 +1241,19 @@ static void verdicts_in_words(void) {
     out = sf_buffer_of(field, sizeof field);
     CHECK(sf_write_hop(&context, &own, &out) == SF_OK && is(sf_written(&out), rows[i].hop));
   }
+  /* a request that may have had Authorization, and the longest text */
+  sf_verdict verdict;
+  memset(&verdict, 0, sizeof verdict);
+  verdict.decision.reuse = SF_REUSE_FRESH;
+  verdict.decision.seconds = UINT64_MAX;
+  verdict.decision.cause = SF_BY_INVALID_S_MAXAGE;
+  verdict.obstacle = SF_BARRED_REQUEST_HEAD;
+  verdict.field = "T";
+  char text[SF_VERDICT_SIZE(1)];
+  sf_buffer out = SF_BUFFER(text);
+  CHECK(sf_write_verdict(&verdict, &out) == SF_OK);
+  CHECK(is(sf_written(&out), "T: fresh for 18446744073709551615 s (invalid s-maxage); not stored: the "
+                             "request may have had Authorization, as its head is incomplete"));
 }
 
 /* The Items of Inner Lists, and the texts of parts of a tree. */
@@ -967,15 +1316,15 @@ static void fields_of_a_head(void) {
   head.number = 7;
   CHECK(sf_take_head(&head, &rest) == SF_OK && head.faults.length == 1);
   CHECK(says(&faults[0], 40,
-             "not a field line: no colon after the name\nline 13, place 6:\nFolded\n      ^"));
+             "line 13, place 6: not a field line: no colon after the name\nFolded\n      ^"));
   CHECK(head.is_request == 1 && head.status == 0);
 
   sf_priority_flags client = {7, 7, 7, 7};
   CHECK(sf_find_priority(&context, &head, &client) == SF_OK && head.joined.length == 0);
   CHECK(client.urgency == 3 && !client.incremental && !client.has_urgency && !client.has_incremental);
   CHECK(says(&faults[0], 40,
-             "Priority: byte 0x2c ',' at place 12, expected a letter, a digit, a quote, `(`, `*`, "
-             "`-`, `:` or `?`\nline 9, place 12:\npriority: i=,\n            ^"));
+             "line 9, place 12: Priority: byte 0x2c ',', expected a letter, a digit, a quote, `(`, `*`, "
+             "`-`, `:` or `?`\npriority: i=,\n            ^"));
   CHECK(faults[0].reason == SF_FAULT_REFUSED && faults[0].location.refusal.offset == 12);
   CHECK(faults[0].location.number == 9 && faults[0].location.index == 1);
   CHECK(is(faults[0].location.line, "priority: i=,"));
@@ -987,8 +1336,8 @@ static void fields_of_a_head(void) {
   sf_node nodes[4];
   sf_tree tree = sf_tree_in(SF_NODES(nodes), SF_BUFFER(text));
   CHECK(sf_find_tree(&context, SF_DICT, &head, "Example", &tree) == SF_OK && tree.nodes.length == 0);
-  CHECK(says(&faults[1], 6, "Example: byte 0x32 '2' at place 16, expected `0` or `1`\n"
-                            "line 10, place 16:\n1;b=?2\n     ^"));
+  CHECK(says(&faults[1], 6, "line 10, place 16: Example: byte 0x32 '2', expected `0` or `1`\n"
+                            "1;b=?2\n     ^"));
   CHECK(sf_check_field(&context, SF_DICT, &head, "Example") == SF_REFUSED);
   CHECK(head.faults.length == 3 && context.refusal.offset == 7);
   CHECK(sf_check_field(&context, SF_ITEM, &head, "name") == SF_OK && head.faults.length == 3);
@@ -1028,6 +1377,24 @@ static void fields_of_a_head(void) {
   CHECK(strcmp(faults[1].field, "Example") == 0 && strcmp(faults[2].field, "example") == 0);
   CHECK(sf_is_named(&lines[2], "EXAMPLE") && !sf_is_named(&lines[2], "Exampl"));
   CHECK(!sf_is_named(&lines[2], "Examples") && !sf_is_named(&lines[2], ""));
+
+  /* faults at the same place of two lines of a field, which is read as two kinds */
+  {
+    sf_head_line two_lines[2];
+    char joined[16];
+    sf_fault two[3];
+    sf_head both = sf_head_in(SF_HEAD_LINES(two_lines), SF_BUFFER(joined));
+    both.faults = SF_FAULTS(two);
+    CHECK(sf_add_head_line(&both, sf_cstr("A: (1)")) == SF_OK);
+    CHECK(sf_add_head_line(&both, sf_cstr("A: )")) == SF_OK);
+    for (int twice = 0; twice < 2; ++twice) {
+      CHECK(sf_check_field(&context, SF_LIST, &both, "A") == SF_REFUSED);
+      CHECK(sf_check_field(&context, SF_DICT, &both, "A") == SF_REFUSED);
+    }
+    CHECK(both.faults.length == 2 && both.faults.required == 2);
+    CHECK(two[0].location.number == 1 && two[0].location.refusal.offset == 3);
+    CHECK(two[1].location.number == 2 && two[1].location.refusal.offset == 3);
+  }
 
   /* when there is no capacity for faults, they are counted */
   head.faults = sf_faults_of(faults, 1);
@@ -1081,27 +1448,34 @@ static void faults_of_decisions(void) {
       {"Age: 5\nCache-Control: max-age=60, a=\"b\\\"c\" , ,d\t,\nDate: Sun, 06 Nov 1994 08:49:37 GMT\n",
        {NULL}},
       {"T: max-age=60,\nAge: \t90x \n",
-       {"T: the text ended at place 14, expected a lower-case letter, `*`, a tab or a space\n"
-        "line 1, place 14:\nT: max-age=60,\n              ^",
-        "Age: expected a number of seconds\nline 2, place 6:\nAge: ?90x \n      ^"}},
-      {"Age:\nAge: 5\n", {"Age: expected a number of seconds\nline 1, place 4:\nAge:\n    ^"}},
+       {"line 1, place 14: T: the text ended, expected a lower-case letter, `*`, a tab or a space\n"
+        "T: max-age=60,\n              ^",
+        "line 2, place 8: Age: expected a number of seconds\nAge: ?90x \n        ^"}},
+      {"Age:\nAge: 5\n", {"line 1, place 4: Age: expected a number of seconds\nAge:\n    ^"}},
+      {"Age: \t \n", {"line 1, place 7: Age: expected a number of seconds\nAge: ? \n       ^"}},
+      {"Age: , 20\n", {"line 1, place 5: Age: expected a number of seconds\nAge: , 20\n     ^"}},
+      {"Age:\t12 3 ,4\n", {"line 1, place 7: Age: expected a number of seconds\nAge:?12 3 ,4\n       ^"}},
+      {"Age: \xe9\n", {"line 1, place 5: Age: expected a number of seconds\nAge: ?\n     ^"}},
+      {"Age: -5, x\n", {"line 1, place 5: Age: expected a number of seconds\nAge: -5, x\n     ^"}},
+      {"Age: 1.5\n", {"line 1, place 6: Age: expected a number of seconds\nAge: 1.5\n      ^"}},
+      {"Age: 20\t, x\n", {NULL}},
       {"Age: 5\nAge: x\n", {NULL}},
       {"T: max-age=1\nCache-Control: a b\nExpires: 0\nDate: x\n", {NULL}}, /* they are not read */
       {"Expires:  0 \nDate: Sun\n",
-       {"Expires: expected an HTTP-date, such as Sun, 06 Nov 1994 08:49:37 GMT\nline 1, place 10:\nExpires:  0 \n          ^",
-        "Date: expected an HTTP-date, such as Sun, 06 Nov 1994 08:49:37 GMT\nline 2, place 6:\nDate: Sun\n      ^"}},
+       {"line 1, place 10: Expires: expected an HTTP-date, such as Sun, 06 Nov 1994 08:49:37 GMT\nExpires:  0 \n          ^",
+        "line 2, place 6: Date: expected an HTTP-date, such as Sun, 06 Nov 1994 08:49:37 GMT\nDate: Sun\n      ^"}},
       {"Expires: Sun, 06 Nov 1994 08:49:37 GMT\nExpires: Sun, 06 Nov 1994 08:49:37 GMT\nexpires: x\n",
-       {"Expires: there are several lines\nline 2, place 9:\nExpires: Sun, 06 Nov 1994 \n         ^"}},
+       {"line 2, place 9: Expires: there are several lines\nExpires: Sun, 06 Nov 1994 \n         ^"}},
       {"Date: x\nDate: Sun, 06 Nov 1994 08:49:37 GMT\nDate: x\n",
-       {"Date: expected an HTTP-date, such as Sun, 06 Nov 1994 08:49:37 GMT\nline 1, place 6:\nDate: x\n      ^",
-        "Date: there are several lines\nline 2, place 6:\nDate: Sun, 06 Nov 1994 08:\n      ^"}},
+       {"line 1, place 6: Date: expected an HTTP-date, such as Sun, 06 Nov 1994 08:49:37 GMT\nDate: x\n      ^",
+        "line 2, place 6: Date: there are several lines\nDate: Sun, 06 Nov 1994 08:\n      ^"}},
       {"Cache-Control: a b\nCache-Control: c d\n",
-       {"Cache-Control: byte 0x62 'b' at place 17, expected `,`, a tab, a space or the end\n"
-        "line 1, place 17:\nCache-Control: a b\n                 ^"}},
+       {"line 1, place 17: Cache-Control: byte 0x62 'b', expected `,`, a tab, a space or the end\n"
+        "Cache-Control: a b\n                 ^"}},
       {"Cache-Control:a=\n",
-       {"Cache-Control: the text ended at place 16, expected a key character, an upper-case letter, "
+       {"line 1, place 16: Cache-Control: the text ended, expected a key character, an upper-case letter, "
         "`!`, a quote, `#`, `$`, `%`, `&`, `'`, `+`, `^`, a backquote, `|` or `~`\n"
-        "line 1, place 16:\nCache-Control:a=\n                ^"}},
+        "Cache-Control:a=\n                ^"}},
   };
   static const struct {
     const char *line;
@@ -1154,6 +1528,15 @@ static void faults_of_decisions(void) {
       CHECK((*byte < 64 ? refusal->expected_low >> *byte : refusal->expected_high >> (*byte - 64)) & 1);
     for (const char *byte = places[i].barred; *byte != 0; ++byte)
       CHECK(!((*byte < 64 ? refusal->expected_low >> *byte : refusal->expected_high >> (*byte - 64)) & 1));
+  }
+  /* the place in an Age whose value the program did not trim */
+  {
+    sf_head age = sf_head_in(SF_HEAD_LINES(lines), sf_buffer_of(NULL, 0));
+    age.faults = SF_FAULTS(faults);
+    CHECK(sf_add_head_line(&age, sf_cstr("Age: \t7x")) == SF_OK);
+    lines[0].value = sf_text_of(lines[0].received.at + 4, 4);
+    CHECK(sf_decide_response(&context, &age, NULL, 0, &exchange, &verdict) == SF_OK);
+    CHECK(says(&faults[0], 26, "line 1, place 7: Age: expected a number of seconds\nAge: ?7x\n       ^"));
   }
   /* a call that fails loses no fault of a later line */
   sf_head head = sf_head_in(SF_HEAD_LINES(lines), sf_buffer_of(NULL, 0));
@@ -1224,8 +1607,9 @@ static void responses(void) {
       CHECK(field == NULL || strcmp(verdict.field, field) == 0);
       /* 200 is heuristically cacheable, so that only a directive can forbid it */
       CHECK(verdict.may_store == (row->decision.reuse != SF_REUSE_NOT_STORED));
-      CHECK(verdict.obstacle ==
-            (uint32_t)(verdict.may_store ? SF_NO_OBSTACLE : SF_BARRED_DIRECTIVE));
+      CHECK(verdict.obstacle == (uint32_t)(verdict.may_store  ? SF_NO_OBSTACLE
+                                           : row->row == 73   ? SF_BARRED_MALFORMED
+                                                              : SF_BARRED_DIRECTIVE));
       CHECK(verdict.age == (row->response.age < UINT64_C(2147483648) ? row->response.age
                                                                      : UINT64_C(2147483648)));
       for (size_t k = 0; k < 2; ++k) {
@@ -1389,9 +1773,10 @@ static void lifetimes(void) {
  * "a status code that is defined as heuristically cacheable". Those of RFC 9110 section 15.1 are
  * "200, 203, 204, 206, 300, 301, 308, 404, 405, 410, 414, and 501". */
 static void storing(void) {
+  enum { HAS = 1, MAY_HAVE = 2 }; /* Authorization */
   static const struct {
     const char *line;
-    uint32_t cache, status, is_understood, is_authorized, obstacle;
+    uint32_t cache, status, is_understood, authorization, obstacle;
   } rows[] = {
       {"Cache-Control: max-age=60", SF_SHARED_CACHE, 200, 0, 0, SF_NO_OBSTACLE},
       {"Cache-Control: max-age=60", SF_SHARED_CACHE, 500, 0, 0, SF_NO_OBSTACLE},
@@ -1419,6 +1804,18 @@ static void storing(void) {
       {"Expires: 0", SF_SHARED_CACHE, 500, 0, 0, SF_NO_OBSTACLE},
       {"T: x", SF_SHARED_CACHE, 500, 0, 0, SF_BARRED_UNPERMITTED},
       {"T: max-age=60", SF_SHARED_CACHE, 500, 0, 0, SF_NO_OBSTACLE},
+      {"T: max-age=60", SF_SHARED_CACHE, 200, 0, MAY_HAVE, SF_BARRED_REQUEST_HEAD},
+      {"T: max-age=60", SF_SHARED_CACHE, 200, 0, HAS | MAY_HAVE, SF_BARRED_REQUEST},
+      {"T: max-age=60", SF_PRIVATE_CACHE, 200, 0, HAS | MAY_HAVE, SF_NO_OBSTACLE},
+      {"T: max-age=60, must-revalidate", SF_SHARED_CACHE, 200, 0, MAY_HAVE, SF_NO_OBSTACLE},
+      {"Cache-Control: public", SF_SHARED_CACHE, 500, 0, MAY_HAVE, SF_NO_OBSTACLE},
+      {"Cache-Control: no-store", SF_SHARED_CACHE, 200, 0, MAY_HAVE, SF_BARRED_DIRECTIVE},
+      {"Cache-Control: max-age=60", SF_SHARED_CACHE, 103, 0, MAY_HAVE, SF_BARRED_STATUS},
+      {"X: y", SF_SHARED_CACHE, 500, 0, MAY_HAVE, SF_BARRED_REQUEST_HEAD},
+      {"Cache-Control: a b", SF_SHARED_CACHE, 200, 0, 0, SF_BARRED_MALFORMED},
+      {"Cache-Control: a b", SF_PRIVATE_CACHE, 103, 1, HAS | MAY_HAVE, SF_BARRED_MALFORMED},
+      {"Cache-Control: no-store, a b", SF_SHARED_CACHE, 200, 0, 0, SF_BARRED_MALFORMED},
+      {"T: a b", SF_SHARED_CACHE, 200, 0, 0, SF_NO_OBSTACLE}, /* a target that is ignored */
   };
   static const uint32_t heuristic[] = {200, 203, 204, 206, 300, 301, 308, 404, 405, 410, 414, 501};
   sf_context context = sf_context_of(seed, SF_RFC8941);
@@ -1430,7 +1827,8 @@ static void storing(void) {
     sf_exchange exchange = sf_exchange_of((sf_cache)rows[i].cache, 0);
     exchange.status = rows[i].status;
     exchange.is_understood = rows[i].is_understood;
-    exchange.is_authorized = rows[i].is_authorized;
+    exchange.is_authorized = rows[i].authorization & HAS;
+    exchange.is_request_incomplete = rows[i].authorization & MAY_HAVE;
     CHECK(sf_add_head_line(&head, sf_cstr(rows[i].line)) == SF_OK);
     CHECK(sf_decide_response(&context, &head, &target, 1, &exchange, &verdict) == SF_OK);
     CHECK(verdict.obstacle == rows[i].obstacle);
@@ -1438,10 +1836,19 @@ static void storing(void) {
     /* a line that is no field line may have had a directive */
     head.is_incomplete = 1;
     CHECK(sf_decide_response(&context, &head, &target, 1, &exchange, &verdict) == SF_OK);
-    CHECK(verdict.obstacle == (rows[i].obstacle == SF_BARRED_DIRECTIVE
-                                   ? (uint32_t)SF_BARRED_DIRECTIVE
-                                   : (uint32_t)SF_BARRED_HEAD));
+    int is_directive =
+        rows[i].obstacle == SF_BARRED_DIRECTIVE || rows[i].obstacle == SF_BARRED_MALFORMED;
+    CHECK(verdict.obstacle == (is_directive ? rows[i].obstacle : (uint32_t)SF_BARRED_HEAD));
     CHECK(verdict.may_store == 0);
+  }
+  /* a target that decides before a Cache-Control that is malformed, which is not read */
+  {
+    sf_head both = sf_head_in(SF_HEAD_LINES(lines), sf_buffer_of(NULL, 0));
+    sf_exchange at = sf_exchange_of(SF_SHARED_CACHE, 0);
+    CHECK(sf_add_head_line(&both, sf_cstr("T: private")) == SF_OK);
+    CHECK(sf_add_head_line(&both, sf_cstr("Cache-Control: a b")) == SF_OK);
+    CHECK(sf_decide_response(&context, &both, &target, 1, &at, &verdict) == SF_OK);
+    CHECK(verdict.obstacle == SF_BARRED_DIRECTIVE && verdict.is_refused == 0);
   }
   /* beside a targeted field Expires does not count (RFC 9213 section 2.2) */
   sf_head head = sf_head_in(SF_HEAD_LINES(lines), sf_buffer_of(NULL, 0));
@@ -1485,6 +1892,9 @@ static void storing(void) {
   CHECK(strcmp(sf_obstacle_name(SF_BARRED_UNPERMITTED), "nothing permits it") == 0);
   CHECK(strcmp(sf_obstacle_name(SF_BARRED_NO_RESPONSE), "the head is that of a request") == 0);
   CHECK(strcmp(sf_obstacle_name(SF_BARRED_HEAD), "the head is incomplete") == 0);
+  CHECK(strcmp(sf_obstacle_name(SF_BARRED_MALFORMED), "Cache-Control is malformed") == 0);
+  CHECK(strcmp(sf_obstacle_name(SF_BARRED_REQUEST_HEAD),
+               "the request may have had Authorization, as its head is incomplete") == 0);
   CHECK(strcmp(sf_obstacle_name(SF_NO_OBSTACLE), "") == 0 && strcmp(sf_obstacle_name(0), "") == 0);
 }
 
@@ -1618,6 +2028,51 @@ static void paths(void) {
   CHECK(sf_write_hop(&context, &own, &out) == SF_OK);
   CHECK(is(sf_written(&out), "ExampleCache;hit;detail=MEMORY"));
 
+  /* a hop of a list as the canonical text of its member */
+  static const struct {
+    const char *member, *text;
+  } members[] = {
+      {"edge; ttl=30; hit", "edge;hit;ttl=30"},
+      {"\"a, \\\"b\"", "\"a, \\\"b\""},
+      {"a;fwd=stale;fwd-status=304;collapsed;stored=?0;ttl=-1;key=\"k\";detail=D",
+       "a;fwd=stale;fwd-status=304;ttl=-1;stored=?0;collapsed;key=\"k\";detail=D"},
+      {"a;fwd=x-y;detail=\"d e\"", "a;fwd=x-y;detail=\"d e\""},
+      {"a;hit;fwd=miss", "a;hit;fwd=miss"},
+      {"a;x=1;hit=?0;y", "a"},                                      /* not kept */
+      {"a;hit=1;ttl=1.5;key=k;detail=(", NULL},                      /* malformed */
+      {"a;hit=1;ttl=1.5;key=k;detail=1;fwd-status=304;stored", "a"}, /* count as absent */
+      {"a;fwd=\"miss\"", "a"},
+      {"a;fwd=miss;fwd-status=99", "a;fwd=miss"},
+      {"*/:", "*/:"},
+  };
+  for (size_t i = 0; i < sizeof members / sizeof *members; ++i) {
+    char both[128];
+    size_t length = (size_t)snprintf(both, sizeof both, "before;hit;key=\"0\", %s", members[i].member);
+    sf_status status = sf_read_hops(&context, sf_text_of(both, length), &list);
+    CHECK(status == (members[i].text == NULL ? SF_REFUSED : SF_OK));
+    CHECK(list.hops.length == (members[i].text == NULL ? 0 : 2));
+    if (members[i].text == NULL)
+      continue;
+    length = strlen(members[i].text);
+    CHECK(sf_write_hop_in(&list, &hops[1], &out) == SF_OK && is(sf_written(&out), members[i].text));
+    CHECK(out.length <= SF_HOP_SIZE(list.bytes.length));
+    sf_buffer less = sf_buffer_of(text, length - 1);
+    CHECK(sf_write_hop_in(&list, &hops[1], &less) == SF_SHORT && less.required == length);
+    CHECK(sf_write_hop_in(&list, &hops[1], &empty) == SF_SHORT && empty.length == 0);
+    CHECK(sf_write_hop_in(&list, &hops[0], &out) == SF_OK);
+    CHECK(is(sf_written(&out), "before;hit;key=\"0\""));
+  }
+  memset(bytes, 'a', sizeof bytes);
+  hops[1].name.at = 1;
+  hops[1].name.length = list.bytes.length - 1;
+  CHECK(sf_write_hop_in(&list, &hops[1], &out) == SF_OK && out.length == list.bytes.length - 1);
+  ++hops[1].name.length; /* past the bytes of the list, but not past their buffer */
+  CHECK(sf_write_hop_in(&list, &hops[1], &out) == SF_INVALID && out.length == 0);
+  memset(&hops[1], 0xff, sizeof hops[1]);
+  CHECK(sf_write_hop_in(&list, &hops[1], &out) == SF_INVALID);
+  list = sf_hop_list_in(sf_hops_of(NULL, 0), sf_buffer_of(NULL, 0));
+  CHECK(sf_write_hop_in(&list, &hops[0], &out) == SF_INVALID);
+
   /* what came with the own hop, or that alone, and which of the two */
   uint32_t is_appended = 7;
   own = sf_hop_named("ExampleCache", SF_TOKEN);
@@ -1643,6 +2098,7 @@ static void paths(void) {
 }
 
 int main(void) {
+  seeds();
   texts_and_buffers();
   lines();
   checking();
@@ -1656,6 +2112,8 @@ int main(void) {
   ages();
   heads();
   whole_heads();
+  messages_of_faults();
+  heads_in_memory();
   verdicts_in_words();
   parts_of_trees();
   fields_of_a_head();

@@ -32,7 +32,6 @@
 #include <ngx_core.h>
 #include <ngx_http.h>
 #include <sf.h>
-#include <sys/random.h>
 
 typedef struct {
   ngx_array_t *names; /* of ngx_str_t; NGX_CONF_UNSET_PTR before the settings are merged */
@@ -518,7 +517,7 @@ static char *set_cache_name(ngx_conf_t *conf, ngx_command_t *command, void *at) 
 /* Each worker has a seed of its own, which clients can't predict. */
 static ngx_int_t init_worker(ngx_cycle_t *cycle) {
   sf_seed seed;
-  if (getrandom(&seed, sizeof seed, 0) == (ssize_t)sizeof seed) {
+  if (sf_random_seed(&seed)) {
     fields = sf_context_of(seed, SF_RFC8941); /* that the RFCs of the fields cite */
     return NGX_OK;
   }
