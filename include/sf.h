@@ -119,15 +119,19 @@ enum {
 /* The result of a call. */
 typedef enum sf_status {
   SF_OK = 0,             /* success */
-  SF_REFUSED = 1,        /* the text is malformed: sf_refusal says where and why */
+  SF_REFUSED = 1,        /* the text is malformed: sf_refusal says where and why; of Cache-Control, a
+                            line is no list of directives */
   SF_SECOND_REFUSED = 2, /* of two texts, the first is well-formed and the second is malformed */
   SF_SHORT = 3,          /* a buffer is too small */
   SF_NO_MEMORY = 4,      /* malloc or realloc failed */
-  SF_EMPTY = 5,          /* the field has no members; of sf_select, every field is ignored */
-  SF_BAD_CALL = 6,       /* no such kind or dialect, or a length or range past its buffer */
+  SF_EMPTY = 5,          /* the field has no members; of a target list, each field is ignored; of
+                            Expires, there is no line */
+  SF_BAD_CALL = 6,       /* no such kind, dialect, cache or field, or a length or range past its
+                            buffer */
   SF_NOT_A_CACHE = 7,    /* a member of a Cache-Status List does not name a cache */
-  SF_INVALID = 8,        /* the nodes or the hop to be written are not valid */
-  SF_ABSENT = 9,         /* no node has the key; of an sf_target, it was not read */
+  SF_INVALID = 8,        /* the nodes, the hop or the priority to be written are not valid; of a
+                            decision, seconds are passed whose flag is 0 */
+  SF_ABSENT = 9,         /* no node has the role and the key; of an sf_target, it was not read */
   SF_TOO_LONG = 10,      /* the text has 4 GiB or more, or an offset would have to be that large */
   SF_TOO_MANY = 11       /* the value has more nodes than the caller allows */
 } sf_status;
@@ -1558,7 +1562,8 @@ typedef enum sf_reuse {
                                 disconnected, or if the client or the origin permits it (4.2.4) */
   SF_REUSE_REVALIDATE = 44,  /* it may be stored, by SF_BY_NO_CACHE only if its status code, Expires
                                 or allows_storing permits it (3); it is never used without
-                                validation: if that fails, the answer is an error (5.2.2.2) */
+                                validation: if the cache is disconnected, the answer is an error
+                                (5.2.2.2) */
   SF_REUSE_UNSPECIFIED = 45  /* no directive sets a lifetime: it may be stored if its status code or
                                 allows_storing permits it, and a heuristic may apply (4.2.2) */
 } sf_reuse;
