@@ -1,38 +1,43 @@
 //! What a proxy concludes from the heads of a request and its response, which are in two files as
-//! they were received: `head REQUEST RESPONSE`.
+//! they were received: `head REQUEST RESPONSE`. Standard error shows what is malformed in them.
 
-use sf::{Cache, Dialect, Exchange, Forward, Head, Parser, Path, TokenRef};
+use sf::{Cache, Dialect, Dictionary, Exchange, Forward, Head, InnerList, Key, Parser, TokenRef};
 use std::error::Error;
 use std::io::{self, Write};
 
 /// The targeted fields that this cache obeys, in order (RFC 9213 section 2.2).
 const TARGETS: [&str; 2] = ["ExampleCDN-Cache-Control", "CDN-Cache-Control"];
 
-/// Where the response came from (RFC 9211).
-fn source(path: &Path) -> String {
-    if let Some(hop) = path.served_hop() {
-        let ttl = hop.ttl.map(|ttl| match ttl.get() {
-            0.. => format!(", fresh for {ttl} s more"),
-            ttl => format!(", stale for {} s", -ttl),
-        });
-        return format!("served by {}{}", hop.name, ttl.unwrap_or_default());
-    }
-    match path.hops().last() {
-        None => "no cache is named".to_string(),
-        Some(hop) => format!("{}: {}", hop.name, hop.outcome),
-    }
+/// The contents of a file.
+fn read(name: &str) -> Result<Vec<u8>, String> {
+    std::fs::read(name).map_err(|error| format!("{name}: {error}"))
 }
 
-/// The contents of a file that the command line names.
-fn read(name: Option<String>) -> Result<Vec<u8>, String> {
-    let name = name.ok_or("usage: head REQUEST RESPONSE")?;
-    std::fs::read(&name).map_err(|error| format!("{name}: {error}"))
+/// Writes what a signature covers, and three of its parameters (RFC 9421 sections 2 and 2.3).
+fn write_signature(out: &mut impl Write, label: &Key, covered: &InnerList) -> io::Result<()> {
+    write!(out, "{label} covers")?;
+    for component in &covered.items {
+        write!(out, " {component}")?;
+    }
+    if let Some(created) = covered.params.integer("created") {
+        write!(out, ", created {created}")?;
+    }
+    for name in ["keyid", "alg"] {
+        if let Some(text) = covered.params.string(name) {
+            write!(out, ", {name} {text}")?;
+        }
+    }
+    writeln!(out)
 }
 
 fn main() -> Result<(), Box<dyn Error>> {
-    let mut names = std::env::args().skip(1);
-    let (request, response) = (read(names.next())?, read(names.next())?);
-    // The RFCs of the three fields cite RFC 8941, and RFC 9651 adds no types to them.
+    let names: Vec<String> = std::env::args().skip(1).collect();
+    let (request_name, response_name) = match &names[..] {
+        [request, response] => (request, response),
+        _ => return Err("usage: head REQUEST RESPONSE".into()),
+    };
+    let (request, response) = (read(request_name)?, read(response_name)?);
+    // The RFCs of the fields cite RFC 8941, and RFC 9651 adds no types to them.
     let parser = Parser::new().with_dialect(Dialect::Rfc8941);
     let mut request = Head::parse(parser, &request)?;
     let mut response = Head::parse(parser, &response)?;
@@ -43,19 +48,36 @@ fn main() -> Result<(), Box<dyn Error>> {
     let how = ["", ", incremental"][usize::from(both.incremental())];
     writeln!(out, "urgency {}{how}", both.urgency())?;
 
-    writeln!(out, "{}", source(&response.path()?))?;
+    // The caches that the response came through, the one nearest the origin first (RFC 9211).
+    let path = response.path()?;
+    for hop in path.hops() {
+        writeln!(out, "came through {hop}")?;
+    }
+    if let Some(hop) = path.served_hop() {
+        writeln!(out, "served by {}", hop.name)?;
+    }
 
     // What a shared cache does with the response (RFC 9213 and RFC 9111).
     let exchange = Exchange::now(Cache::Shared).with_request(&request);
     let verdict = response.decide(&exchange, &TARGETS)?;
     writeln!(out, "{verdict}")?;
 
+    let signatures: Dictionary = request.field("Signature-Input")?.unwrap_or_default();
+    for (label, member) in &signatures {
+        match member.as_inner_list() {
+            Some(covered) => write_signature(&mut out, label, covered)?,
+            None => writeln!(out, "{label} is no signature")?,
+        }
+    }
+
     // The field that it sends on, in the place of the lines that were received.
     let hop = verdict.hop(TokenRef::constant("ExampleCDN"), Forward::UriMiss);
     writeln!(out, "Cache-Status: {}", response.append_or_replace(&hop)?)?;
 
-    for malformed in request.malformed().iter().chain(response.malformed()) {
-        writeln!(io::stderr(), "{}", malformed.excerpt(60))?;
+    for (name, head) in [(request_name, &request), (response_name, &response)] {
+        for malformed in head.malformed() {
+            writeln!(io::stderr(), "{}", malformed.excerpt_in(name, 60))?;
+        }
     }
     Ok(())
 }

@@ -29,6 +29,13 @@ pub(crate) fn append<T: Clone>(buffer: &mut Vec<T>, more: &[T]) -> Result<(), Er
     Ok(())
 }
 
+/// Appends an element to a buffer that may be lengthened again, so that it is seldom moved.
+pub(crate) fn push<T>(buffer: &mut Vec<T>, one: T) -> Result<(), Error> {
+    buffer.try_reserve(1).map_err(|_| Error::OutOfMemory)?;
+    buffer.push(one);
+    Ok(())
+}
+
 /// Makes space for so many elements more.
 pub(crate) fn reserve<T>(buffer: &mut Vec<T>, more: usize) -> Result<(), Error> {
     buffer

@@ -1,5 +1,4 @@
 use crate::ffi;
-use crate::malformed::Fault;
 use crate::short::Short;
 use core::fmt;
 use sf_sys as raw;
@@ -186,9 +185,7 @@ impl Refusal {
     #[must_use]
     pub fn excerpt<'a>(&self, text: &'a (impl AsRef<[u8]> + ?Sized), most: usize) -> Excerpt<'a> {
         Excerpt {
-            field: "",
-            fault: Fault::Refused(*self),
-            offset: self.offset,
+            refusal: *self,
             line: None,
             text: text.as_ref(),
             most,
@@ -233,14 +230,10 @@ impl Refusal {
 /// ```
 #[derive(Clone, Copy, Debug)]
 pub struct Excerpt<'a> {
-    /// The name of the field; empty if it is not told.
-    pub(crate) field: &'a str,
-    pub(crate) fault: Fault,
-    /// The place in the text.
-    pub(crate) offset: u64,
-    pub(crate) line: Option<usize>,
-    pub(crate) text: &'a [u8],
-    pub(crate) most: usize,
+    refusal: Refusal,
+    line: Option<usize>,
+    text: &'a [u8],
+    most: usize,
 }
 
 impl Excerpt<'_> {
@@ -262,30 +255,36 @@ impl Excerpt<'_> {
 
 impl fmt::Display for Excerpt<'_> {
     fn fmt(&self, f: &mut fmt::Formatter<'_>) -> fmt::Result {
-        let length = self.text.len();
-        let at = usize::try_from(self.offset).map_or(length, |offset| offset.min(length));
-        let from = at
-            .saturating_sub(self.most / 2)
-            .min(length.saturating_sub(self.most));
-        let shown = &self.text[from..length.min(from.saturating_add(self.most))];
-        if !self.field.is_empty() {
-            write!(f, "{}: ", self.field)?;
-        }
-        write!(f, "{}", self.fault)?;
+        write!(f, "{}", self.refusal)?;
         if let Some(line) = self.line {
-            write!(f, "\nline {line}, place {}:", self.offset)?;
+            write!(f, "\nline {line}, place {}:", self.refusal.offset)?;
         }
-        f.write_str("\n")?;
-        for byte in shown {
-            let is_printable = matches!(byte, b' '..=b'~');
-            write!(f, "{}", if is_printable { char::from(*byte) } else { '?' })?;
-        }
-        f.write_str("\n")?;
-        for _ in from..at {
-            f.write_str(" ")?;
-        }
-        f.write_str("^")
+        let offset = usize::try_from(self.refusal.offset).unwrap_or(usize::MAX);
+        write_excerpt(f, self.text, offset, self.most)
     }
+}
+
+/// Writes two lines, each after a line feed: at most so many bytes of a text around the place, and
+/// a caret below it.
+pub(crate) fn write_excerpt(
+    f: &mut fmt::Formatter<'_>,
+    text: &[u8],
+    offset: usize,
+    most: usize,
+) -> fmt::Result {
+    let length = text.len();
+    let at = offset.min(length);
+    let from = at.saturating_sub(most / 2).min(length.saturating_sub(most));
+    f.write_str("\n")?;
+    for byte in &text[from..length.min(from.saturating_add(most))] {
+        let is_printable = matches!(byte, b' '..=b'~');
+        write!(f, "{}", if is_printable { char::from(*byte) } else { '?' })?;
+    }
+    f.write_str("\n")?;
+    for _ in from..at {
+        f.write_str(" ")?;
+    }
+    f.write_str("^")
 }
 
 impl From<&raw::Refusal> for Refusal {
@@ -324,6 +323,21 @@ impl fmt::Display for Refusal {
             Ok(message) => f.pad(message.as_str()),
             // Out of memory: `format!` would panic if this returned an error.
             Err(_) => write!(f, "malformed at place {}", self.offset),
+        }
+    }
+}
+
+impl Refusal {
+    /// Writes the error message without the place, for messages that have it elsewhere.
+    #[cfg(feature = "alloc")]
+    pub(crate) fn write_without_place(&self, f: &mut fmt::Formatter<'_>) -> fmt::Result {
+        let refusal = Refusal { offset: 0, ..*self };
+        match Short::<MESSAGE_SIZE>::written(|buffer| ffi::refusal_text(&refusal, buffer)) {
+            Ok(message) => {
+                let mut parts = message.as_str().split(" at place 0");
+                parts.try_for_each(|part| f.write_str(part))
+            }
+            Err(_) => f.write_str("malformed"), // out of memory, as above
         }
     }
 }
@@ -448,8 +462,8 @@ impl fmt::Display for Error {
             Error::OtherType => f.write_str("the value is of another type"),
             Error::Empty => f.write_str("the field has no members"),
             Error::NotACache { index, .. } => write!(f, "member {index} does not name a cache"),
-            Error::Invalid => f.write_str("not a value of a structured field"),
-            Error::TooLong => f.write_str("4 GiB or more"),
+            Error::Invalid => f.write_str("the value is out of range or not allowed"),
+            Error::TooLong => f.write_str("the text or the value has 4 GiB or more"),
             Error::TooSmall { nodes, bytes } => {
                 write!(f, "space for {nodes} nodes and {bytes} bytes is required")
             }

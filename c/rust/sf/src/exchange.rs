@@ -35,6 +35,7 @@ use core::fmt;
 /// );
 /// ```
 #[derive(Clone, Copy, Debug, PartialEq, Eq, Hash)]
+#[allow(clippy::struct_excessive_bools)] // they are facts, each by its name
 pub struct Exchange {
     /// Who uses what the cache stores.
     pub cache: Cache,
@@ -46,6 +47,9 @@ pub struct Exchange {
     pub is_understood: bool,
     /// Whether the request had `Authorization` (section 3.5).
     pub is_authorized: bool,
+    /// Whether a line of the request's head is no field line, or that head did not end: it may have
+    /// had `Authorization`. [`Exchange::with_request`] sets it.
+    pub is_request_incomplete: bool,
     /// Whether a line of the head is no field line ([`crate::split_field_line`]), or the head did not
     /// end: a directive may be missing.
     pub is_incomplete: bool,
@@ -59,7 +63,8 @@ pub struct Exchange {
 
 impl Exchange {
     /// A response that is received and used at this time, and the request was sent then. Its status
-    /// code is not known, nor understood, and the request had no `Authorization`.
+    /// code is not known, nor understood, and the request had no `Authorization`. Both heads are
+    /// complete.
     ///
     /// ```
     /// use sf::{Cache, Exchange};
@@ -76,6 +81,7 @@ impl Exchange {
             status: None,
             is_understood: false,
             is_authorized: false,
+            is_request_incomplete: false,
             is_incomplete: false,
             requested: now,
             received: now,
@@ -143,17 +149,28 @@ impl Exchange {
         }
     }
 
-    /// The same with whether the request had `Authorization`, by its head. If a line of that head is
-    /// no field line, or it did not end, it may have had the field, and so it counts.
+    /// The same with what the head of the request says: [`Exchange::is_authorized`] and
+    /// [`Exchange::is_request_incomplete`].
     ///
     /// ```
-    /// use sf::{Cache, Exchange, Head, Parser};
-    /// let request = Head::parse(Parser::new(), "GET / HTTP/1.1\r\nAuthorization: a\r\n\r\n").unwrap();
-    /// assert!(Exchange::at(Cache::Shared, 784_111_777).with_request(&request).is_authorized);
+    /// use sf::{Cache, Exchange, Head, Obstacle, Parser};
+    /// let obstacle = |request| {
+    ///     let request = Head::parse(Parser::new(), request).unwrap();
+    ///     let exchange = Exchange::at(Cache::Shared, 784_111_777).with_request(&request);
+    ///     exchange.decide(&[], [("Cache-Control", "max-age=60")]).unwrap().obstacle
+    /// };
+    /// let authorized = obstacle("GET / HTTP/1.1\r\nAuthorization: a\r\n\r\n");
+    /// assert_eq!(authorized, Some(Obstacle::Authorization));
+    /// assert_eq!(obstacle("GET / HTTP/1.1\r\n"), Some(Obstacle::RequestHead));
+    /// assert_eq!(obstacle("GET / HTTP/1.1\r\n\r\n"), None);
     /// ```
     #[must_use]
     pub fn with_request(self, request: &Head<'_>) -> Exchange {
-        self.with_authorization(request.is_incomplete() || request.has_field("Authorization"))
+        Exchange {
+            is_authorized: request.has_field("Authorization"),
+            is_request_incomplete: request.is_incomplete(),
+            ..self
+        }
     }
 
     /// The same with whether a line of the head is no field line, or the head did not end. A
@@ -275,9 +292,18 @@ impl Exchange {
     }
 
     /// Why the response may not be stored, by all but the method (RFC 9111 section 3).
-    fn obstacle(&self, decision: &Decision, has_expires: bool) -> Option<Obstacle> {
+    fn obstacle(
+        &self,
+        decision: &Decision,
+        is_refused: bool,
+        has_expires: bool,
+    ) -> Option<Obstacle> {
         if decision.reuse == Reuse::NotStored {
-            return Some(Obstacle::Directive);
+            return Some(if is_refused {
+                Obstacle::Malformed
+            } else {
+                Obstacle::Directive
+            });
         }
         if self.is_incomplete {
             return Some(Obstacle::Incomplete);
@@ -285,9 +311,13 @@ impl Exchange {
         if !self.is_storable() {
             return Some(Obstacle::Status);
         }
-        let is_for_one = self.is_authorized && self.cache == Cache::Shared;
-        if is_for_one && !decision.allows_authorized {
-            return Some(Obstacle::Authorization);
+        if self.cache == Cache::Shared && !decision.allows_authorized {
+            if self.is_authorized {
+                return Some(Obstacle::Authorization);
+            }
+            if self.is_request_incomplete {
+                return Some(Obstacle::RequestHead);
+            }
         }
         let is_permitted =
             decision.allows_storing || has_expires || self.is_heuristically_cacheable();
@@ -295,8 +325,9 @@ impl Exchange {
     }
 }
 
-/// What a cache does with a response, by the whole of its head: see [`Exchange::decide`]. Its
-/// `Display` is the field that decides, the decision, and the obstacle if that is no directive.
+/// What a cache does with a response, by the whole of its head: see [`Exchange::decide`]. It
+/// borrows the names of the target list, and nothing of the head. Its `Display` is the field that
+/// decides, the decision, and the obstacle, unless the decision says it.
 ///
 /// ```
 /// use sf::{Cache, Exchange};
@@ -380,11 +411,17 @@ pub struct Verdict<'a> {
 pub enum Obstacle {
     /// The directive forbids it that is the cause of the decision.
     Directive,
+    /// No target decides, and a line of `Cache-Control` is malformed, so that it counts as
+    /// `no-store` ([`Verdict::is_refused`]).
+    Malformed,
     /// The status code is not final, or is 206 or 304 and not understood.
     Status,
     /// The request had `Authorization`, the cache is shared, and no directive permits it (section
     /// 3.5).
     Authorization,
+    /// The head of the request is incomplete ([`Exchange::is_request_incomplete`]), so that it may
+    /// have had `Authorization`; the cache is shared, and no directive permits it (section 3.5).
+    RequestHead,
     /// Nothing permits it: no directive, no `Expires` that counts, and the status code is not
     /// heuristically cacheable (RFC 9110 section 15.1).
     Unpermitted,
@@ -404,8 +441,12 @@ impl Obstacle {
     pub fn as_str(self) -> &'static str {
         match self {
             Obstacle::Directive => "a directive forbids it",
+            Obstacle::Malformed => "Cache-Control is malformed",
             Obstacle::Status => "the status code forbids it",
             Obstacle::Authorization => "the request had Authorization",
+            Obstacle::RequestHead => {
+                "the request may have had Authorization, as its head is incomplete"
+            }
             Obstacle::Unpermitted => "nothing permits it",
             Obstacle::Incomplete => "the head is incomplete",
             Obstacle::NotAResponse => "the head is that of a request",
@@ -480,7 +521,7 @@ impl fmt::Display for Verdict<'_> {
             write!(f, "{}", self.decision)?;
         }
         match self.obstacle {
-            None | Some(Obstacle::Directive) => Ok(()),
+            None | Some(Obstacle::Directive | Obstacle::Malformed) => Ok(()),
             Some(obstacle) => write!(f, "; not stored: {obstacle}"),
         }
     }
@@ -534,7 +575,7 @@ impl Parser {
             (None, _) => has_cache_control.then_some("Cache-Control"),
         };
         Ok(Verdict {
-            obstacle: exchange.obstacle(&decision, response.lifetime.is_some()),
+            obstacle: exchange.obstacle(&decision, is_refused, response.lifetime.is_some()),
             decision,
             field,
             target: obeyed.map(|(index, _)| index),
@@ -672,5 +713,5 @@ where
 }
 
 fn note<'a>(malformed: &mut Vec<Malformed<'a>>, one: Malformed<'a>) -> Result<(), Error> {
-    crate::buffer::append(malformed, &[one])
+    crate::buffer::push(malformed, one)
 }

@@ -1,15 +1,14 @@
 //! The heads of messages, and what is malformed in them.
 
-use crate::buffer::append;
-use crate::error::Excerpt;
+use crate::buffer::{copied_text, push};
 use crate::line::{is_tchar, spaces_before, split, without_end};
 use crate::malformed::{Fault, Malformed};
 use crate::{
-    field_text, has_field, trim, Appended, Error, Exchange, FieldLine, FieldType, Hop, Obstacle,
-    Parser, Path, Priority, Refusal, ResponsePriority, Verdict,
+    field_text, has_field, trim, Appended, Error, Exchange, FieldLine, FieldType, HeadFault, Hop,
+    Obstacle, Parser, Path, Priority, Refusal, ResponsePriority, Verdict,
 };
+use alloc::string::String;
 use alloc::vec::Vec;
-use core::fmt;
 
 /// The head of a request or a response: its field lines, which it borrows, and what is malformed in
 /// it. Its methods look a field up and read it by the dialect of a parser. A malformed structured
@@ -23,8 +22,7 @@ use core::fmt;
 /// assert_eq!(head.priority()?, Priority::default());
 /// assert_eq!(
 ///     head.malformed()[0].excerpt(40).to_string(),
-///     "Priority: byte 0x32 '2' at place 13, expected `0` or `1`\n\
-///      line 3, place 13:\n\
+///     "line 3, place 13: Priority: byte 0x32 '2', expected `0` or `1`\n\
 ///      priority: i=?2\n\
 ///      \x20            ^"
 /// );
@@ -78,66 +76,6 @@ impl FieldLine for HeadLine<'_> {
 
     fn value(&self) -> &[u8] {
         self.value
-    }
-}
-
-/// A line or a field of a [`Head`] that is malformed. Its `Display` is one line, such as for a log.
-///
-/// ```
-/// use sf::{Fault, Head, Parser};
-/// let head = Head::parse(Parser::new(), "Age 20\r\n\r\n").unwrap();
-/// let malformed = head.malformed()[0];
-/// assert!(matches!(malformed.fault, Fault::NotALine(refusal) if refusal.offset == 4));
-/// assert_eq!(malformed.to_string(), "line 1: not a field line: no colon after the name");
-/// ```
-#[derive(Clone, Copy, Debug, PartialEq, Eq)]
-#[non_exhaustive]
-pub struct HeadFault<'a> {
-    /// The name of the field; empty for a line that is no field line, and for a head without an end.
-    pub field: &'a str,
-    /// What is wrong. The offset of a refusal is one in the line.
-    pub fault: Fault,
-    /// The number of the line: see [`Head::set_number`].
-    pub number: usize,
-    /// The line as it was received: [`HeadLine::received`].
-    pub line: &'a [u8],
-    /// The place in the line: where it is refused; otherwise, where the value begins, or 0.
-    pub offset: usize,
-}
-
-impl<'a> HeadFault<'a> {
-    /// A message of several lines: the name of the field, what is wrong, the number of the line and
-    /// the place in it, and at most so many bytes of the line around the place, with a caret below
-    /// it. So it has a bound, whatever the length of the line.
-    ///
-    /// ```
-    /// use sf::{Cache, Exchange, Head, Parser};
-    /// let mut head = Head::parse(Parser::new(), "Age: 1 day\r\n\r\n").unwrap();
-    /// head.decide(&Exchange::at(Cache::Shared, 784_111_777), &[]).unwrap();
-    /// assert_eq!(
-    ///     head.malformed()[0].excerpt(8).to_string(),
-    ///     "Age: expected a number of seconds\nline 1, place 5:\nge: 1 da\n    ^"
-    /// );
-    /// ```
-    #[must_use]
-    pub fn excerpt(&self, most: usize) -> Excerpt<'a> {
-        Excerpt {
-            field: self.field,
-            fault: self.fault,
-            offset: self.offset as u64,
-            line: Some(self.number),
-            text: self.line,
-            most,
-        }
-    }
-}
-
-impl fmt::Display for HeadFault<'_> {
-    fn fmt(&self, f: &mut fmt::Formatter<'_>) -> fmt::Result {
-        if !self.field.is_empty() {
-            write!(f, "{}, ", self.field)?;
-        }
-        write!(f, "line {}: {}", self.number, self.fault)
     }
 }
 
@@ -196,13 +134,13 @@ impl<'a> Head<'a> {
         }
         head.is_incomplete = true;
         let fault = HeadFault {
-            field: "",
+            field: String::new(),
             fault: Fault::NoEnd,
             number: head.number,
             line: b"",
             offset: 0,
         };
-        append(&mut head.malformed, &[fault])?;
+        push(&mut head.malformed, fault)?;
         Ok(head)
     }
 
@@ -230,7 +168,7 @@ impl<'a> Head<'a> {
         }
         let refusal = match split(received, self.is_request) {
             Ok(parts) => {
-                self.push(HeadLine {
+                self.push_line(HeadLine {
                     name: parts.name,
                     value: parts.value,
                     received,
@@ -243,20 +181,20 @@ impl<'a> Head<'a> {
         };
         if !received.is_empty() {
             let fault = HeadFault {
-                field: "",
-                fault: if received.starts_with(b"HTTP/") {
-                    Fault::NotAStatusLine
-                } else {
+                field: String::new(),
+                fault: if self.is_begun {
                     Fault::NotALine(refusal)
+                } else {
+                    Fault::NotAStartLine(refusal)
                 },
                 number: self.number,
                 line: received,
                 offset: usize::try_from(refusal.offset).unwrap_or(usize::MAX),
             };
-            append(&mut self.malformed, &[fault])?;
+            push(&mut self.malformed, fault)?;
             self.is_incomplete = true;
+            self.is_begun = true;
         }
-        self.is_begun |= !received.is_empty();
         self.number += 1;
         Ok(false)
     }
@@ -270,8 +208,8 @@ impl<'a> Head<'a> {
     }
 
     /// Adds a field line.
-    fn push(&mut self, line: HeadLine<'a>) -> Result<(), Error> {
-        append(&mut self.lines, &[line])?;
+    fn push_line(&mut self, line: HeadLine<'a>) -> Result<(), Error> {
+        push(&mut self.lines, line)?;
         self.number += 1;
         self.is_begun = true;
         Ok(())
@@ -314,7 +252,7 @@ impl<'a> Head<'a> {
             number: self.number,
             value_at: spaces_before(value.as_ref()),
         };
-        self.push(line)
+        self.push_line(line)
     }
 
     /// Sets the number of the line that is added next, for messages: 1 at first, and then one more
@@ -407,7 +345,8 @@ impl<'a> Head<'a> {
     /// let mut head = sf::Head::parse(sf::Parser::new(), "Priority: u=\r\n\r\n").unwrap();
     /// assert!(head.malformed().is_empty());
     /// head.priority().unwrap();
-    /// assert_eq!((head.malformed()[0].field, head.malformed()[0].offset), ("Priority", 12));
+    /// let fault = &head.malformed()[0];
+    /// assert_eq!((fault.field.as_str(), fault.offset), ("Priority", 12));
     /// ```
     #[must_use]
     pub fn malformed(&self) -> &[HeadFault<'a>] {
@@ -477,7 +416,7 @@ impl<'a> Head<'a> {
     /// assert_eq!(head.field::<Dictionary>("Other")?, None);
     /// # Ok::<(), sf::Error>(())
     /// ```
-    pub fn field<T: FieldType>(&mut self, name: &'a str) -> Result<Option<T>, Error> {
+    pub fn field<T: FieldType>(&mut self, name: &str) -> Result<Option<T>, Error> {
         if !self.has_field(name) {
             return Ok(None);
         }
@@ -501,11 +440,11 @@ impl<'a> Head<'a> {
     /// let verdict = head.decide(&exchange, &["CDN-Cache-Control"]).unwrap();
     /// assert_eq!(verdict.obstacle, Some(Obstacle::Incomplete));
     /// ```
-    pub fn decide(
+    pub fn decide<'t>(
         &mut self,
         exchange: &Exchange,
-        targets: &[&'a str],
-    ) -> Result<Verdict<'a>, Error> {
+        targets: &[&'t str],
+    ) -> Result<Verdict<'t>, Error> {
         let exchange = Exchange {
             status: exchange.status.or(self.status),
             is_incomplete: exchange.is_incomplete || self.is_incomplete || self.is_request,
@@ -546,7 +485,7 @@ impl<'a> Head<'a> {
     }
 
     /// What a field says; the default if it is malformed, which is noted.
-    fn or_absent<T: Default>(&mut self, name: &'a str, said: Result<T, Error>) -> Result<T, Error> {
+    fn or_absent<T: Default>(&mut self, name: &str, said: Result<T, Error>) -> Result<T, Error> {
         said.or_else(|error| {
             if let Some(refusal) = error.refusal() {
                 self.note(refusal.in_head(&self.lines, name))?;
@@ -556,10 +495,15 @@ impl<'a> Head<'a> {
     }
 
     /// Notes a malformed field of this head, with the place in the line as it was received.
-    fn note(&mut self, malformed: Malformed<'a>) -> Result<(), Error> {
+    fn note(&mut self, malformed: Malformed<'_>) -> Result<(), Error> {
         let line = self.lines[malformed.line];
         let place = match malformed.fault {
             Fault::Refused(refusal) => usize::try_from(refusal.offset).unwrap_or(usize::MAX),
+            // Of the first member what is no digit, or the end of the member if it is empty.
+            Fault::NotAnAge => {
+                let digits = line.value.iter().take_while(|byte| byte.is_ascii_digit());
+                digits.count()
+            }
             _ => 0,
         };
         let offset = line.value_at.saturating_add(place);
@@ -571,7 +515,7 @@ impl<'a> Head<'a> {
             fault => fault,
         };
         let found = HeadFault {
-            field: malformed.field,
+            field: copied_text(malformed.field)?,
             fault,
             number: line.number,
             line: line.received,
@@ -580,10 +524,9 @@ impl<'a> Head<'a> {
         if self.malformed.contains(&found) {
             return Ok(());
         }
-        append(&mut self.malformed, &[found])?;
-        let is_before = |one: &HeadFault<'_>| one.number <= found.number;
-        let others = self.malformed.len() - 1;
-        let before = self.malformed[..others].iter().rposition(is_before);
+        let is_before = |one: &HeadFault<'_>| one.number <= line.number;
+        let before = self.malformed.iter().rposition(is_before);
+        push(&mut self.malformed, found)?;
         self.malformed[before.map_or(0, |last| last + 1)..].rotate_right(1);
         Ok(())
     }

@@ -1,7 +1,7 @@
 //! What has values by keys, in order: parameters and Dictionaries.
 
-use crate::buffer::reserve;
-use crate::{BareItem, Error, Key, KeyRef, ListEntry, Node};
+use crate::buffer::{push, reserve};
+use crate::{BareItem, Date, Decimal, Error, Key, KeyRef, ListEntry, Node};
 use alloc::vec::{self, Vec};
 use core::iter::FusedIterator;
 use core::ops::{Index, IndexMut};
@@ -271,10 +271,7 @@ macro_rules! keyed {
                 if let Some(place) = self.get_mut(&key) {
                     return Ok(Some(core::mem::replace(place, value)));
                 }
-                self.entries
-                    .try_reserve(1)
-                    .map_err(|_| Error::OutOfMemory)?;
-                self.entries.push((key, value));
+                push(&mut self.entries, (key, value))?;
                 Ok(None)
             }
 
@@ -414,6 +411,59 @@ impl Parameters {
         })?;
         Ok(Parameters { entries })
     }
+}
+
+macro_rules! parameter {
+    ($name:ident, $as_type:ident: $type:ty, $what:literal, $text:literal, $value:literal) => {
+        #[doc = concat!("The ", $what, "; `None` if it is absent, or of another type.")]
+        ///
+        /// ```
+        #[doc = concat!("let params: sf::Parameters = r#\"", $text, "\"#.parse().unwrap();")]
+        #[doc = concat!("assert_eq!(params.", stringify!($name), "(\"a\"), ", $value, ");")]
+        #[doc = concat!("assert!(params.", stringify!($name), "(\"b\").is_none());")]
+        #[doc = concat!("assert!(params.", stringify!($name), "(\"c\").is_none());")]
+        /// ```
+        #[must_use]
+        pub fn $name(&self, key: &str) -> Option<$type> {
+            self.get(key)?.$as_type()
+        }
+    };
+}
+
+/// Parameters of one type.
+impl Parameters {
+    parameter!(
+        integer, as_integer: i64,
+        "number of a parameter that is an Integer", ";a=7;b=x", "Some(7)"
+    );
+    parameter!(
+        decimal, as_decimal: Decimal,
+        "number of a parameter that is a Decimal", ";a=0.5;b=1", "\"0.5\".parse().ok()"
+    );
+    parameter!(
+        string, as_string: &str,
+        "text of a parameter that is a String", ";a=\"k\";b=k", "Some(\"k\")"
+    );
+    parameter!(
+        token, as_token: &str,
+        "text of a parameter that is a Token", ";a=k;b=\"k\"", "Some(\"k\")"
+    );
+    parameter!(
+        byte_sequence, as_byte_sequence: &[u8],
+        "bytes of a parameter that is a Byte Sequence", ";a=:YQ==:;b=YQ", "Some(b\"a\".as_slice())"
+    );
+    parameter!(
+        boolean, as_boolean: bool,
+        "value of a parameter that is a Boolean", ";a;b=1", "Some(true)"
+    );
+    parameter!(
+        date, as_date: Date,
+        "time of a parameter that is a Date", ";a=@7;b=7", "\"@7\".parse().ok()"
+    );
+    parameter!(
+        display_string, as_display_string: &str,
+        "text of a parameter that is a Display String", ";a=%\"k\";b=\"k\"", "Some(\"k\")"
+    );
 }
 
 /// A Dictionary (RFC 9651 section 3.2), in order. Two Dictionaries with the same members in another

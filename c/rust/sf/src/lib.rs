@@ -57,6 +57,8 @@ mod exchange;
 mod fallback;
 #[cfg(feature = "alloc")]
 mod head;
+#[cfg(feature = "alloc")]
+mod head_fault;
 mod hop;
 #[cfg(feature = "alloc")]
 mod hop_text;
@@ -95,7 +97,8 @@ pub use {
     error::RefusalInText,
     exchange::{Exchange, Obstacle, Verdict},
     field::List,
-    head::{Head, HeadFault, HeadLine},
+    head::{Head, HeadLine},
+    head_fault::{HeadExcerpt, HeadFault},
     hop_text::Appended,
     item::{InnerList, Item, ListEntry},
     joined::{field_text, has_field, join},

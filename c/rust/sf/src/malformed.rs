@@ -47,9 +47,9 @@ pub enum Fault {
     /// A line of a [`Head`](crate::Head) that is no field line: see
     /// [`split_field_line`](crate::split_field_line()).
     NotALine(Refusal),
-    /// A line of a [`Head`](crate::Head) that begins with `HTTP/`, and is neither its status line
-    /// nor a field line.
-    NotAStatusLine,
+    /// The first line of a [`Head`](crate::Head) that is not empty, if it is neither a start line
+    /// (RFC 9112 section 2.1) nor a field line. The refusal says why it is no field line.
+    NotAStartLine(Refusal),
     /// A [`Head`](crate::Head) that does not end with an empty line.
     NoEnd,
 }
@@ -63,23 +63,29 @@ impl fmt::Display for Fault {
             }
             Fault::Repeated => f.pad("there are several lines"),
             Fault::NotAnAge => f.pad("expected a number of seconds"),
-            Fault::NotALine(refusal) => write!(f, "not a field line: {}", line_fault(refusal)),
-            Fault::NotAStatusLine => f.pad("neither a status line nor a field line"),
+            Fault::NotALine(refusal) => {
+                let why = line_fault(refusal).unwrap_or("it continues the line before");
+                write!(f, "not a field line: {why}")
+            }
+            Fault::NotAStartLine(refusal) => {
+                let why = line_fault(refusal).unwrap_or("it begins with white space");
+                write!(f, "neither a start line nor a field line: {why}")
+            }
             Fault::NoEnd => f.pad("the head does not end with an empty line"),
         }
     }
 }
 
-/// Why a line is no field line, in words.
-fn line_fault(refusal: &Refusal) -> &'static str {
+/// Why a line is no field line, in words; `None` if it begins with white space.
+fn line_fault(refusal: &Refusal) -> Option<&'static str> {
     let is_space = matches!(refusal.found, Some(b' ' | b'\t'));
-    match refusal {
+    Some(match refusal {
         Refusal { may_end: true, .. } => "a CR, LF or NUL in the value",
-        Refusal { offset: 0, .. } if is_space => "it continues the line before",
+        Refusal { offset: 0, .. } if is_space => return None,
         Refusal { offset: 0, .. } => "no name",
         _ if is_space => "white space after the name",
         _ => "no colon after the name",
-    }
+    })
 }
 
 impl fmt::Display for Malformed<'_> {

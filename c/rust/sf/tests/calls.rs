@@ -110,7 +110,24 @@ fn an_error_has_a_message() {
         message(Path::parse("7").unwrap_err()),
         "member 0 does not name a cache"
     );
-    assert_eq!(message(Error::OutOfMemory), "out of memory");
+    // What is after the name of a file, such as `a.txt: out of memory`.
+    for (error, expected) in [
+        (Error::OtherType, "the value is of another type"),
+        (Error::Empty, "the field has no members"),
+        (Error::Invalid, "the value is out of range or not allowed"),
+        (Error::TooLong, "the text or the value has 4 GiB or more"),
+        (
+            Error::TooSmall { nodes: 3, bytes: 5 },
+            "space for 3 nodes and 5 bytes is required",
+        ),
+        (Error::OutOfMemory, "out of memory"),
+        (
+            Error::OtherLibrary,
+            "libsf has another version than the crate sf",
+        ),
+    ] {
+        assert_eq!(message(error), expected);
+    }
     let boxed: Box<dyn std::error::Error + Send + Sync> = Error::OutOfMemory.into();
     assert_eq!(boxed.to_string(), "out of memory");
 }

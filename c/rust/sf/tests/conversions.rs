@@ -361,6 +361,39 @@ fn keys_are_looked_up() {
     assert_eq!(list.to_string(), "a, b, 1, 2");
 }
 
+/// Each parameter has a value of one type, and only that one returns it.
+#[test]
+fn parameters_have_types() {
+    let text = ";i=-7;d=1.5;s=\"a b\";t=a/b;x=:YQ==:;y;n=?0;z=@7;u=%\"f%c3%bc\"";
+    let params: Parameters = text.parse().unwrap();
+    let date = Date::from_unix_seconds(7).unwrap();
+    let decimal: Decimal = "1.5".parse().unwrap();
+    for key in params.keys().map(|key| key.as_str()).chain(["a", ""]) {
+        let only = |own: &str| key == own;
+        assert_eq!(params.integer(key), only("i").then_some(-7), "{key}");
+        assert_eq!(params.decimal(key), only("d").then_some(decimal), "{key}");
+        assert_eq!(params.string(key), only("s").then_some("a b"), "{key}");
+        assert_eq!(params.token(key), only("t").then_some("a/b"), "{key}");
+        let bytes = params.byte_sequence(key);
+        assert_eq!(bytes, only("x").then_some(&b"a"[..]), "{key}");
+        let is_boolean = only("y") || only("n");
+        assert_eq!(
+            params.boolean(key),
+            is_boolean.then_some(only("y")),
+            "{key}"
+        );
+        assert_eq!(params.date(key), only("z").then_some(date), "{key}");
+        assert_eq!(
+            params.display_string(key),
+            only("u").then_some("fü"),
+            "{key}"
+        );
+    }
+    // Of a key that is repeated, the last value counts (RFC 9651 section 3.1.2).
+    let params: Parameters = ";a=1;a=\"b\"".parse().unwrap();
+    assert_eq!((params.integer("a"), params.string("a")), (None, Some("b")));
+}
+
 #[test]
 #[should_panic(expected = "no such key")]
 fn an_absent_key_is_no_index() {

@@ -150,6 +150,14 @@ fn what_may_be_stored() {
     assert_eq!(obstacle(NOW, &fresh), None);
     // Section 3.5.
     let authorized = NOW.with_status(200).with_authorization(true);
+    let cut_off = Exchange {
+        is_request_incomplete: true,
+        ..NOW.with_status(200)
+    };
+    let both = Exchange {
+        is_authorized: true,
+        ..cut_off
+    };
     for (directives, expected) in [
         ("max-age=60", Some(Obstacle::Authorization)),
         ("max-age=60, public", None),
@@ -159,9 +167,15 @@ fn what_may_be_stored() {
     ] {
         let head = control(directives);
         assert_eq!(obstacle(authorized, &head), expected, "{directives}");
+        assert_eq!(obstacle(both, &head), expected, "{directives}");
+        let of_cut_off = match expected {
+            Some(Obstacle::Authorization) => Some(Obstacle::RequestHead),
+            expected => expected,
+        };
+        assert_eq!(obstacle(cut_off, &head), of_cut_off, "{directives}");
         let private = Exchange {
             cache: Cache::Private,
-            ..authorized
+            ..both
         };
         let expected = expected.filter(|obstacle| *obstacle == Obstacle::Directive);
         assert_eq!(obstacle(private, &head), expected, "{directives}");

@@ -1,7 +1,7 @@
 //! Heads of messages, and what is malformed in them.
 
-use sf::{Cache, Dialect, Dictionary, Exchange, Fault, Head, Hop, Item, List, Obstacle, Outcome};
-use sf::{Parser, Priority, ResponsePriority, TokenRef};
+use sf::{Cache, Dialect, Dictionary, Exchange, Fault, Forward, Head, HeadFault, Hop, Item, List};
+use sf::{Obstacle, Outcome, Parser, Priority, ResponsePriority, TokenRef, Verdict};
 
 fn parser() -> Parser {
     Parser::new().with_dialect(Dialect::Rfc8941)
@@ -63,23 +63,74 @@ fn start_lines() {
             "{line}"
         );
         assert_eq!(head.malformed().len(), usize::from(!is_start));
+        let is_fault_of_first = |one: &HeadFault<'_>| matches!(one.fault, Fault::NotAStartLine(_));
+        assert!(head.malformed().iter().all(is_fault_of_first));
         // In a request, no white space may be before the colon (RFC 9112 section 5.1).
         assert_eq!(head.add_line("Age \t: 1").unwrap(), !is_request);
         // Only the first line is a start line.
         let count = head.malformed().len();
         assert!(!head.add_line(line).unwrap() && head.is_incomplete());
         assert_eq!((head.status(), head.malformed().len()), (status, count + 1));
+        assert!(matches!(head.malformed()[count].fault, Fault::NotALine(_)));
         for before in ["a: b", "a"] {
             let mut head = Head::new(parser());
             head.add_line(before).unwrap();
             let count = head.malformed().len();
             assert!(!head.add_line(line).unwrap() && head.status().is_none());
             assert_eq!(head.malformed().len(), count + 1);
+            assert!(matches!(head.malformed()[count].fault, Fault::NotALine(_)));
         }
         let mut head = Head::new(parser());
         assert!(!head.add_line("\r\n").unwrap() && !head.add_line(line).unwrap());
         assert_eq!(head.status(), status);
+        assert!(head.malformed().iter().all(is_fault_of_first));
     }
+    // A field that was added is a first line, too.
+    let mut head = Head::new(parser());
+    head.add_field("a", "b").unwrap();
+    head.add_line("HTTP/1.1 2x0 OK").unwrap();
+    assert!(matches!(head.malformed()[0].fault, Fault::NotALine(_)));
+}
+
+/// Why a line is no field line, if it is the first of a head and if it is another one.
+#[test]
+fn words_of_lines() {
+    let no_colon = "no colon after the name";
+    let bad_byte = "a CR, LF or NUL in the value";
+    let [begins, continues] = ["it begins with white space", "it continues the line before"];
+    for (line, place, first, other) in [
+        (" x", 0, begins, continues),
+        ("\t: x", 0, begins, continues),
+        (" / HTTP/1.1", 0, begins, continues),
+        (": x", 0, "no name", "no name"),
+        ("\u{e9}", 0, "no name", "no name"),
+        ("\0", 0, "no name", "no name"),
+        ("Age", 3, no_colon, no_colon),
+        ("a b: c", 2, no_colon, no_colon),
+        ("HTTP/1.1 2x0", 4, no_colon, no_colon),
+        ("HTTP/", 4, no_colon, no_colon),
+        ("GET /", 4, no_colon, no_colon),
+        ("a: \0", 3, bad_byte, bad_byte),
+    ] {
+        let mut head = Head::new(parser());
+        for text in ["\r\n", line, line, "", line] {
+            assert!(!head.add_line(text).unwrap());
+        }
+        let shown: Vec<_> = head.malformed().iter().map(ToString::to_string).collect();
+        let expected = [
+            format!("line 2, place {place}: neither a start line nor a field line: {first}"),
+            format!("line 3, place {place}: not a field line: {other}"),
+            format!("line 5, place {place}: not a field line: {other}"),
+        ];
+        assert_eq!(shown, expected, "{line}");
+    }
+    let mut head = Head::new(parser());
+    head.add_line("GET / HTTP/1.1").unwrap();
+    head.add_line("Age : 1").unwrap();
+    assert_eq!(
+        head.malformed()[0].to_string(),
+        "line 2, place 3: not a field line: white space after the name"
+    );
 }
 
 /// A request line whose target has a colon is no field line, and an empty line whose LF is missing
@@ -95,7 +146,7 @@ fn lines_like_others() {
     assert!(head.is_incomplete() && head.content().is_none());
     assert_eq!(
         messages(&head, 40),
-        ["the head does not end with an empty line\nline 3, place 0:\n\n^"]
+        ["line 3, place 0: the head does not end with an empty line\n\n^"]
     );
 }
 
@@ -119,7 +170,7 @@ fn lines_that_are_no_field_lines() {
         head.add_line("HTTP/1.1 200").unwrap();
         assert!(!head.add_line(line).unwrap());
         assert_eq!(sf::split_field_line(line), None);
-        let one = head.malformed()[0];
+        let one = &head.malformed()[0];
         assert_eq!((one.number, one.offset as u64), (2, offset));
         let refusal = match one.fault {
             Fault::NotALine(refusal) => refusal,
@@ -159,7 +210,7 @@ fn lines_of_a_head() {
     assert_eq!(found, [(5, &b"Via"[..]), (6, &b"\tx"[..])]);
     assert_eq!(
         messages(&head, 9)[0],
-        "not a field line: no colon after the name\nline 5, place 3:\nVia\n   ^"
+        "line 5, place 3: not a field line: no colon after the name\nVia\n   ^"
     );
     for (text, lines, content) in [
         ("", 0, None),
@@ -194,7 +245,7 @@ fn fields_of_a_head() {
     let found: Vec<_> = head
         .malformed()
         .iter()
-        .map(|one| (one.field, one.number, one.offset))
+        .map(|one| (one.field.as_str(), one.number, one.offset))
         .collect();
     assert_eq!(
         found,
@@ -240,40 +291,65 @@ fn faults_of_decisions() {
         (
             "T: max-age=60,\nAge: \t90x \n",
             &[
-                "T: the text ended at place 14, expected a lower-case letter, `*`, a tab or a \
-                 space\nline 1, place 14:\nT: max-age=60,\n              ^",
-                "Age: expected a number of seconds\nline 2, place 6:\nAge: ?90x \n      ^",
+                "line 1, place 14: T: the text ended, expected a lower-case letter, `*`, a tab or \
+                 a space\nT: max-age=60,\n              ^",
+                "line 2, place 8: Age: expected a number of seconds\nAge: ?90x \n        ^",
             ],
         ),
         (
             "Age:\nAge: 5\n",
-            &["Age: expected a number of seconds\nline 1, place 4:\nAge:\n    ^"],
+            &["line 1, place 4: Age: expected a number of seconds\nAge:\n    ^"],
         ),
         ("Age: 5\nAge: x\n", &[]),
+        (
+            "Age: 5 days\n",
+            &["line 1, place 6: Age: expected a number of seconds\nAge: 5 days\n      ^"],
+        ),
+        (
+            "Age: -5, 20\n",
+            &["line 1, place 5: Age: expected a number of seconds\nAge: -5, 20\n     ^"],
+        ),
+        (
+            "Age: \t , 20\n",
+            &["line 1, place 7: Age: expected a number of seconds\nAge: ? , 20\n       ^"],
+        ),
+        (
+            "Age: \t \n",
+            &["line 1, place 7: Age: expected a number of seconds\nAge: ? \n       ^"],
+        ),
+        (
+            "Age: 20\u{e9}\n",
+            &["line 1, place 7: Age: expected a number of seconds\nAge: 20??\n       ^"],
+        ),
         ("T: max-age=1\nCache-Control: a b\nExpires: 0\nDate: x\n", &[]), // they are not read
         (
             "Expires:  0 \nDate: Sun\n",
             &[
-                "Expires: expected an HTTP-date, such as Sun, 06 Nov 1994 08:49:37 GMT\nline 1, place 10:\nExpires:  0 \n          ^",
-                "Date: expected an HTTP-date, such as Sun, 06 Nov 1994 08:49:37 GMT\nline 2, place 6:\nDate: Sun\n      ^",
+                "line 1, place 10: Expires: expected an HTTP-date, such as Sun, 06 Nov 1994 \
+                 08:49:37 GMT\nExpires:  0 \n          ^",
+                "line 2, place 6: Date: expected an HTTP-date, such as Sun, 06 Nov 1994 08:49:37 \
+                 GMT\nDate: Sun\n      ^",
             ],
         ),
         (
             "Expires: Sun, 06 Nov 1994 08:49:37 GMT\nExpires: Sun, 06 Nov 1994 08:49:37 GMT\n\
              expires: x\n",
-            &["Expires: there are several lines\nline 2, place 9:\nExpires: Sun, 06 Nov 1994 \n         ^"],
+            &["line 2, place 9: Expires: there are several lines\n\
+               Expires: Sun, 06 Nov 1994 \n         ^"],
         ),
         (
             "Date: x\nDate: Sun, 06 Nov 1994 08:49:37 GMT\nDate: x\n",
             &[
-                "Date: expected an HTTP-date, such as Sun, 06 Nov 1994 08:49:37 GMT\nline 1, place 6:\nDate: x\n      ^",
-                "Date: there are several lines\nline 2, place 6:\nDate: Sun, 06 Nov 1994 08:\n      ^",
+                "line 1, place 6: Date: expected an HTTP-date, such as Sun, 06 Nov 1994 08:49:37 \
+                 GMT\nDate: x\n      ^",
+                "line 2, place 6: Date: there are several lines\n\
+                 Date: Sun, 06 Nov 1994 08:\n      ^",
             ],
         ),
         (
             "Cache-Control: a b\nCache-Control: c d\n",
-            &["Cache-Control: byte 0x62 'b' at place 17, expected `,`, a tab, a space or the \
-               end\nline 1, place 17:\nCache-Control: a b\n                 ^"],
+            &["line 1, place 17: Cache-Control: byte 0x62 'b', expected `,`, a tab, a space or the \
+               end\nCache-Control: a b\n                 ^"],
         ),
     ];
     let exchange = Exchange::at(Cache::Shared, 784_111_777).with_status(200);
@@ -358,42 +434,266 @@ fn obstacles() {
         let mut head = Head::parse(parser(), text).unwrap();
         assert_eq!(head.decide(&exchange, &[]).unwrap().to_string(), shown);
     }
-    let words: Vec<_> = [" x", ": x", "a b: c", "a: \0", "Age"]
-        .iter()
-        .map(|line| {
-            let mut head = Head::new(parser());
-            head.add_line(*line).unwrap();
-            head.malformed()[0].to_string()
-        })
-        .collect();
-    assert_eq!(
-        words,
-        [
-            "line 1: not a field line: it continues the line before",
-            "line 1: not a field line: no name",
-            "line 1: not a field line: no colon after the name",
-            "line 1: not a field line: a CR, LF or NUL in the value",
-            "line 1: not a field line: no colon after the name",
-        ]
-    );
     assert!(head.decide(&exchange, &[]).unwrap().may_store());
     let head = Head::parse(parser(), "GET / HTTP/1.1\nAge : 1\n").unwrap();
     assert_eq!(
         messages(&head, 9),
         [
-            "not a field line: white space after the name\nline 2, place 3:\nAge : 1\n   ^",
-            "the head does not end with an empty line\nline 3, place 0:\n\n^"
+            "line 2, place 3: not a field line: white space after the name\nAge : 1\n   ^",
+            "line 3, place 0: the head does not end with an empty line\n\n^"
         ]
     );
-    // What the request may have had counts.
-    assert!(exchange.with_request(&head).is_authorized && !exchange.is_authorized);
     let text = "GET / HTTP/1.1\nCache-Control: max-age=60\n\n";
     let mut head = Head::parse(parser(), text).unwrap();
-    assert!(!exchange.with_request(&head).is_authorized);
     // The head of a request is none of a response.
     let verdict = head.decide(&exchange, &[]).unwrap();
     assert_eq!(verdict.obstacle, Some(Obstacle::NotAResponse));
     assert!(verdict
         .to_string()
         .ends_with("; not stored: the head is that of a request"));
+}
+
+/// What the head of the request says, and a malformed `Cache-Control`.
+#[test]
+fn obstacles_of_requests_and_directives() {
+    let decide = |cache, request, response: &str| {
+        let request = Head::parse(parser(), request).unwrap();
+        let exchange = Exchange::at(cache, 784_111_777).with_request(&request);
+        let response = format!("HTTP/1.1 200 OK\n{response}\n");
+        let mut response = Head::parse(parser(), &response).unwrap();
+        response.decide(&exchange, &["T"]).unwrap().to_string()
+    };
+    let complete = "GET / HTTP/1.1\n\n";
+    let cut_off = "GET / HTTP/1.1\nAge: 1\n";
+    let not_a_line = "GET / HTTP/1.1\nAuthorization : a\n\n";
+    let authorized = "GET / HTTP/1.1\nAge 1\nauthorization: a\n";
+    let had = "; not stored: the request had Authorization";
+    let may_have_had =
+        "; not stored: the request may have had Authorization, as its head is incomplete";
+    let fresh = "Cache-Control: fresh for 60 s (max-age)";
+    let malformed = "Cache-Control: not stored (malformed)";
+    for (request, response, shared, private) in [
+        (
+            complete,
+            "Cache-Control: max-age=60\n",
+            [fresh, ""],
+            [fresh, ""],
+        ),
+        (
+            cut_off,
+            "Cache-Control: max-age=60\n",
+            [fresh, may_have_had],
+            [fresh, ""],
+        ),
+        (
+            not_a_line,
+            "Cache-Control: max-age=60\n",
+            [fresh, may_have_had],
+            [fresh, ""],
+        ),
+        (
+            authorized,
+            "Cache-Control: max-age=60\n",
+            [fresh, had],
+            [fresh, ""],
+        ),
+        (
+            cut_off,
+            "Cache-Control: max-age=60, public\n",
+            [fresh, ""],
+            [fresh, ""],
+        ),
+        (
+            cut_off,
+            "",
+            ["unspecified", may_have_had],
+            ["unspecified", ""],
+        ),
+        (
+            cut_off,
+            "Cache-Control: a b\n",
+            [malformed, ""],
+            [malformed, ""],
+        ),
+        (
+            cut_off,
+            "Age 1\n",
+            ["unspecified", "; not stored: the head is incomplete"],
+            ["unspecified", "; not stored: the head is incomplete"],
+        ),
+    ] {
+        assert_eq!(decide(Cache::Shared, request, response), shared.concat());
+        assert_eq!(decide(Cache::Private, request, response), private.concat());
+    }
+
+    let exchange = Exchange::at(Cache::Shared, 784_111_777).with_status(200);
+    let request = Head::parse(parser(), cut_off).unwrap();
+    let seen = exchange.with_authorization(true).with_request(&request);
+    assert_eq!(
+        (seen.is_authorized, seen.is_request_incomplete),
+        (false, true)
+    );
+    let request = Head::parse(parser(), authorized).unwrap();
+    let seen = exchange.with_request(&request);
+    assert_eq!(
+        (seen.is_authorized, seen.is_request_incomplete),
+        (true, true)
+    );
+    let request = Head::parse(parser(), complete).unwrap();
+    let seen = seen.with_request(&request);
+    assert_eq!(
+        (seen.is_authorized, seen.is_request_incomplete),
+        (false, false)
+    );
+
+    for (head, obstacle) in [
+        (&[("Cache-Control", "a b")][..], Obstacle::Malformed),
+        (
+            &[("Cache-Control", "no-store"), ("Cache-Control", "=")],
+            Obstacle::Malformed,
+        ),
+        (&[("Cache-Control", "no-store")], Obstacle::Directive),
+        // Another field decides, and so Cache-Control is not read.
+        (
+            &[("T", "no-store"), ("Cache-Control", "a b")],
+            Obstacle::Directive,
+        ),
+        // Only as a target it is malformed.
+        (&[("Cache-Control", "No-Store")], Obstacle::Directive),
+    ] {
+        let verdict = exchange.decide(&["T", "Cache-Control"], head).unwrap();
+        assert_eq!(verdict.obstacle, Some(obstacle), "{head:?}");
+        assert_eq!(verdict.is_refused, obstacle == Obstacle::Malformed);
+    }
+    assert_eq!(
+        Obstacle::Malformed.to_string(),
+        "Cache-Control is malformed"
+    );
+    assert_eq!(
+        Obstacle::RequestHead.to_string(),
+        "the request may have had Authorization, as its head is incomplete"
+    );
+}
+
+/// A verdict borrows the names of its targets alone, and a fault the text of the head alone.
+#[test]
+fn what_outlives_a_head() {
+    fn verdict_of<'t>(head: &mut Head<'_>, targets: &[&'t str]) -> Verdict<'t> {
+        let exchange = Exchange::at(Cache::Shared, 784_111_777).with_status(200);
+        head.decide(&exchange, targets).unwrap()
+    }
+    fn faults_of<'a>(head: &mut Head<'a>, name: String) -> Vec<HeadFault<'a>> {
+        assert_eq!(head.field::<Dictionary>(&name).unwrap(), None);
+        drop(name);
+        head.malformed().to_vec()
+    }
+    let targets = [String::from("T"), String::from("U")];
+    let verdict = {
+        let received = String::from("T: a,\nU: max-age=60\nCache-Status: a,\n\n");
+        let mut head = Head::parse(parser(), &received).unwrap();
+        let verdict = verdict_of(&mut head, &[&targets[0], &targets[1]]);
+        head.add_line("T: max-age=1").unwrap();
+        verdict
+    };
+    assert_eq!((verdict.field, verdict.target), (Some("U"), Some(1)));
+    assert_eq!(
+        (verdict.malformed.len(), verdict.malformed[0].field),
+        (1, "T")
+    );
+    let hop = verdict.hop(TokenRef::constant("edge"), Forward::Miss);
+    drop(targets);
+    assert_eq!(hop.to_string(), "edge;fwd=miss;ttl=60;stored");
+
+    // The names may live shorter than the text of the head, and the head shorter than its faults.
+    let received = String::from("T: a,\nX: b=\n\n");
+    let faults = {
+        let mut head = Head::parse(parser(), &received).unwrap();
+        let names = [String::from("T")];
+        let of_targets = [names[0].as_str()];
+        assert!(verdict_of(&mut head, &of_targets).may_store());
+        drop(names);
+        faults_of(&mut head, String::from("X"))
+    };
+    let shown: Vec<_> = faults
+        .iter()
+        .map(|one| (one.field.as_str(), one.offset))
+        .collect();
+    assert_eq!(shown, [("T", 5), ("X", 5)]);
+}
+
+/// Messages with the name of a file.
+#[test]
+fn files_are_named() {
+    let mut head = Head::parse(parser(), "a: b\nT: \u{e9}\nAge 1\n").unwrap();
+    head.field::<List>("T").unwrap();
+    let shown = |file: &str, most| -> Vec<_> {
+        let faults = head.malformed().iter();
+        faults
+            .map(|one| one.excerpt_in(file, most).to_string())
+            .collect()
+    };
+    let expected = "expected a letter, a digit, a quote, `(`, `*`, `-`, `:`, `?`, a space or the \
+                    end";
+    assert_eq!(
+        shown("r.txt", 40),
+        [
+            format!("r.txt, line 2, place 3: T: byte 0xc3, {expected}\nT: ??\n   ^"),
+            String::from(
+                "r.txt, line 3, place 4: not a field line: no colon after the name\nAge 1\n    ^"
+            ),
+            String::from("r.txt, line 4, place 0: the head does not end with an empty line\n\n^"),
+        ]
+    );
+    assert!(shown("", 40)[1].starts_with(", line 3, place 4: not a field line: "));
+    assert!(shown("\u{e9}\0", 0)[1].ends_with("after the name\n\n^"));
+    // Any name that can be written, and the same message without one.
+    let fault = &head.malformed()[1];
+    let path = std::path::Path::new("a").join("b c");
+    let message = fault.excerpt(3).to_string();
+    assert_eq!(
+        message,
+        "line 3, place 4: not a field line: no colon after the name\ne 1\n  ^"
+    );
+    assert_eq!(
+        fault.excerpt_in(path.display(), 3).to_string(),
+        format!("a/b c, {message}")
+    );
+    let name = String::from("n");
+    assert_eq!(
+        fault.excerpt_in(&name, 3).to_string(),
+        format!("n, {message}")
+    );
+    assert_eq!(
+        format!("n, {fault}"),
+        shown("n", 3)[1].lines().next().unwrap()
+    );
+}
+
+/// A fault that holds nonsense is shown all the same.
+#[test]
+fn faults_that_were_changed() {
+    let head = Head::parse(parser(), "a: b\n\0\n\n").unwrap();
+    let mut fault = head.malformed()[0].clone();
+    fault.offset = usize::MAX;
+    fault.number = usize::MAX;
+    fault.field = String::from("x\0\u{e9}");
+    let shown = fault.excerpt(usize::MAX).to_string();
+    let most = usize::MAX;
+    assert_eq!(
+        shown,
+        format!("line {most}, place {most}: x\0\u{e9}: not a field line: no name\n?\n ^")
+    );
+    if let Fault::NotALine(refusal) = &mut fault.fault {
+        refusal.offset = u64::MAX;
+        refusal.found = None;
+        refusal.may_end = true;
+        fault.fault = Fault::Refused(*refusal);
+    }
+    fault.line = b"";
+    let shown = fault.excerpt(0).to_string();
+    assert!(
+        shown.contains(": x\0\u{e9}: the text ended, expected "),
+        "{shown}"
+    );
+    assert!(shown.ends_with("\n\n^"));
 }

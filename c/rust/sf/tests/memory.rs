@@ -1,7 +1,7 @@
 //! Failed allocations of the crate's own vectors: an error, and no abort.
 
 use sf::{
-    field_text, join, normalise, Cache, Dictionary, Error, Exchange, Hop, Kind, List, Parser,
+    field_text, join, normalise, Cache, Dictionary, Error, Exchange, Head, Hop, Kind, List, Parser,
 };
 use sf::{Path, Priority, StringRef};
 use std::alloc::{GlobalAlloc, Layout, System};
@@ -106,4 +106,16 @@ fn a_failed_allocation_is_an_error() {
     each_refused(|| field_text(head, "CDN-Cache-Control"));
     let exchange = Exchange::at(Cache::Shared, 784_111_777);
     each_refused(|| exchange.decide(&["CDN-Cache-Control"], &head));
+    let received = "HTTP/1.1 200 OK\nAge 1\nCDN-Cache-Control: a,\nAge: x\nExpires: 0\nPriority: \
+                    u=\nCache-Status: a,\nX: b=\nX: c";
+    each_refused(|| Head::parse(Parser::new(), received));
+    each_refused(|| {
+        let mut head = Head::parse(Parser::new(), received)?;
+        head.decide(&exchange, &["CDN-Cache-Control"])?;
+        head.response_priority()?;
+        head.field::<Dictionary>("X")?;
+        head.append_or_replace(&hop)?;
+        assert_eq!(head.malformed().len(), 8);
+        Ok(())
+    });
 }

@@ -1,0 +1,123 @@
+//! What is malformed in a head.
+
+use crate::error::write_excerpt;
+use crate::malformed::Fault;
+use alloc::string::String;
+use core::fmt;
+
+/// A line or a field of a [`Head`](crate::Head) that is malformed. It borrows nothing but the line,
+/// from the text that the head borrows, so it can outlive the head. Its `Display` is one line, such
+/// as for a log.
+///
+/// ```
+/// use sf::{Fault, Head, Parser};
+/// let received = "HTTP/1.1 200 OK\r\nAge 20\r\n\r\n";
+/// let malformed = Head::parse(Parser::new(), received).unwrap().malformed().to_vec();
+/// assert!(matches!(malformed[0].fault, Fault::NotALine(refusal) if refusal.offset == 4));
+/// assert_eq!(
+///     malformed[0].to_string(),
+///     "line 2, place 4: not a field line: no colon after the name"
+/// );
+/// ```
+#[derive(Clone, Debug, PartialEq, Eq)]
+#[non_exhaustive]
+pub struct HeadFault<'a> {
+    /// The name by which the field was looked up; empty for a line that is no field line, and for a
+    /// head without an end.
+    pub field: String,
+    /// What is wrong. The offset of a refusal is one in the line.
+    pub fault: Fault,
+    /// The number of the line: see [`Head::set_number`](crate::Head::set_number).
+    pub number: usize,
+    /// The line as it was received: [`HeadLine::received`](crate::HeadLine::received).
+    pub line: &'a [u8],
+    /// The place in the line, from 0: where it is refused; for [`Fault::NotAnAge`], where the first
+    /// member has a byte that is no digit, or ends if it is empty; for [`Fault::NoEnd`], 0;
+    /// otherwise where the value begins.
+    pub offset: usize,
+}
+
+impl HeadFault<'_> {
+    /// A message of three lines: the `Display` of the fault, at most so many bytes of the line
+    /// around the place, and a caret below it. So it has a bound, whatever the length of the line.
+    /// Bytes that are not printable are question marks.
+    ///
+    /// ```
+    /// use sf::{Cache, Exchange, Head, Parser};
+    /// let mut head = Head::parse(Parser::new(), "Age: 1 day\r\n\r\n").unwrap();
+    /// head.decide(&Exchange::at(Cache::Shared, 784_111_777), &[]).unwrap();
+    /// assert_eq!(
+    ///     head.malformed()[0].excerpt(8).to_string(),
+    ///     "line 1, place 6: Age: expected a number of seconds\n\
+    ///      e: 1 day\n\
+    ///      \x20   ^"
+    /// );
+    /// ```
+    #[must_use]
+    pub fn excerpt(&self, most: usize) -> HeadExcerpt<'_> {
+        HeadExcerpt {
+            file: None,
+            fault: self,
+            most,
+        }
+    }
+
+    /// The same after the name of a file, such as a `&str` or the
+    /// [`display`](std::path::Path::display) of a path.
+    ///
+    /// ```
+    /// use sf::{Head, Parser};
+    /// let head = Head::parse(Parser::new(), "Age: 1\r\nVia\r\n\r\n").unwrap();
+    /// assert_eq!(
+    ///     head.malformed()[0].excerpt_in("response.txt", 40).to_string(),
+    ///     "response.txt, line 2, place 3: not a field line: no colon after the name\n\
+    ///      Via\n\
+    ///      \x20  ^"
+    /// );
+    /// ```
+    #[must_use]
+    pub fn excerpt_in<F: fmt::Display>(&self, file: F, most: usize) -> HeadExcerpt<'_, F> {
+        HeadExcerpt {
+            file: Some(file),
+            fault: self,
+            most,
+        }
+    }
+}
+
+impl fmt::Display for HeadFault<'_> {
+    fn fmt(&self, f: &mut fmt::Formatter<'_>) -> fmt::Result {
+        write!(f, "line {}, place {}: ", self.number, self.offset)?;
+        if !self.field.is_empty() {
+            write!(f, "{}: ", self.field)?;
+        }
+        match self.fault {
+            Fault::Refused(refusal) => refusal.write_without_place(f),
+            fault => write!(f, "{fault}"),
+        }
+    }
+}
+
+/// A fault of a head with a part of its line: see [`HeadFault::excerpt`] and
+/// [`HeadFault::excerpt_in`].
+///
+/// ```
+/// let head = sf::Head::parse(sf::Parser::new(), "\0\r\n\r\n").unwrap();
+/// assert!(head.malformed()[0].excerpt(2).to_string().ends_with("\n?\n^"));
+/// ```
+#[derive(Clone, Copy, Debug)]
+pub struct HeadExcerpt<'a, F = &'static str> {
+    file: Option<F>,
+    fault: &'a HeadFault<'a>,
+    most: usize,
+}
+
+impl<F: fmt::Display> fmt::Display for HeadExcerpt<'_, F> {
+    fn fmt(&self, f: &mut fmt::Formatter<'_>) -> fmt::Result {
+        if let Some(file) = &self.file {
+            write!(f, "{file}, ")?;
+        }
+        write!(f, "{}", self.fault)?;
+        write_excerpt(f, self.fault.line, self.fault.offset, self.most)
+    }
+}
