@@ -53,6 +53,8 @@ static void print_path(sf_context *context, sf_head *response) {
     must(sf_write_hop_in(&path, &hops[i], &out));
     printf("came through %.*s\n", SF_ARGS(out));
   }
+  if (path.served != NULL)
+    printf("served by %.*s\n", SF_ARGS(sf_hop_part(&path, path.served->name)));
 }
 
 /* Prints what each signature covers, and its parameters (RFC 9421 section 4.1). */
@@ -62,7 +64,12 @@ static void print_signatures(sf_context *context, sf_head *request) {
   sf_tree tree = sf_tree_in(SF_NODES(nodes), SF_BUFFER(bytes));
   must(sf_find_tree(context, SF_DICT, request, "Signature-Input", &tree));
   for (const sf_node *label = nodes; label < sf_tree_end(&tree); label += label->size) {
-    printf("%.*s covers", SF_ARGS(sf_node_key(&tree, label)));
+    sf_text name = sf_node_key(&tree, label);
+    if (label->type != SF_INNER_LIST) {
+      printf("%.*s is no signature\n", SF_ARGS(name));
+      continue;
+    }
+    printf("%.*s covers", SF_ARGS(name));
     for (const sf_node *item = NULL; (item = sf_next_item(label, item)) != NULL;) {
       must(sf_write_part(context, &tree, item, &out));
       printf(" %.*s", SF_ARGS(out));
