@@ -138,7 +138,7 @@ typedef struct sf_sizes {
  * Buffers of SF_NODES_SIZE(text_length) nodes and SF_BYTES_SIZE(text_length) bytes are always large
  * enough. If the text is well-formed and the buffers are large enough, the call allocates only if
  * keys are copied or, for a Dictionary of more than 32 nodes, if a key is repeated or, rarely, if
- * there are many.
+ * none is.
  *
  * The caller can limit the number of nodes of a value by nodes_capacity. After SF_TOO_MANY and
  * SF_SHORT, buffers of the sizes in *sizes are large enough. The text is then only counted. That

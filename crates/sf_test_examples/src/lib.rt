@@ -1,5 +1,5 @@
-//! Most examples of docs/GUIDE.md, and the first for each field of docs/CONSUMERS.md, as tests. The
-//! laws are called too.
+//! Most examples of docs/GUIDE.md, and the first of docs/CONSUMERS.md on Cache-Status, targeted
+//! fields and Priority, as tests. The laws are called too.
 #![tactic(auto)]
 
 #[cfg(test)]

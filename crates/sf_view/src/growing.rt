@@ -388,9 +388,9 @@ pub(crate) fn grown_parts(
 }
 
 /// Scans a whole text as a field of this kind, as [`View::scan`] does, but also if a key is
-/// repeated in a Dictionary, or there are many keys: then the nodes are those of the members that
-/// stay if a later value of a key overwrites an earlier one and takes its place (RFC 9651 section
-/// 4.2.2). Nodes are added to the buffer as they are needed, so it may be empty; the number of them
+/// repeated in a Dictionary, or its keys are too many or too alike: the nodes are those of the
+/// members that stay if a later value of a key overwrites an earlier one and takes its place (RFC
+/// 9651 section 4.2.2). Nodes are added to the buffer as they are needed, so it may be empty; the number of them
 /// is bounded by what was read of the text and, if a key is repeated, by the number of different
 /// keys. It returns `None` if the text is malformed or has 4 GiB or more, a key of parameters is
 /// repeated, an allocation failed or, rarely, there are many keys with one hash. `None` says

@@ -49,8 +49,8 @@ fn whole_list(dialect: Dialect, text: &[u8], nodes: &mut [Node]) -> Option<usize
     }
 }
 
-/// A Dictionary. If a key is repeated or, rarely, there are too many keys to find out, `repeated`
-/// is set, and the nodes describe the members one by one.
+/// A Dictionary. If a key is repeated or, rarely, its keys are too many or too alike to find out,
+/// `repeated` is set, and the nodes describe the members one by one.
 #[inline]
 fn whole_dict(
     dialect: Dialect,
@@ -87,8 +87,8 @@ fn whole_dict(
 }
 
 /// Writes a node for each part of the text to the buffer, and returns their number; `None` says
-/// nothing about the text. If a key of a Dictionary is repeated, or there are too many keys to find
-/// out, `repeated` is set, and the nodes describe the members one by one.
+/// nothing about the text. If a key of a Dictionary is repeated, or its keys are too many or too
+/// alike to find out, `repeated` is set, and the nodes describe the members one by one.
 pub(crate) fn scan_parts(
     dialect: Dialect,
     kind: Kind,
@@ -112,9 +112,10 @@ pub(crate) fn scan_parts(
 }
 
 /// Writes the nodes of the text to the beginning of the buffer, and returns their number. `None`
-/// says nothing about the text: it may be malformed, repeat a key or, rarely, have many keys, have
-/// 4 GiB or more, or need more nodes than the buffer has. `View::scan` does the same, but returns a
-/// view, or a reason instead of `None`. It does not allocate.
+/// says nothing about the text: it may be malformed, repeat a key or, rarely, have keys that are
+/// too many or too alike to compare, have 4 GiB or more, or need more nodes than the buffer has.
+/// `View::scan` does the same, but returns a view, or a reason instead of `None`. It does not
+/// allocate.
 ///
 /// ```
 /// let mut nodes = [Node::NONE; 16];

@@ -33,8 +33,9 @@ pub struct View<'a> {
 /// Why a text has no view.
 #[derive(Clone, Copy, Debug, PartialEq, Eq)]
 pub enum Unviewed {
-    /// The scanner declines the text: it is malformed, a key is repeated or, rarely, there are many
-    /// keys. `sf_parse::parse_text_in` returns the value or the exact refusal.
+    /// The scanner declines the text: it is malformed, a key is repeated or, rarely, its keys are
+    /// too many or too alike to compare. `sf_parse::parse_text_in` returns the value or the exact
+    /// refusal.
     Declined,
     /// As [`Unviewed::Declined`], or the buffer has too few nodes. As many nodes as the text has
     /// bytes are always enough.
