@@ -138,7 +138,7 @@ impl Parser {
     }
 
     /// The number of bytes taken: after a Syntax refusal its place, after TooLong the limit, and
-    /// after OutOfMemory at most the number of bytes fed. It does not allocate.
+    /// after OutOfMemory at most the length of the text fed, lines joined. It does not allocate.
     ///
     /// ```
     /// parser.feed(b"a, ")?;
