@@ -16,7 +16,8 @@
  *   The fields of a head      sf_find_priority, sf_find_hops, sf_add_hop, sf_show_fault_in
  *   What a cache decides      sf_decide_response; its parts, such as sf_choose_rules
  *
- * All of them are inline functions, which are tested, over those of the library, which are proved.
+ * All of them are inline functions, which are tested. Many call functions of the library, which are
+ * proved.
  * libsf.a and libsf.so.0 require only the C library. Two more files are parts of this one:
  * sf_functions.h declares and documents the functions of the library, which take pointers, lengths
  * and numbers of fixed width, as other languages call them; sf_inline.h has the inline bodies.
