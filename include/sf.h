@@ -29,10 +29,10 @@
  *   printf("%d\n", client.urgency); // 5
  *
  * A text is an sf_text, a buffer is a struct with its capacity, the results of a call are in one
- * struct, and an sf_context has what a program sets once. So the compiler reports swapped
- * arguments: only the two texts of sf_equal_texts have the same type, and the key and the text of
- * the functions of sf_builder. A call returns an sf_status, unless its comment says what else it
- * returns. The constants for kinds, dialects, roles, types, caches, reuses, causes and fields all
+ * struct, and an sf_context has what a program sets once. So the compiler reports most swapped
+ * arguments: not the two texts of sf_equal_texts, the name and the value of sf_add_field_line, the
+ * key and the text of the functions of sf_builder, nor, in C, a number in the place of an enum. A
+ * call returns an sf_status, unless its comment says what else it returns. The constants for kinds, dialects, roles, types, caches, reuses, causes and fields all
  * differ, and none is 0: if a kind is passed as the dialect, the call returns SF_BAD_CALL.
  *
  * The caller provides the buffer for each result, and never owns or frees memory of the library. If
@@ -249,7 +249,8 @@ static inline sf_context sf_context_of(sf_seed seed, sf_dialect dialect);
 typedef struct sf_buffer {
   char *at;        /* the caller's bytes */
   size_t capacity; /* how many there are */
-  size_t length;   /* how many of them the last call wrote; 0 unless it returned SF_OK */
+  size_t length;   /* how many of them the last call wrote, 0 unless it returned SF_OK; of a call
+                      that adds to them, how many there are */
   size_t required; /* after SF_SHORT, the capacity that the call requires */
 } sf_buffer;
 
@@ -546,7 +547,8 @@ static inline sf_nodes sf_nodes_of(sf_node *at, size_t capacity);
 typedef struct sf_tree {
   sf_text text;    /* that sf_read_tree parsed */
   sf_nodes nodes;  /* the first nodes.length are the value, in the order of sf_node */
-  sf_buffer bytes; /* what is escaped or encoded in the text, decoded */
+  sf_buffer bytes; /* what is escaped or encoded in the text, decoded; or all keys and bytes: see
+                      sf_parse */
   uint32_t kind;   /* the sf_kind */
 } sf_tree;
 
