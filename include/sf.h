@@ -32,8 +32,9 @@
  * struct, and an sf_context has what a program sets once. So the compiler reports most swapped
  * arguments: not the two texts of sf_equal_texts, the name and the value of sf_add_field_line, the
  * key and the text of the functions of sf_builder, nor, in C, a number in the place of an enum. A
- * call returns an sf_status, unless its comment says what else it returns. The constants for kinds, dialects, roles, types, caches, reuses, causes and fields all
- * differ, and none is 0: if a kind is passed as the dialect, the call returns SF_BAD_CALL.
+ * call returns an sf_status, unless its comment says what else it returns. The constants for kinds,
+ * dialects, roles, types, caches, reuses, causes and fields all differ, and none is 0: if a kind is
+ * passed as the dialect, the call returns SF_BAD_CALL.
  *
  * The caller provides the buffer for each result, and never owns or frees memory of the library. If
  * a buffer is too small, the call returns SF_SHORT (SF_TOO_MANY for the nodes of sf_read_tree) and
@@ -120,8 +121,8 @@ enum {
 /* The result of a call. */
 typedef enum sf_status {
   SF_OK = 0,             /* success */
-  SF_REFUSED = 1,        /* the text is malformed: sf_refusal says where and why; of Cache-Control, a
-                            line is no list of directives */
+  SF_REFUSED = 1,        /* the text is malformed: sf_refusal says where and why; of Cache-Control,
+                            a line is no list of directives */
   SF_SECOND_REFUSED = 2, /* of two texts, the first is well-formed and the second is malformed */
   SF_SHORT = 3,          /* a buffer is too small */
   SF_NO_MEMORY = 4,      /* malloc or realloc failed */
