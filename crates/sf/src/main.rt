@@ -6,7 +6,7 @@ use sf_tool::{ErrorStream, Request, RequestFault, Status, read_request, run};
 use sf_value::{Reading, Writing};
 use std::env;
 use std::hash::RandomState;
-use std::io::{IsTerminal, Write};
+use std::io::{ErrorKind, IsTerminal, Write};
 use std::process::ExitCode;
 
 fn main(rt: HostRuntime) -> ExitCode {
@@ -23,8 +23,13 @@ fn main(rt: HostRuntime) -> ExitCode {
 
 /// The request of the command line.
 fn request_of(rt: &HostRuntime) -> Result<Request, RequestFault> {
-    let Ok(args) = env::args(rt) else {
-        return Err(RequestFault::OutOfMemory);
+    let args = match env::args(rt) {
+        Ok(args) => args,
+        Err(error) => match error.kind() {
+            ErrorKind::OutOfMemory => return Err(RequestFault::OutOfMemory),
+            // An argument is not UTF-8.
+            _ => return Err(RequestFault::Usage),
+        },
     };
     let words: Vec<String> = match args.collect(rt.alloc()) {
         Ok(words) => words,

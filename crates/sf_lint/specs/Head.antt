@@ -1,9 +1,9 @@
 -- The lines of heads, and the messages that they belong to.
-use Rattle.std.specs.Prelude.{◌≡◌, ℕ, ◌<◌, ◌≤◌, Bool, true, false, ◌&&◌, ◌||◌, not, ◌==◌}
-use Rattle.std.specs.Prelude.{List, [], ◌∷◌, map, drop, get_or, codes, if◌then◌else◌}
-use Rattle.std.specs.List.{list_any, filter, starts_with, before_first, after_first}
+use Rattle.std.specs.Prelude.{◌≡◌, ℕ, ◌<◌, ◌≤◌, Bool, true, false, ◌&&◌, ◌||◌, not, ◌==◌, nat_lt}
+use Rattle.std.specs.Prelude.{List, [], ◌∷◌, length, map, drop, get_or, codes, if◌then◌else◌}
+use Rattle.std.specs.List.{list_all, list_any, filter, starts_with, before_first, after_first}
 use Rattle.std.specs.Str.{str_eq_ignore_ascii_case}
-use Rattle.sf_value.specs.Grammar.Classes.{is_ows, is_sp}
+use Rattle.sf_value.specs.Grammar.Classes.{is_ows, is_sp, is_tchar}
 use Rattle.sf_tool.specs.Fields.{is_colon, word_of, name_of, value_of, has_name}
 use Rattle.sf_lint.specs.declared.head.Line.{Line}
 use Rattle.sf_lint.specs.declared.head.Line.TheVariants.{Empty, Folded, Start, Field, Nameless}
@@ -20,12 +20,14 @@ word_after line = after_first is_sp line
 abbrev pub is_status_line : List ℕ → Bool
 is_status_line line = begins_with_protocol line
 
--- a request line has a method, a target and the version, with a space between (RFC 9112 section 3);
--- a method has no colon
+-- a method is a token (RFC 9110 section 9.1)
+abbrev pub is_method : List ℕ → Bool
+is_method word = nat_lt 0 (length word) && list_all is_tchar word
+
+-- a request line has a method, a target and the version, with a space between (RFC 9112 section 3)
 abbrev pub is_request_line : List ℕ → Bool
 is_request_line line =
-    not (list_any is_colon (before_first is_sp line))
-    && begins_with_protocol (word_after (word_after line))
+    is_method (before_first is_sp line) && begins_with_protocol (word_after (word_after line))
 
 abbrev pub is_start : List ℕ → Bool
 is_start line = is_status_line line || is_request_line line

@@ -3,12 +3,12 @@ ghost use Rattle.std.specs.Prelude.{◌≡◌, ◌∷◌, ◌<◌, ◌≤◌, le
 ghost use Rattle.std.specs.Str.Lines.{lines};
 ghost use Rattle.sf_lint.specs.Head.{word_after, begins_with_protocol, is_start as is_start_in};
 ghost use Rattle.sf_lint.specs.Head.{is_named as is_named_in, is_status_line as is_status_line_in};
-ghost use Rattle.sf_lint.specs.Head.{line_of};
+ghost use Rattle.sf_lint.specs.Head.{is_method as is_method_in, line_of};
 ghost use Rattle.sf_tool.specs.Fields.{value_of as value_in};
 ghost use Rattle.std.specs.List.{before_first};
 ghost use Rattle.sf_value.specs.Grammar.Classes.{is_sp};
 
-use http_header::HeaderName;
+use http_header::{HeaderName, is_token_char};
 use sf_tool::{header_name, split_at_first, split_line, trimmed};
 use sf_value::{OutOfMemory, is_ows};
 use std::alloc::Global;
@@ -62,14 +62,21 @@ pub(crate) fn is_status_line(line: &[u8]) -> bool
     has_protocol(line)
 }
 
+/// Returns whether the word is a token, as a method is (RFC 9110 section 9.1).
+fn is_method(word: &[u8]) -> bool
+    ensures { result ≡ is_method_in word.now }
+{
+    !word.is_empty() && word.iter().all(|byte| is_token_char(*byte))
+}
+
 /// Returns whether the line begins a message: whether it is a status line or a request line. Of a
-/// request line, the first word is a method, which has no colon, and the third is the version. So a
-/// field line such as `a: b HTTP/1.1` is none.
+/// request line, the first word is a method, and the third is the version. So a field line such as
+/// `a: b HTTP/1.1` is none, nor is a folded line such as ` a HTTP/1.1`.
 pub(crate) fn is_start(line: &[u8]) -> bool
     ensures { result ≡ is_start_in line.now }
 {
     has_protocol(line)
-        || (!first_word(line).contains(&b':') && has_protocol(after_word(after_word(line))))
+        || (is_method(first_word(line)) && has_protocol(after_word(after_word(line))))
 }
 
 /// Returns whether the line has a colon, and this name before it in any case.

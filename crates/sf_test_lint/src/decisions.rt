@@ -248,7 +248,7 @@ fn whole_outputs(rt: HostRuntime) -> Result<(), Fail> {
     let mut targets = one(&rt, HeaderName::from_static("examplecdn-cache-control"))?;
     targets.push(HeaderName::from_static("cdn-cache-control"))?;
     let options = deciding(&rt, targets, None, false);
-    let rows: [(&'static [u8], &'static [u8], Status); 7] = [
+    let rows: [(&'static [u8], &'static [u8], Status); 9] = [
         (b"", b"other fields: 0\n", Status::Accepted),
         (b"\r\n\n", b"other fields: 0\n", Status::Accepted),
         (
@@ -297,6 +297,19 @@ fn whole_outputs(rt: HostRuntime) -> Result<(), Fail> {
         (
             b"HTTP/1.1 200 OK\nCache-Control: max-age=60,\n no-store\n",
             b"HTTP/1.1 200 OK\nrefused line 3: obsolete line folding\nline 3, place 0:\n no-store\n^\n\
+              decision none: line 3 is no field line\nother fields: 1\n",
+            Status::Refused,
+        ),
+        // also if its third word is a version: a method is a token, and such a line has none
+        (
+            b"HTTP/1.1 200 OK\nCache-Control: max-age=60,\n no-store HTTP/1.1\n",
+            b"HTTP/1.1 200 OK\nrefused line 3: obsolete line folding\nline 3, place 0:\n no-store HTTP/1.1\n^\n\
+              decision none: line 3 is no field line\nother fields: 1\n",
+            Status::Refused,
+        ),
+        (
+            b"HTTP/1.1 200 OK\nCache-Control: max-age=60\nno-store, x HTTP/1.1\n",
+            b"HTTP/1.1 200 OK\nrefused line 3: not a field line\nline 3, place 8:\nno-store, x HTTP/1.1\n        ^\n\
               decision none: line 3 is no field line\nother fields: 1\n",
             Status::Refused,
         ),

@@ -8,7 +8,7 @@ use sf_value::{Reading, Writing};
 use std::env;
 use std::env::VarError;
 use std::hash::RandomState;
-use std::io::{IsTerminal, Write};
+use std::io::{ErrorKind, IsTerminal, Write};
 use std::process::ExitCode;
 
 fn main(rt: HostRuntime) -> ExitCode {
@@ -29,8 +29,13 @@ fn main(rt: HostRuntime) -> ExitCode {
 
 /// The options of the command line.
 fn options_of(rt: &HostRuntime) -> Result<Options, OptionsFault> {
-    let Ok(args) = env::args(rt) else {
-        return Err(OptionsFault::OutOfMemory);
+    let args = match env::args(rt) {
+        Ok(args) => args,
+        Err(error) => match error.kind() {
+            ErrorKind::OutOfMemory => return Err(OptionsFault::OutOfMemory),
+            // An argument is not UTF-8.
+            _ => return Err(OptionsFault::Usage),
+        },
     };
     let words: Vec<String> = match args.collect(rt.alloc()) {
         Ok(words) => words,
