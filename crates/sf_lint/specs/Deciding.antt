@@ -79,7 +79,8 @@ decided_lines name r expires p =
     decided_line cache.Shared name r expires p ++ decided_line cache.Private name r expires p
 
 -- the lines of a choice: a targeted field decides alone, and Expires is ignored (RFC 9213 section
--- 2.2); if none can be used, Cache-Control decides, and Expires if that sets no lifetime
+-- 2.2); if none can be used, Cache-Control decides, and Expires if that has no max-age (for a
+-- shared cache, no s-maxage either)
 abbrev pub IsChoiceText : List (List ℕ) → Headers → Response → RulesChoice → List ℕ → Type 0
 IsChoiceText targets headers p (choice.Field index r) text =
     text ≡ decided_lines (get_or targets index []) r None p

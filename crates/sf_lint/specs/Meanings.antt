@@ -66,7 +66,7 @@ ignored_params s n params =
     ++ (ignored_at s n params text_at (codes "key")
     ++ ignored_at s n params name_at (codes "detail")))))))
 
--- the line for parameters that are read, but invalid
+-- the line for parameters that are not ignored, but invalid
 abbrev pub invalid_line : Settings → Seq ℕ → Bool → Seq ℕ
 invalid_line s what true = verdict_text s Invalid ++ (codes " " ++ (what ++ codes "\n"))
 invalid_line s what false = []

@@ -190,7 +190,7 @@ fault_status OutOfMemory = status.Stopped
 -- the text on standard output for a fault
 abbrev pub fault_text : OptionsFault → Option (List ℕ)
 fault_text Usage = None
-fault_text Help = Some (codes "usage: sflint [--field NAME:item|list|dict].. [--quiet]\n              [--decide [--age SECONDS] [--target NAME]..]\n\nReads the heads of HTTP messages from standard input, as curl -sI prints them, and\nshows each structured field: its canonical text and its meaning, or why it is refused.\n\n  --field NAME:KIND  a field that is not registered, with its kind: item, list or dict\n  --quiet            show only what is refused, and decisions\n  --decide           show what a shared and a private cache decide about each response\n  --age SECONDS      the age of each response; without it, that of its Age\n  --target NAME      a field that the caches obey before Cache-Control (RFC 9213), in\n                     order of preference; without it, CDN-Cache-Control\n  --help             show this help\n  --version          show the version\n\nThe status is 0 if everything is accepted, 1 if something is refused, 2 if the arguments\nare wrong, and 3 if an allocation or a device fails.\n")
+fault_text Help = Some (codes "usage: sflint [--field NAME:item|list|dict].. [--quiet]\n              [--decide [--age SECONDS] [--target NAME]..]\n\nReads the heads of HTTP messages from standard input, as curl -sI prints them, and\nshows each structured field: its canonical text and its meaning, or why it is refused.\n\n  --field NAME:KIND  a field to check, with its kind: item, list or dict\n  --quiet            show only what is refused, and decisions\n  --decide           show what a shared and a private cache decide about each response\n  --age SECONDS      the age of each response; without it, that of its Age\n  --target NAME      a field that the caches obey before Cache-Control (RFC 9213), in\n                     order of preference; without it, CDN-Cache-Control\n  --help             show this help\n  --version          show the version\n\nThe status is 0 if everything is accepted, 1 if something is refused, 2 if the arguments\nare wrong, and 3 if an allocation or a device fails.\n")
 fault_text Version = Some (codes "sflint 0.1.0\n")
 fault_text OutOfMemory = None
 

@@ -1,5 +1,5 @@
 //! The parameters of Cache-Status (RFC 9211) that are ignored, since they have another type or
-//! range than the RFC states, and those that are read but invalid.
+//! range than the RFC states, and those that are not ignored, but invalid.
 ghost use Rattle.std.specs.Prelude.{◌≡◌, ◌++◌, IfOk};
 ghost use Rattle.sf_value.specs.Grammar.Pairs.{value_at};
 ghost use Rattle.sf_value.specs.Lookups.{as_integer as integer_of};
@@ -183,7 +183,8 @@ fn invalid_text(
     Ok(line.into_bytes())
 }
 
-/// Returns the lines for the parameters of the member of this number that are read, but invalid.
+/// Returns the lines for the parameters of the member of this number that are not ignored, but
+/// invalid.
 fn invalid_params(
     alloc: Global,
     settings: &Settings,

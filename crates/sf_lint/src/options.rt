@@ -72,7 +72,7 @@ impl OptionsFault {
                  Reads the heads of HTTP messages from standard input, as curl -sI prints them, and\n\
                  shows each structured field: its canonical text and its meaning, or why it is \
                  refused.\n\
-                 \n  --field NAME:KIND  a field that is not registered, with its kind: item, list or dict\
+                 \n  --field NAME:KIND  a field to check, with its kind: item, list or dict\
                  \n  --quiet            show only what is refused, and decisions\
                  \n  --decide           show what a shared and a private cache decide about each response\
                  \n  --age SECONDS      the age of each response; without it, that of its Age\

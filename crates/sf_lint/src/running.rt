@@ -49,8 +49,9 @@ pub fn run<R: Source, W: Sink>(
 ///
 /// The lines are those of the field that is obeyed, in the words of `sf targeted --fallback`, and
 /// are written with `quiet` too. A decision also depends on the status code of the status line, on
-/// `Age` if the caches have no age, and on `Expires` and `Date` if `Cache-Control` decides but sets
-/// no lifetime. What caches decide does not change the result.
+/// `Age` if the caches have no age, and on `Expires` and `Date` if `Cache-Control` decides but has
+/// no `max-age` (for a shared cache, no `s-maxage` either). What caches decide does not change the
+/// result.
 ///
 /// ```
 /// // caches: Some(CacheSettings { targets: [CDN_CACHE_CONTROL], age: Some(15) })
