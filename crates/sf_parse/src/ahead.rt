@@ -22,8 +22,9 @@ fn head(text: &[u8]) -> &[u8]
 /// the search gives up: a text that is refused early may have many more.
 const STRINGS: usize = 4;
 
-/// Whether there is a comma near the beginning of a text, outside Strings. A member of a chunk is
-/// left to the levels if no comma follows it, since it would have to be read again.
+/// Whether there is a comma near the beginning of a text, outside Strings. In a chunk, an Inner List
+/// or an Item with parameters is left to the levels if no comma follows it, since it would have to
+/// be read again.
 pub fn has_comma(text: &[u8]) -> bool {
     let mut rest = head(text);
     for _ in 0..STRINGS {

@@ -46,8 +46,8 @@ list_of ms = field.List (record { members = ms })
 abbrev pub dict_of : Pairs Member → Field
 dict_of ps = field.Dict (record { members = ps })
 
--- a field of a kind (4.2): SP, an Item, SP; or a List or a Dictionary with its spaces. Every claim
--- on texts and values is about this relation.
+-- a field of a kind (4.2): SP, an Item, SP; or a List or a Dictionary with its spaces. The claims
+-- on parsing are about this relation.
 abbrev pub SpellsField : Dialect → Kind → Seq ℕ → Field → Type 0
 SpellsField d kind.Item t (field.Item i) =
     (gap body tail : Seq ℕ)
