@@ -39,8 +39,8 @@ fn main() -> Result<(), Box<dyn Error>> {
     let (request, response) = (read(request_name)?, read(response_name)?);
     // The RFCs of the fields cite RFC 8941, and RFC 9651 adds no types to them.
     let parser = Parser::new().with_dialect(Dialect::Rfc8941);
-    let mut request = Head::parse(parser, &request)?;
-    let mut response = Head::parse(parser, &response)?;
+    let mut request = Head::parse_request(parser, &request)?;
+    let mut response = Head::parse_response(parser, &response)?;
     let mut out = io::stdout().lock();
 
     let client = request.priority()?;
@@ -58,7 +58,8 @@ fn main() -> Result<(), Box<dyn Error>> {
     }
 
     // What a shared cache does with the response (RFC 9213 and RFC 9111).
-    let exchange = Exchange::now(Cache::Shared).with_request(&request);
+    let exchange = Exchange::now(Cache::Shared).with_understood(true); // each final status code
+    let exchange = exchange.with_request(&mut request)?;
     let verdict = response.decide(&exchange, &TARGETS)?;
     writeln!(out, "{verdict}")?;
 

@@ -275,16 +275,32 @@ pub(crate) fn write_excerpt(
     let length = text.len();
     let at = offset.min(length);
     let from = at.saturating_sub(most / 2).min(length.saturating_sub(most));
-    f.write_str("\n")?;
-    for byte in &text[from..length.min(from.saturating_add(most))] {
-        let is_printable = matches!(byte, b' '..=b'~');
-        write!(f, "{}", if is_printable { char::from(*byte) } else { '?' })?;
+    let part = text[from..length.min(from.saturating_add(most))].iter();
+    let shown = part.map(|byte| match byte {
+        b' '..=b'~' => *byte,
+        _ => b'?',
+    });
+    let spaces = (from..at).map(|_| b' ');
+    let end = |byte| core::iter::once(byte);
+    let all = end(b'\n').chain(shown).chain(end(b'\n')).chain(spaces);
+    write_ascii(f, all.chain(end(b'^')))
+}
+
+/// Writes bytes of ASCII, many with one call, since each may be a call of the system: a standard
+/// error has no buffer.
+fn write_ascii(f: &mut fmt::Formatter<'_>, mut bytes: impl Iterator<Item = u8>) -> fmt::Result {
+    let mut run = [0; 128];
+    loop {
+        let mut length = 0;
+        for (slot, byte) in run.iter_mut().zip(&mut bytes) {
+            *slot = byte;
+            length += 1;
+        }
+        f.write_str(core::str::from_utf8(&run[..length]).unwrap_or_default())?;
+        if length < run.len() {
+            return Ok(());
+        }
     }
-    f.write_str("\n")?;
-    for _ in from..at {
-        f.write_str(" ")?;
-    }
-    f.write_str("^")
 }
 
 impl From<&raw::Refusal> for Refusal {
@@ -481,6 +497,31 @@ use std::error::Error as StdError;
 
 impl StdError for Refusal {}
 impl StdError for Error {}
+
+/// For functions that return what `std::io` does: the kind is `OutOfMemory` for
+/// [`Error::OutOfMemory`], and otherwise `InvalidData`, with this error inside.
+///
+/// ```
+/// use std::io::{self, ErrorKind};
+/// fn label(text: &str) -> io::Result<sf::Key> {
+///     Ok(sf::Key::new(text)?)
+/// }
+/// let error = label("A").unwrap_err();
+/// assert_eq!(error.kind(), ErrorKind::InvalidData);
+/// let inner = error.get_ref().unwrap().downcast_ref::<sf::Error>();
+/// assert_eq!(inner.unwrap().refusal().unwrap().offset, 0);
+/// assert_eq!(io::Error::from(sf::Error::OutOfMemory).kind(), ErrorKind::OutOfMemory);
+/// ```
+#[cfg(feature = "std")]
+impl From<Error> for std::io::Error {
+    fn from(error: Error) -> std::io::Error {
+        match error {
+            // Without the error inside, for which it would allocate.
+            Error::OutOfMemory => std::io::ErrorKind::OutOfMemory.into(),
+            error => std::io::Error::new(std::io::ErrorKind::InvalidData, error),
+        }
+    }
+}
 
 // For what is taken as `TryInto<Key>` and is a `Key`.
 impl From<core::convert::Infallible> for Error {

@@ -45,10 +45,17 @@ pub struct Exchange {
     /// Whether the cache understands the status code and implements its requirements, which counts
     /// for 206, 304 and `must-understand` (RFC 9111 sections 3 and 5.2.2.3).
     pub is_understood: bool,
+    /// Whether the method of the request is neither `GET` nor `HEAD`, the only ones whose responses
+    /// most caches store (RFC 9110 section 9.2.3). [`Exchange::with_request`] sets it, and the next
+    /// three.
+    pub is_other_method: bool,
+    /// Whether `Cache-Control` of the request has `no-store` (RFC 9111 section 5.2.1.5), or is
+    /// malformed, so that it may have had it.
+    pub is_request_no_store: bool,
     /// Whether the request had `Authorization` (section 3.5).
     pub is_authorized: bool,
-    /// Whether a line of the request's head is no field line, or that head did not end: it may have
-    /// had `Authorization`. [`Exchange::with_request`] sets it.
+    /// Whether a line of the request's head is no field line, or that head did not end, or is that
+    /// of a response: the request may have had `Authorization`.
     pub is_request_incomplete: bool,
     /// Whether a line of the head is no field line ([`crate::split_field_line`]), or the head did not
     /// end: a directive may be missing.
@@ -63,8 +70,8 @@ pub struct Exchange {
 
 impl Exchange {
     /// A response that is received and used at this time, and the request was sent then. Its status
-    /// code is not known, nor understood, and the request had no `Authorization`. Both heads are
-    /// complete.
+    /// code is not known, nor understood. Nothing in the request forbids storing, and both heads
+    /// are complete.
     ///
     /// ```
     /// use sf::{Cache, Exchange};
@@ -80,6 +87,8 @@ impl Exchange {
             cache,
             status: None,
             is_understood: false,
+            is_other_method: false,
+            is_request_no_store: false,
             is_authorized: false,
             is_request_incomplete: false,
             is_incomplete: false,
@@ -149,28 +158,40 @@ impl Exchange {
         }
     }
 
-    /// The same with what the head of the request says: [`Exchange::is_authorized`] and
-    /// [`Exchange::is_request_incomplete`].
+    /// The same with what the head of the request says: [`Exchange::is_other_method`],
+    /// [`Exchange::is_request_no_store`], [`Exchange::is_authorized`] and
+    /// [`Exchange::is_request_incomplete`]. A line of its `Cache-Control` that is malformed becomes
+    /// one of its [`Head::malformed`].
+    ///
+    /// # Errors
+    ///
+    /// [`Error::OutOfMemory`] only.
     ///
     /// ```
     /// use sf::{Cache, Exchange, Head, Obstacle, Parser};
     /// let obstacle = |request| {
-    ///     let request = Head::parse(Parser::new(), request).unwrap();
-    ///     let exchange = Exchange::at(Cache::Shared, 784_111_777).with_request(&request);
+    ///     let mut request = Head::parse_request(Parser::new(), request).unwrap();
+    ///     let exchange = Exchange::at(Cache::Shared, 784_111_777);
+    ///     let exchange = exchange.with_request(&mut request).unwrap();
     ///     exchange.decide(&[], [("Cache-Control", "max-age=60")]).unwrap().obstacle
     /// };
+    /// assert_eq!(obstacle("POST / HTTP/1.1\r\n\r\n"), Some(Obstacle::Method));
+    /// let no_store = obstacle("GET / HTTP/1.1\r\nCache-Control: no-store\r\n\r\n");
+    /// assert_eq!(no_store, Some(Obstacle::RequestNoStore));
     /// let authorized = obstacle("GET / HTTP/1.1\r\nAuthorization: a\r\n\r\n");
     /// assert_eq!(authorized, Some(Obstacle::Authorization));
     /// assert_eq!(obstacle("GET / HTTP/1.1\r\n"), Some(Obstacle::RequestHead));
     /// assert_eq!(obstacle("GET / HTTP/1.1\r\n\r\n"), None);
     /// ```
-    #[must_use]
-    pub fn with_request(self, request: &Head<'_>) -> Exchange {
-        Exchange {
+    pub fn with_request(self, request: &mut Head<'_>) -> Result<Exchange, Error> {
+        let is_other = |method| method != b"GET" && method != b"HEAD";
+        Ok(Exchange {
+            is_other_method: request.method().map_or(false, is_other),
+            is_request_no_store: request.is_no_store()?,
             is_authorized: request.has_field("Authorization"),
-            is_request_incomplete: request.is_incomplete(),
+            is_request_incomplete: request.is_incomplete() || request.status().is_some(),
             ..self
-        }
+        })
     }
 
     /// The same with whether a line of the head is no field line, or the head did not end. A
@@ -291,7 +312,7 @@ impl Exchange {
         self.status.map_or(false, |code| CODES.contains(&code))
     }
 
-    /// Why the response may not be stored, by all but the method (RFC 9111 section 3).
+    /// Why the response may not be stored (RFC 9111 section 3).
     fn obstacle(
         &self,
         decision: &Decision,
@@ -304,6 +325,12 @@ impl Exchange {
             } else {
                 Obstacle::Directive
             });
+        }
+        if self.is_other_method {
+            return Some(Obstacle::Method);
+        }
+        if self.is_request_no_store {
+            return Some(Obstacle::RequestNoStore);
         }
         if self.is_incomplete {
             return Some(Obstacle::Incomplete);
@@ -327,7 +354,8 @@ impl Exchange {
 
 /// What a cache does with a response, by the whole of its head: see [`Exchange::decide`]. It
 /// borrows the names of the target list, and nothing of the head. Its `Display` is the field that
-/// decides, the decision, and the obstacle, unless the decision says it.
+/// decides, the decision, without a cause that has the name of the field, and the obstacle, unless
+/// the decision says it.
 ///
 /// ```
 /// use sf::{Cache, Exchange};
@@ -336,7 +364,7 @@ impl Exchange {
 ///     ("Date", "Sun, 06 Nov 1994 08:49:37 GMT"),
 /// ];
 /// let verdict = Exchange::at(Cache::Shared, 784_111_777).decide(&[], &head).unwrap();
-/// assert_eq!(verdict.to_string(), "Expires: fresh for 60 s (expires)");
+/// assert_eq!(verdict.to_string(), "Expires: fresh for 60 s");
 /// assert_eq!(verdict.fresh_for().map(u64::from), Some(60));
 /// ```
 #[derive(Clone, Debug, PartialEq, Eq)]
@@ -381,10 +409,22 @@ pub struct Verdict<'a> {
     /// assert_eq!(decision.reuse, Reuse::Fresh { seconds: 40 });
     /// ```
     pub allows_heuristic: bool,
-    /// The fields that were read and are malformed: targeted fields, which are ignored;
+    /// The fields that counted and are malformed: targeted fields, which are ignored;
     /// `Cache-Control`, which counts as `no-store` then; `Age`, which counts as 0; `Expires`, which
     /// is in the past then; and `Date`, for which [`Exchange::received`] counts. Those of the target
-    /// list after the one that decides are not read, nor `Cache-Control`, `Expires` and `Date` then.
+    /// list after the one that decides don't count, nor `Cache-Control`, `Expires` and `Date` then.
+    /// `Expires` counts only if `Cache-Control` sets no lifetime, does not forbid storing and has
+    /// no `no-cache`, and `Date` only if `Expires` does: `no-store` with `Expires: 0` is no fault.
+    ///
+    /// ```
+    /// use sf::{Cache, Exchange};
+    /// let count = |head: &[(&str, &str)]| {
+    ///     let verdict = Exchange::at(Cache::Shared, 784_111_777).decide(&[], head);
+    ///     verdict.unwrap().malformed.len()
+    /// };
+    /// assert_eq!(count(&[("Expires", "0")]), 1);
+    /// assert_eq!(count(&[("Cache-Control", "no-store"), ("Expires", "0")]), 0);
+    /// ```
     pub malformed: Vec<Malformed<'a>>,
     /// Whether no target decides and `Cache-Control` is malformed, so that it counts as `no-store`.
     ///
@@ -414,6 +454,11 @@ pub enum Obstacle {
     /// No target decides, and a line of `Cache-Control` is malformed, so that it counts as
     /// `no-store` ([`Verdict::is_refused`]).
     Malformed,
+    /// The method of the request is neither `GET` nor `HEAD` ([`Exchange::is_other_method`]).
+    Method,
+    /// `Cache-Control` of the request has `no-store` or is malformed
+    /// ([`Exchange::is_request_no_store`]).
+    RequestNoStore,
     /// The status code is not final, or is 206 or 304 and not understood.
     Status,
     /// The request had `Authorization`, the cache is shared, and no directive permits it (section
@@ -425,7 +470,8 @@ pub enum Obstacle {
     /// Nothing permits it: no directive, no `Expires` that counts, and the status code is not
     /// heuristically cacheable (RFC 9110 section 15.1).
     Unpermitted,
-    /// A line of the head is no field line, or the head did not end ([`Exchange::is_incomplete`]).
+    /// A line of the head is no field line, or the head did not end, or does not begin with the
+    /// status line that it requires ([`Exchange::is_incomplete`]).
     Incomplete,
     /// The [`Head`] is that of a request ([`Head::is_request`]).
     NotAResponse,
@@ -442,6 +488,8 @@ impl Obstacle {
         match self {
             Obstacle::Directive => "a directive forbids it",
             Obstacle::Malformed => "Cache-Control is malformed",
+            Obstacle::Method => "the method of the request is neither GET nor HEAD",
+            Obstacle::RequestNoStore => "the request has no-store",
             Obstacle::Status => "the status code forbids it",
             Obstacle::Authorization => "the request had Authorization",
             Obstacle::RequestHead => {
@@ -462,8 +510,9 @@ impl fmt::Display for Obstacle {
 
 impl Verdict<'_> {
     /// Whether the response may be stored (RFC 9111 section 3): by the directives, `Expires`, the
-    /// status code, `Authorization` and whether the head is complete. Whether the cache understands
-    /// the method is the caller's to know.
+    /// status code, whether the head is complete, and what [`Exchange::with_request`] takes from
+    /// the request: its method, `no-store` and `Authorization`. The rest is the caller's: `Vary`,
+    /// other directives of the request, and extensions.
     ///
     /// ```
     /// use sf::{Cache, Exchange};
@@ -518,7 +567,13 @@ impl fmt::Display for Verdict<'_> {
         if self.is_refused {
             write!(f, "{} (malformed)", self.decision.reuse)?;
         } else {
-            write!(f, "{}", self.decision)?;
+            // The name of the field says it.
+            let cause = self.decision.cause.filter(|it| *it != Cause::Expires);
+            let decision = Decision {
+                cause,
+                ..self.decision
+            };
+            write!(f, "{decision}")?;
         }
         match self.obstacle {
             None | Some(Obstacle::Directive | Obstacle::Malformed) => Ok(()),
@@ -557,7 +612,8 @@ impl Parser {
         let (rules, lifetime, is_refused) = if let Some((_, rules)) = obeyed {
             (rules, None, false)
         } else {
-            let fallback = Fallback::read(head.clone(), &mut malformed)?;
+            let lines = head.clone().into_iter().enumerate();
+            let fallback = Fallback::read(lines, &mut malformed)?;
             let lifetime = fallback.lifetime(exchange.received);
             (fallback.rules(), lifetime, fallback.is_refused())
         };
@@ -569,6 +625,9 @@ impl Parser {
             is_understood: exchange.is_understood,
         };
         let decision = rules.decide(exchange.cache, response);
+        if lifetime.is_none() || !counts_expires(&decision, &rules, exchange.cache) {
+            malformed.retain(|one| !matches!(one.fault, Fault::NotADate | Fault::Repeated));
+        }
         let field = match (obeyed, decision.cause) {
             (Some((index, _)), _) => Some(targets[index]),
             (None, Some(Cause::Expires)) => Some("Expires"),
@@ -618,6 +677,18 @@ impl Parser {
 /// Ages and lifetimes are at most this many seconds (RFC 9111 section 1.2.2).
 const MOST: u64 = 1 << 31;
 
+/// Whether a cache obeys `s-maxage`, which may be invalid.
+fn has_s_maxage(rules: &CacheRules, cache: Cache) -> bool {
+    cache == Cache::Shared && (rules.invalid_s_maxage || rules.policy.s_maxage.is_some())
+}
+
+/// Whether a lifetime by `Expires` counts beside these directives, which decided so.
+fn counts_expires(decision: &Decision, rules: &CacheRules, cache: Cache) -> bool {
+    let has_max_age = rules.invalid_max_age || rules.policy.max_age.is_some();
+    let is_barred = decision.reuse == Reuse::NotStored || decision.cause == Some(Cause::NoCache);
+    !has_max_age && !has_s_maxage(rules, cache) && !is_barred
+}
+
 /// What is left of the lifetime by which was decided, if it was.
 fn ttl(
     decision: &Decision,
@@ -625,9 +696,7 @@ fn ttl(
     response: &Response,
     cache: Cache,
 ) -> Option<Integer> {
-    let is_shared = cache == Cache::Shared;
-    let has_s_maxage = is_shared && (rules.invalid_s_maxage || rules.policy.s_maxage.is_some());
-    let (is_invalid, of_policy) = if has_s_maxage {
+    let (is_invalid, of_policy) = if has_s_maxage(rules, cache) {
         (rules.invalid_s_maxage, rules.policy.s_maxage)
     } else {
         (rules.invalid_max_age, rules.policy.max_age)
@@ -649,14 +718,13 @@ fn ttl(
 }
 
 impl Fallback {
-    /// Reads the lines of a head that count.
-    fn read<H>(head: H, malformed: &mut Vec<Malformed<'_>>) -> Result<Fallback, Error>
-    where
-        H: IntoIterator,
-        H::Item: FieldLine,
-    {
+    /// Reads the lines that count of these lines of a head, which come with their indices in it.
+    pub(crate) fn read(
+        lines: impl Iterator<Item = (usize, impl FieldLine)>,
+        malformed: &mut Vec<Malformed<'_>>,
+    ) -> Result<Fallback, Error> {
         let mut fallback = Fallback::new();
-        for (line, of_head) in head.into_iter().enumerate() {
+        for (line, of_head) in lines {
             let value = of_head.value();
             let (field, fault) = if is_of(&of_head, "Cache-Control") {
                 let was_refused = fallback.is_refused();

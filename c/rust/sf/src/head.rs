@@ -1,13 +1,12 @@
 //! The heads of messages, and what is malformed in them.
 
 use crate::buffer::{copied_text, push};
-use crate::line::{is_tchar, spaces_before, split, without_end};
-use crate::malformed::{Fault, Malformed};
+use crate::line::{is_barred, is_of, is_tchar, spaces_before, split, without_end};
+use crate::malformed::{Fault, Malformed, StartFault};
 use crate::{
-    field_text, has_field, trim, Appended, Error, Exchange, FieldLine, FieldType, HeadFault, Hop,
-    Obstacle, Parser, Path, Priority, Refusal, ResponsePriority, Verdict,
+    field_text, has_field, trim, Appended, Error, Exchange, Fallback, FieldLine, FieldType,
+    HeadFault, Hop, Obstacle, Parser, Path, Priority, Refusal, ResponsePriority, Verdict,
 };
-use alloc::string::String;
 use alloc::vec::Vec;
 
 /// The head of a request or a response: its field lines, which it borrows, and what is malformed in
@@ -36,7 +35,9 @@ pub struct Head<'a> {
     malformed: Vec<HeadFault<'a>>,
     /// The number of the line that is added next.
     number: usize,
-    /// The status code of the start line.
+    /// The start line, without its CR and LF.
+    start: Option<&'a [u8]>,
+    /// Its status code, if it is a status line.
     status: Option<u16>,
     is_request: bool,
     /// Whether a line was added that is not empty.
@@ -95,6 +96,7 @@ impl<'a> Head<'a> {
             lines: Vec::new(),
             malformed: Vec::new(),
             number: 1,
+            start: None,
             status: None,
             is_request: false,
             is_begun: false,
@@ -105,7 +107,8 @@ impl<'a> Head<'a> {
 
     /// The head that a text begins with: its lines up to the empty line that ends it. Empty lines
     /// before the first other one are skipped (RFC 9112 section 2.2). If there is no empty line at
-    /// the end, lines may be missing: the head is incomplete. A missing start line is no fault.
+    /// the end, lines may be missing: the head is incomplete. A missing start line is no fault
+    /// here, but [`Head::parse_request`] and [`Head::parse_response`] require one.
     ///
     /// # Errors
     ///
@@ -117,8 +120,59 @@ impl<'a> Head<'a> {
     /// assert!(sf::Head::parse(sf::Parser::new(), "HTTP/1.1 200 OK\r\nAge").unwrap().is_incomplete());
     /// ```
     pub fn parse<T: AsRef<[u8]> + ?Sized>(parser: Parser, text: &'a T) -> Result<Head<'a>, Error> {
+        Head::read(parser, text.as_ref(), None)
+    }
+
+    /// The same for the head of a request. If it does not begin with a request line, it is
+    /// incomplete, and [`Head::malformed`] has [`Fault::NoRequestLine`] or, if the first line is no
+    /// field line either, [`Fault::NotAStartLine`].
+    ///
+    /// # Errors
+    ///
+    /// [`Error::OutOfMemory`] only.
+    ///
+    /// ```
+    /// use sf::{Head, Parser};
+    /// let head = Head::parse_request(Parser::new(), "HTTP/1.1 200 OK\r\n\r\n").unwrap();
+    /// assert!(head.is_incomplete() && head.status() == Some(200));
+    /// assert_eq!(
+    ///     head.malformed()[0].to_string(),
+    ///     "line 1, place 0: the head of a request begins with a request line"
+    /// );
+    /// ```
+    pub fn parse_request<T>(parser: Parser, text: &'a T) -> Result<Head<'a>, Error>
+    where
+        T: AsRef<[u8]> + ?Sized,
+    {
+        Head::read(parser, text.as_ref(), Some(Fault::NoRequestLine))
+    }
+
+    /// The same for the head of a response. If it does not begin with a status line, it is
+    /// incomplete, and [`Head::malformed`] has [`Fault::NoStatusLine`] or, if the first line is no
+    /// field line either, [`Fault::NotAStartLine`].
+    ///
+    /// # Errors
+    ///
+    /// [`Error::OutOfMemory`] only.
+    ///
+    /// ```
+    /// use sf::{Fault, Head, Parser};
+    /// let head = Head::parse_response(Parser::new(), "Age: 20\r\n\r\n").unwrap();
+    /// assert!(head.is_incomplete() && head.lines().len() == 1);
+    /// assert_eq!(head.malformed()[0].fault, Fault::NoStatusLine);
+    /// ```
+    pub fn parse_response<T>(parser: Parser, text: &'a T) -> Result<Head<'a>, Error>
+    where
+        T: AsRef<[u8]> + ?Sized,
+    {
+        Head::read(parser, text.as_ref(), Some(Fault::NoStatusLine))
+    }
+
+    /// The head that a text begins with, with this fault if it lacks the start line that the fault
+    /// is about.
+    fn read(parser: Parser, text: &'a [u8], required: Option<Fault>) -> Result<Head<'a>, Error> {
         let mut head = Head::new(parser);
-        let mut rest = text.as_ref();
+        let mut rest = text;
         while !rest.is_empty() {
             let end = rest.iter().position(|byte| *byte == b'\n');
             let (line, after) = rest.split_at(end.map_or(rest.len(), |end| end + 1));
@@ -128,27 +182,44 @@ impl<'a> Head<'a> {
             }
             if head.is_begun && without_end(line).is_empty() {
                 head.content = Some(rest);
-                return Ok(head);
+                break;
             }
             head.add_line(line)?;
         }
-        head.is_incomplete = true;
-        let fault = HeadFault {
-            field: String::new(),
-            fault: Fault::NoEnd,
-            number: head.number,
-            line: b"",
-            offset: 0,
-        };
-        push(&mut head.malformed, fault)?;
+        match required {
+            Some(Fault::NoRequestLine) if head.is_request => {}
+            Some(Fault::NoStatusLine) if head.status.is_some() => {}
+            Some(fault) => head.note_first_line(text, fault)?,
+            None => {}
+        }
+        if head.content.is_none() {
+            head.is_incomplete = true;
+            let fault = HeadFault::of_line(Fault::NoEnd, head.number, b"", 0);
+            push(&mut head.malformed, fault)?;
+        }
         Ok(head)
+    }
+
+    /// Notes that the first line of a text is not the start line that is required, unless it is a
+    /// fault already.
+    fn note_first_line(&mut self, text: &'a [u8], fault: Fault) -> Result<(), Error> {
+        self.is_incomplete = true;
+        let is_of_start = |one: &HeadFault<'_>| matches!(one.fault, Fault::NotAStartLine { .. });
+        if self.malformed.iter().any(is_of_start) {
+            return Ok(());
+        }
+        let lines = text.split_inclusive(|byte| *byte == b'\n').map(without_end);
+        let first = (1..).zip(lines).find(|(_, line)| !line.is_empty());
+        let (number, line) = first.unwrap_or((self.number, b""));
+        self.insert(HeadFault::of_line(fault, number, line, 0))
     }
 
     /// Adds a field line as it was received (RFC 9112 section 5), with or without its CR and LF, and
     /// returns whether it is one: see [`split_field_line`](crate::split_field_line()). The first
-    /// line may be the start line, a status line or a request line; it is not added, and nor is an
-    /// empty line. Another line that is no field line makes the head incomplete, and is one of
-    /// [`Head::malformed`]; in a request also a line with white space before its colon.
+    /// line may be the start line, a status line or a request line, without a CR, LF or NUL in it
+    /// (section 2.2); it is not added, and nor is an empty line. Another line that is no field line
+    /// makes the head incomplete, and is one of [`Head::malformed`]; in a request also a line with
+    /// white space before its colon.
     ///
     /// # Errors
     ///
@@ -180,17 +251,15 @@ impl<'a> Head<'a> {
             Err(refusal) => refusal,
         };
         if !received.is_empty() {
-            let fault = HeadFault {
-                field: String::new(),
-                fault: if self.is_begun {
-                    Fault::NotALine(refusal)
-                } else {
-                    Fault::NotAStartLine(refusal)
-                },
-                number: self.number,
-                line: received,
-                offset: usize::try_from(refusal.offset).unwrap_or(usize::MAX),
+            let place = usize::try_from(refusal.offset).unwrap_or(usize::MAX);
+            let (fault, offset) = if self.is_begun {
+                (Fault::NotALine(refusal), place)
+            } else {
+                let (start, at) = start_fault(received);
+                let line = refusal;
+                (Fault::NotAStartLine { start, line }, at.unwrap_or(place))
             };
+            let fault = HeadFault::of_line(fault, self.number, received, offset);
             push(&mut self.malformed, fault)?;
             self.is_incomplete = true;
             self.is_begun = true;
@@ -200,10 +269,14 @@ impl<'a> Head<'a> {
     }
 
     /// Takes a start line, and returns whether the line is one (RFC 9112 section 2.1).
-    fn takes_start_line(&mut self, line: &[u8]) -> bool {
+    fn takes_start_line(&mut self, line: &'a [u8]) -> bool {
+        if line.iter().any(is_barred) {
+            return false;
+        }
         self.status = status_of(line);
         self.is_request = is_request_line(line);
         self.is_begun = self.status.is_some() || self.is_request;
+        self.start = self.is_begun.then_some(line);
         self.is_begun
     }
 
@@ -291,6 +364,33 @@ impl<'a> Head<'a> {
         has_field(&self.lines, name)
     }
 
+    /// The start line as it was received, without its CR and LF: a request line or a status line
+    /// (RFC 9112 section 2.1).
+    ///
+    /// ```
+    /// let head = sf::Head::parse(sf::Parser::new(), "HTTP/1.1 200 OK\r\n\r\n").unwrap();
+    /// assert_eq!(head.start_line(), Some(b"HTTP/1.1 200 OK".as_slice()));
+    /// let head = sf::Head::parse(sf::Parser::new(), "Age: 1\r\n\r\n").unwrap();
+    /// assert_eq!(head.start_line(), None);
+    /// ```
+    #[must_use]
+    pub fn start_line(&self) -> Option<&'a [u8]> {
+        self.start
+    }
+
+    /// The method of the start line, if that is a request line. Methods have a case (RFC 9110
+    /// section 9.1).
+    ///
+    /// ```
+    /// let head = sf::Head::parse(sf::Parser::new(), "GET / HTTP/1.1\r\n\r\n").unwrap();
+    /// assert_eq!(head.method(), Some(b"GET".as_slice()));
+    /// ```
+    #[must_use]
+    pub fn method(&self) -> Option<&'a [u8]> {
+        let line = self.start.filter(|_| self.is_request)?;
+        line.split(|byte| *byte == b' ').next()
+    }
+
     /// The status code of the start line, if that is a status line.
     ///
     /// ```
@@ -314,7 +414,9 @@ impl<'a> Head<'a> {
     }
 
     /// Whether a line other than the start line is no field line, or the text of [`Head::parse`]
-    /// ended before the head did. A directive may be missing, so [`Head::decide`] forbids storing.
+    /// ended before the head did, or the start line is not one that [`Head::parse_request`] or
+    /// [`Head::parse_response`] requires. A directive may be missing, so [`Head::decide`] forbids
+    /// storing.
     ///
     /// ```
     /// let head = sf::Head::parse(sf::Parser::new(), "Cache-Control no-store\r\n\r\n").unwrap();
@@ -339,7 +441,7 @@ impl<'a> Head<'a> {
     }
 
     /// What was found to be malformed so far, in the order of the lines: lines that are no field
-    /// lines, a missing end, and fields that were read.
+    /// lines, a missing start line or end, and fields that were read.
     ///
     /// ```
     /// let mut head = sf::Head::parse(sf::Parser::new(), "Priority: u=\r\n\r\n").unwrap();
@@ -387,7 +489,7 @@ impl<'a> Head<'a> {
     }
 
     /// Reads the Cache-Status field of a response (RFC 9211 section 2); the path without hops if it
-    /// is absent or malformed, or if a member names no cache.
+    /// is absent or malformed, or if a member names no cache ([`Fault::NotACache`]).
     ///
     /// # Errors
     ///
@@ -484,18 +586,42 @@ impl<'a> Head<'a> {
         Ok(sent)
     }
 
+    /// Whether a cache must not store the response to this request, by the `no-store` of its
+    /// `Cache-Control` (RFC 9111 section 5.2.1.5), or may not for all that is known: if a line of
+    /// it is malformed, which is noted, a directive may be lost.
+    pub(crate) fn is_no_store(&mut self) -> Result<bool, Error> {
+        let lines = self.lines.iter().enumerate();
+        let of_field = lines.filter(|(_, line)| is_of(line, "Cache-Control"));
+        let mut malformed = Vec::new();
+        let directives = Fallback::read(of_field, &mut malformed)?;
+        for one in malformed {
+            self.note(one)?;
+        }
+        Ok(directives.rules().policy.no_store)
+    }
+
     /// What a field says; the default if it is malformed, which is noted.
     fn or_absent<T: Default>(&mut self, name: &str, said: Result<T, Error>) -> Result<T, Error> {
         said.or_else(|error| {
             if let Some(refusal) = error.refusal() {
-                self.note(refusal.in_head(&self.lines, name))?;
+                let mut found = self.found(refusal.in_head(&self.lines, name))?;
+                if let Error::NotACache { .. } = error {
+                    found.fault = Fault::NotACache;
+                }
+                self.insert(found)?;
             }
             error.as_absent()
         })
     }
 
-    /// Notes a malformed field of this head, with the place in the line as it was received.
+    /// Notes a malformed field of this head.
     fn note(&mut self, malformed: Malformed<'_>) -> Result<(), Error> {
+        let found = self.found(malformed)?;
+        self.insert(found)
+    }
+
+    /// The fault of a malformed field of this head, with the place in the line as it was received.
+    fn found(&self, malformed: Malformed<'_>) -> Result<HeadFault<'a>, Error> {
         let line = self.lines[malformed.line];
         let place = match malformed.fault {
             Fault::Refused(refusal) => usize::try_from(refusal.offset).unwrap_or(usize::MAX),
@@ -514,21 +640,40 @@ impl<'a> Head<'a> {
             }),
             fault => fault,
         };
-        let found = HeadFault {
+        Ok(HeadFault {
             field: copied_text(malformed.field)?,
             fault,
             number: line.number,
             line: line.received,
             offset,
-        };
+        })
+    }
+
+    /// Inserts a fault after those of its line and of the lines before, unless it is one of them.
+    fn insert(&mut self, found: HeadFault<'a>) -> Result<(), Error> {
         if self.malformed.contains(&found) {
             return Ok(());
         }
-        let is_before = |one: &HeadFault<'_>| one.number <= line.number;
+        let is_before = |one: &HeadFault<'_>| one.number <= found.number;
         let before = self.malformed.iter().rposition(is_before);
         push(&mut self.malformed, found)?;
         self.malformed[before.map_or(0, |last| last + 1)..].rotate_right(1);
         Ok(())
+    }
+}
+
+/// Why a line is no start line, and where, unless its end is wrong.
+fn start_fault(line: &[u8]) -> (StartFault, Option<usize>) {
+    if let Some(at) = line.iter().position(is_barred) {
+        return (StartFault::BarredByte, Some(at));
+    }
+    match version_length(line) {
+        Some(length) => {
+            let space = line[length..].starts_with(b" ");
+            (StartFault::NoStatusCode, Some(length + usize::from(space)))
+        }
+        None if line.starts_with(b"HTTP/") => (StartFault::NoVersion, Some(5)),
+        None => (StartFault::NoVersionAtEnd, None),
     }
 }
 

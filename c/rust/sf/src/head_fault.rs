@@ -23,7 +23,7 @@ use core::fmt;
 #[non_exhaustive]
 pub struct HeadFault<'a> {
     /// The name by which the field was looked up; empty for a line that is no field line, and for a
-    /// head without an end.
+    /// head without its start line or its end.
     pub field: String,
     /// What is wrong. The offset of a refusal is one in the line.
     pub fault: Fault,
@@ -31,16 +31,30 @@ pub struct HeadFault<'a> {
     pub number: usize,
     /// The line as it was received: [`HeadLine::received`](crate::HeadLine::received).
     pub line: &'a [u8],
-    /// The place in the line, from 0: where it is refused; for [`Fault::NotAnAge`], where the first
-    /// member has a byte that is no digit, or ends if it is empty; for [`Fault::NoEnd`], 0;
-    /// otherwise where the value begins.
+    /// The place in the line, from 0: where it is refused; for [`Fault::NotACache`], where the
+    /// member begins; for [`Fault::NotAnAge`], where the first member has a byte that is no digit,
+    /// or ends if it is empty; for [`Fault::NotAStartLine`], the CR, LF or NUL, or where the
+    /// version or the status code is missing, otherwise where it is no field line; for a missing
+    /// start line or end, 0; otherwise where the value begins.
     pub offset: usize,
 }
 
-impl HeadFault<'_> {
+impl<'a> HeadFault<'a> {
+    /// A fault of a line, not of a field.
+    pub(crate) fn of_line(fault: Fault, number: usize, line: &'a [u8], offset: usize) -> Self {
+        HeadFault {
+            field: String::new(),
+            fault,
+            number,
+            line,
+            offset,
+        }
+    }
+
     /// A message of three lines: the `Display` of the fault, at most so many bytes of the line
     /// around the place, and a caret below it. So it has a bound, whatever the length of the line.
-    /// Bytes that are not printable are question marks.
+    /// Bytes that are not printable are question marks. If there is no line to show, as for
+    /// [`Fault::NoEnd`], the message is the first of these lines alone.
     ///
     /// ```
     /// use sf::{Cache, Exchange, Head, Parser};
@@ -118,6 +132,14 @@ impl<F: fmt::Display> fmt::Display for HeadExcerpt<'_, F> {
             write!(f, "{file}, ")?;
         }
         write!(f, "{}", self.fault)?;
+        let has_line = match self.fault.fault {
+            Fault::NoEnd => false,
+            Fault::NoRequestLine | Fault::NoStatusLine => !self.fault.line.is_empty(),
+            _ => true,
+        };
+        if !has_line {
+            return Ok(());
+        }
         write_excerpt(f, self.fault.line, self.fault.offset, self.most)
     }
 }

@@ -82,7 +82,7 @@ pub use fallback::{Fallback, FieldDate, LineRefusal};
 pub use hop::{Forward, Forwarded, FwdStatus, Hop, Name, Outcome};
 pub use kind::{Dialect, Kind};
 pub use line::{split_field_line, FieldLine};
-pub use malformed::{Fault, Malformed};
+pub use malformed::{Fault, Malformed, StartFault};
 pub use number::{Decimal, Integer};
 pub use parser::{trim, Parser};
 pub use policy::{Choice, Policy, Seconds};

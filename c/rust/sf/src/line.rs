@@ -96,8 +96,7 @@ pub(crate) fn split(line: &[u8], is_request: bool) -> Result<Parts<'_>, Refusal>
         return Err(refusal(line, at, false, is_expected));
     }
     let value = &line[at + 1..];
-    let is_bad = |byte: &u8| matches!(byte, b'\r' | b'\n' | 0);
-    match value.iter().position(is_bad) {
+    match value.iter().position(is_barred) {
         Some(bad) => Err(refusal(line, at + 1 + bad, true, |byte| {
             matches!(byte, b'\t' | b' '..=b'~')
         })),
@@ -107,6 +106,13 @@ pub(crate) fn split(line: &[u8], is_request: bool) -> Result<Parts<'_>, Refusal>
             value_at: at + 1 + spaces_before(value),
         }),
     }
+}
+
+/// Whether a byte may be neither in a start line nor in a value: a CR, LF or NUL (RFC 9112 section
+/// 2.2, RFC 9110 section 5.5).
+#[allow(clippy::trivially_copy_pass_by_ref)] // iterators over a line call it
+pub(crate) fn is_barred(byte: &u8) -> bool {
+    matches!(byte, b'\r' | b'\n' | 0)
 }
 
 /// The refusal of a line at this place, where these bytes are allowed.

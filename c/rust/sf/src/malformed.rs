@@ -44,14 +44,77 @@ pub enum Fault {
     Repeated,
     /// The first member of `Age` is not one or more digits.
     NotAnAge,
+    /// A member of Cache-Status that does not name a cache: see [`Error::NotACache`]. A
+    /// [`Head`](crate::Head) reports it.
+    ///
+    /// [`Error::NotACache`]: crate::Error::NotACache
+    NotACache,
     /// A line of a [`Head`](crate::Head) that is no field line: see
     /// [`split_field_line`](crate::split_field_line()).
     NotALine(Refusal),
     /// The first line of a [`Head`](crate::Head) that is not empty, if it is neither a start line
-    /// (RFC 9112 section 2.1) nor a field line. The refusal says why it is no field line.
-    NotAStartLine(Refusal),
+    /// nor a field line.
+    NotAStartLine {
+        /// Why it is no start line.
+        start: StartFault,
+        /// Why it is no field line, and where.
+        line: Refusal,
+    },
+    /// A head of [`Head::parse_request`](crate::Head::parse_request) without a request line.
+    NoRequestLine,
+    /// A head of [`Head::parse_response`](crate::Head::parse_response) without a status line.
+    NoStatusLine,
     /// A [`Head`](crate::Head) that does not end with an empty line.
     NoEnd,
+}
+
+/// Why a line is no start line (RFC 9112 section 2.1): the first of these that holds.
+///
+/// ```
+/// use sf::{Fault, Head, Parser, StartFault};
+/// let head = Head::parse(Parser::new(), "HTTP/1.1 2x0 OK\r\n\r\n").unwrap();
+/// let start = match head.malformed()[0].fault {
+///     Fault::NotAStartLine { start, .. } => start,
+///     fault => panic!("{fault:?}"),
+/// };
+/// assert_eq!(start, StartFault::NoStatusCode);
+/// assert_eq!(start.to_string(), "no status code of three digits");
+/// ```
+#[derive(Clone, Copy, Debug, PartialEq, Eq, Hash)]
+#[non_exhaustive]
+pub enum StartFault {
+    /// It has a CR, LF or NUL, which another recipient may take for its end (section 2.2).
+    BarredByte,
+    /// It begins with `HTTP/`, and no version follows (section 2.3).
+    NoVersion,
+    /// It begins with a version, and no space and three digits follow, of which the first is not 0
+    /// (section 4).
+    NoStatusCode,
+    /// It is neither of the others, and no request line (section 3).
+    NoVersionAtEnd,
+}
+
+impl StartFault {
+    /// The fault in words.
+    ///
+    /// ```
+    /// assert_eq!(sf::StartFault::NoVersion.as_str(), "no version");
+    /// ```
+    #[must_use]
+    pub fn as_str(self) -> &'static str {
+        match self {
+            StartFault::BarredByte => "a CR, LF or NUL in it",
+            StartFault::NoVersion => "no version",
+            StartFault::NoStatusCode => "no status code of three digits",
+            StartFault::NoVersionAtEnd => "no HTTP version at the end",
+        }
+    }
+}
+
+impl fmt::Display for StartFault {
+    fn fmt(&self, f: &mut fmt::Formatter<'_>) -> fmt::Result {
+        f.pad(self.as_str())
+    }
 }
 
 impl fmt::Display for Fault {
@@ -63,14 +126,17 @@ impl fmt::Display for Fault {
             }
             Fault::Repeated => f.pad("there are several lines"),
             Fault::NotAnAge => f.pad("expected a number of seconds"),
+            Fault::NotACache => f.pad("the member does not name a cache"),
             Fault::NotALine(refusal) => {
                 let why = line_fault(refusal).unwrap_or("it continues the line before");
                 write!(f, "not a field line: {why}")
             }
-            Fault::NotAStartLine(refusal) => {
-                let why = line_fault(refusal).unwrap_or("it begins with white space");
-                write!(f, "neither a start line nor a field line: {why}")
+            Fault::NotAStartLine { start, line } => {
+                let why = line_fault(line).unwrap_or("it begins with white space");
+                write!(f, "neither a start line ({start}) nor a field line ({why})")
             }
+            Fault::NoRequestLine => f.pad("the head of a request begins with a request line"),
+            Fault::NoStatusLine => f.pad("the head of a response begins with a status line"),
             Fault::NoEnd => f.pad("the head does not end with an empty line"),
         }
     }

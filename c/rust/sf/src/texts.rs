@@ -109,7 +109,7 @@ macro_rules! field {
             /// # Errors
             ///
             /// [`Error::OutOfMemory`], or [`Error::TooLong`] if its keys and bytes have 4 GiB or
-            /// more. For these `to_string` panics.
+            /// more. For these `to_string` panics, and so does `writeln!` to an `io::Write`.
             ///
             /// ```
             #[doc = concat!("let field = sf::", stringify!($name), "::parse(\"", $text, "\").unwrap();")]

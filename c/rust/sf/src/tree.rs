@@ -153,7 +153,8 @@ impl Tree<'_> {
     ///
     /// # Errors
     ///
-    /// [`Error::OutOfMemory`] only, for which `to_string` panics.
+    /// [`Error::OutOfMemory`] only, for which `to_string` panics, and so does `writeln!` to an
+    /// `io::Write`.
     ///
     /// ```
     /// let tree = sf::Parser::new().tree(sf::Kind::List, "a ,b").unwrap();

@@ -244,7 +244,7 @@ fn what_is_left_of_a_lifetime() {
 
 #[test]
 fn malformed_fields_are_listed() {
-    let head = [
+    let mut head = [
         ("Server", "x"),
         (" examplecdn-cache-control\t", " max-age=60"),
         ("Age", "x"),
@@ -257,39 +257,53 @@ fn malformed_fields_are_listed() {
         ("Cache-Control", " a b"),
         ("Cache-Control", "c d"),
     ];
-    let verdict = decide(NOW, &head);
-    let found: Vec<_> = verdict
-        .malformed
-        .iter()
-        .map(|malformed| {
+    let found = |head: &[(&str, &str)]| -> Vec<_> {
+        let malformed = decide(NOW, head).malformed.into_iter();
+        let places = malformed.map(|malformed| {
             let offset = match malformed.fault {
                 Fault::Refused(refusal) => Some(refusal.offset),
                 _ => None,
             };
             (malformed.field, malformed.line, offset)
-        })
-        .collect();
+        });
+        places.collect()
+    };
+    let expected = [
+        ("ExampleCDN-Cache-Control", 3, Some(7)),
+        ("Cache-Control", 9, Some(3)),
+        ("Age", 2, None),
+    ];
+    assert_eq!(found(&head), expected);
+    let verdict = decide(NOW, &head);
+    let shown: Vec<_> = verdict.malformed.iter().map(|it| it.to_string()).collect();
+    assert!(shown[1].starts_with("Cache-Control: byte 0x62 'b' at place 3, expected "));
+    assert_eq!(shown[2], "Age: expected a number of seconds");
+    assert_eq!(verdict.field, Some("Cache-Control"));
+    assert!(verdict.rules.policy.no_store && !verdict.may_store());
+    // Expires and Date count if Cache-Control sets no lifetime and is well-formed.
+    head[7].1 = "public";
+    let of_dates = &head[..9];
     let expected = [
         ("ExampleCDN-Cache-Control", 3, Some(7)),
         ("Expires", 5, None),
         ("Date", 6, None),
         ("Expires", 8, None),
-        ("Cache-Control", 9, Some(3)),
         ("Age", 2, None),
     ];
-    assert_eq!(found, expected);
+    assert_eq!(found(of_dates), expected);
+    let verdict = decide(NOW, of_dates);
     let shown: Vec<_> = verdict.malformed.iter().map(|it| it.to_string()).collect();
     assert_eq!(
         shown[1],
         "Expires: expected an HTTP-date, such as Sun, 06 Nov 1994 08:49:37 GMT"
     );
     assert_eq!(shown[3], "Expires: there are several lines");
-    assert!(shown[4].starts_with("Cache-Control: byte 0x62 'b' at place 3, expected "));
-    assert_eq!(shown[5], "Age: expected a number of seconds");
-    assert_eq!(verdict.field, Some("Cache-Control"));
-    assert!(verdict.rules.policy.no_store && !verdict.may_store());
     // Of many lines the second is reported.
-    let lines = [("Date", "0"); 100];
+    let lines = [
+        [("Date", "0"); 100].as_slice(),
+        &[("Expires", "Sun, 06 Nov 1994 08:49:37 GMT")],
+    ]
+    .concat();
     let many = Exchange::at(Cache::Shared, 784_111_777)
         .decide(&[], &lines)
         .unwrap();
@@ -361,7 +375,7 @@ fn ages_and_dates_count() {
         (verdict.response.lifetime, verdict.response.age),
         (Some(10), 6)
     );
-    assert_eq!(verdict.to_string(), "Expires: fresh for 4 s (expires)");
+    assert_eq!(verdict.to_string(), "Expires: fresh for 4 s");
     // A clock that was set back.
     let exchange = Exchange { now: 0, ..exchange };
     assert_eq!(decide(exchange, &[("Age", "1")]).response.age, 1);

@@ -1,7 +1,7 @@
 //! Heads of messages, and what is malformed in them.
 
 use sf::{Cache, Dialect, Dictionary, Exchange, Fault, Forward, Head, HeadFault, Hop, Item, List};
-use sf::{Obstacle, Outcome, Parser, Priority, ResponsePriority, TokenRef, Verdict};
+use sf::{Obstacle, Outcome, Parser, Priority, ResponsePriority, StartFault, TokenRef, Verdict};
 
 fn parser() -> Parser {
     Parser::new().with_dialect(Dialect::Rfc8941)
@@ -63,7 +63,8 @@ fn start_lines() {
             "{line}"
         );
         assert_eq!(head.malformed().len(), usize::from(!is_start));
-        let is_fault_of_first = |one: &HeadFault<'_>| matches!(one.fault, Fault::NotAStartLine(_));
+        let is_fault_of_first =
+            |one: &HeadFault<'_>| matches!(one.fault, Fault::NotAStartLine { .. });
         assert!(head.malformed().iter().all(is_fault_of_first));
         // In a request, no white space may be before the colon (RFC 9112 section 5.1).
         assert_eq!(head.add_line("Age \t: 1").unwrap(), !is_request);
@@ -92,25 +93,484 @@ fn start_lines() {
     assert!(matches!(head.malformed()[0].fault, Fault::NotALine(_)));
 }
 
-/// Why a line is no field line, if it is the first of a head and if it is another one.
+/// A CR, LF or NUL in a start line may be its end for another recipient (RFC 9112 section 2.2), so
+/// the line is refused, and what it says doesn't count.
+#[test]
+fn start_lines_with_a_barred_byte() {
+    for (line, at) in [
+        ("HTTP/1.1 200 OK\rCache-Control: no-store", 15),
+        ("HTTP/1.1 200 OK\nCache-Control: no-store", 15),
+        ("HTTP/1.1 200 OK\0", 15),
+        ("HTTP/1.1 200 O\0\r\r\n", 14),
+        ("HTTP/1.1 200 OK\r\r\n", 15),
+        ("HTTP/1.1 200 OK\n\n", 15),
+        ("GET /\0 HTTP/1.1", 5),
+        ("GET /\r HTTP/1.1", 5),
+        ("GET / HTTP/1.1\nAuthorization: a HTTP/1.1", 14),
+        ("CONNECT :443\0 HTTP/1.1", 12),
+    ] {
+        let mut head = Head::new(parser());
+        assert!(
+            !head.add_line(line).unwrap() && head.is_incomplete(),
+            "{line:?}"
+        );
+        assert_eq!((head.status(), head.is_request()), (None, false));
+        assert_eq!((head.start_line(), head.method()), (None, None));
+        assert_eq!(head.malformed().len(), 1);
+        let one = &head.malformed()[0];
+        assert!(matches!(
+            one.fault,
+            Fault::NotAStartLine {
+                start: StartFault::BarredByte,
+                ..
+            }
+        ));
+        assert_eq!((one.number, one.offset), (1, at), "{line:?}");
+        assert!(head.add_line("Age : 1").unwrap() && !head.add_line(line).unwrap());
+        let exchange = Exchange::at(Cache::Shared, 784_111_777).with_status(200);
+        let verdict = head.decide(&exchange, &[]).unwrap();
+        assert_eq!(verdict.obstacle, Some(Obstacle::Incomplete));
+    }
+    // Other bytes have no such meaning.
+    for (line, method) in [
+        (&b"GET /\x0b\xe9\x7f HTTP/1.1"[..], Some(&b"GET"[..])),
+        (b"HTTP/1.1 200 \xe9\x01\t", None),
+    ] {
+        let mut head = Head::new(parser());
+        head.add_line(line).unwrap();
+        assert_eq!((head.start_line(), head.method()), (Some(line), method));
+        assert!(!head.is_incomplete());
+    }
+}
+
+/// The start line is kept as it was received, and the method of a request line.
+#[test]
+fn what_start_lines_say() {
+    for (text, line, method) in [
+        (
+            "GET / HTTP/1.1\r\n\r\n",
+            Some("GET / HTTP/1.1"),
+            Some("GET"),
+        ),
+        (
+            "\r\n\nget  HTTP/1.1 HTTP/2\n",
+            Some("get  HTTP/1.1 HTTP/2"),
+            Some("get"),
+        ),
+        (
+            "M-SEARCH * HTTP/1.1",
+            Some("M-SEARCH * HTTP/1.1"),
+            Some("M-SEARCH"),
+        ),
+        ("HTTP/1.1 200 OK \r\n\r\n", Some("HTTP/1.1 200 OK "), None),
+        ("HTTP/2 404", Some("HTTP/2 404"), None),
+        ("HTTP/1.1 2x0\r\n\r\n", None, None),
+        ("Age: 1\nGET / HTTP/1.1\n\n", None, None),
+        ("a\nGET / HTTP/1.1\n\n", None, None),
+        ("\r\n", None, None),
+        ("", None, None),
+    ] {
+        let head = Head::parse(parser(), text).unwrap();
+        assert_eq!(head.start_line(), line.map(str::as_bytes), "{text:?}");
+        assert_eq!(head.method(), method.map(str::as_bytes), "{text:?}");
+    }
+    // What is returned outlives the head.
+    let text = String::from("PUT / HTTP/1.1\n\n");
+    let (line, method) = {
+        let head = Head::parse(parser(), &text).unwrap();
+        (head.start_line(), head.method())
+    };
+    assert_eq!(line.map(<[u8]>::len), Some(14));
+    assert_eq!(method, Some(&b"PUT"[..]));
+}
+
+/// Heads whose kind is known (RFC 9112 section 2.1).
+#[test]
+fn heads_of_a_kind() {
+    let request = "the head of a request begins with a request line";
+    let response = "the head of a response begins with a status line";
+    let end = "the head does not end with an empty line";
+    let no_colon = "not a field line: no colon after the name";
+    let neither = "neither a start line (no HTTP version at the end) nor a field line (no colon \
+                   after the name)";
+    // Of each fault the number of the line, the place and the words, in a request and a response.
+    type Faults<'a> = Vec<(usize, usize, &'a str)>;
+    let both = |line, more: Faults<'static>| {
+        [request, response].map(|words| [vec![(line, 0, words)], more.clone()].concat())
+    };
+    let rows = [
+        ("GET / HTTP/1.1\r\n\r\n", [vec![], vec![(1, 0, response)]]),
+        ("HTTP/1.1 200 OK\r\n\r\n", [vec![(1, 0, request)], vec![]]),
+        (
+            "\r\n\nHTTP/1.1 200 OK\r\nAge: 1\r\n\r\n",
+            [vec![(3, 0, request)], vec![]],
+        ),
+        ("Age: 1\nVia: a\n\n", both(1, vec![])),
+        ("\nAge: 1", both(2, vec![(3, 0, end)])),
+        ("Age: 1\nAge 1\n\n", both(1, vec![(2, 4, no_colon)])),
+        (
+            "HTTP/1.1 200\nAge 1\n\n",
+            [
+                vec![(1, 0, request), (2, 4, no_colon)],
+                vec![(2, 4, no_colon)],
+            ],
+        ),
+        (
+            "GET /\nAge: 1\n\n",
+            [vec![(1, 4, neither)], vec![(1, 4, neither)]],
+        ),
+        ("", both(1, vec![(1, 0, end)])),
+        ("\r\n\n", both(3, vec![(3, 0, end)])),
+        ("\r", both(1, vec![(1, 0, end)])),
+    ];
+    for (text, expected) in rows {
+        let head = Head::parse(parser(), text).unwrap();
+        let heads = [
+            Head::parse_request(parser(), text).unwrap(),
+            Head::parse_response(parser(), text).unwrap(),
+        ];
+        for (of_kind, expected) in heads.iter().zip(expected) {
+            let shown: Vec<_> = of_kind
+                .malformed()
+                .iter()
+                .map(ToString::to_string)
+                .collect();
+            let lines = expected.iter();
+            let wanted: Vec<_> = lines
+                .map(|(line, place, words)| format!("line {line}, place {place}: {words}"))
+                .collect();
+            assert_eq!(shown, wanted, "{text:?}");
+            assert_eq!(of_kind.is_incomplete(), !expected.is_empty(), "{text:?}");
+            // All else is as without a kind.
+            assert_eq!(of_kind.lines(), head.lines());
+            assert_eq!(of_kind.content(), head.content());
+            assert_eq!(of_kind.start_line(), head.start_line());
+            assert_eq!(of_kind.status(), head.status());
+        }
+    }
+    // The line is shown, if there is one.
+    let shown = |text| {
+        let head = Head::parse_response(parser(), text).unwrap();
+        messages(&head, 40)
+    };
+    assert_eq!(
+        shown("\nGET /\u{e9} HTTP/1.1\r\n\n"),
+        [
+            "line 2, place 0: the head of a response begins with a status line\n\
+          GET /?? HTTP/1.1\n^"
+        ]
+    );
+    assert_eq!(
+        shown("\n"),
+        [
+            "line 2, place 0: the head of a response begins with a status line",
+            "line 2, place 0: the head does not end with an empty line"
+        ]
+    );
+    // A start line of the other kind forbids storing, and so does a missing one.
+    let exchange = Exchange::at(Cache::Shared, 784_111_777).with_status(200);
+    for (text, obstacle) in [
+        ("HTTP/1.1 200 OK\n\n", None),
+        ("GET / HTTP/1.1\n\n", Some(Obstacle::NotAResponse)),
+        ("Cache-Control: max-age=60\n\n", Some(Obstacle::Incomplete)),
+    ] {
+        let mut head = Head::parse_response(parser(), text).unwrap();
+        assert_eq!(
+            head.decide(&exchange, &[]).unwrap().obstacle,
+            obstacle,
+            "{text:?}"
+        );
+    }
+}
+
+/// What the head of a request says of storing (RFC 9110 section 9.2.3, RFC 9111 section 5.2.1.5).
+#[test]
+fn what_requests_say_of_storing() {
+    let method = Some(Obstacle::Method);
+    let no_store = Some(Obstacle::RequestNoStore);
+    let authorization = Some(Obstacle::Authorization);
+    let request_head = Some(Obstacle::RequestHead);
+    let get = "GET / HTTP/1.1\n";
+    let rows = [
+        ("GET / HTTP/1.1\n\n", None, None),
+        ("HEAD / HTTP/1.1\n\n", None, None),
+        ("POST / HTTP/1.1\n\n", method, method),
+        ("get / HTTP/1.1\n\n", method, method),
+        ("GETS / HTTP/1.1\n\n", method, method),
+        ("HEA / HTTP/1.1\n\n", method, method),
+        ("Age: 1\n\n", None, None), // its method is not known
+        ("POST /\n\n", request_head, None),
+        ("HTTP/1.1 200 OK\n\n", request_head, None),
+        ("POST / HTTP/1.1\nCache-Control: no-store\n", method, method),
+        ("POST / HTTP/1.1\nAuthorization: a\n", method, method),
+    ];
+    let with_get = [
+        ("Cache-Control: no-store\n\n", no_store, no_store),
+        (
+            "cache-control: max-age=0\nCache-Control: a, No-Store\n\n",
+            no_store,
+            no_store,
+        ),
+        (
+            "Cache-Control: max-age=0, no-cache, private\n\n",
+            None,
+            None,
+        ),
+        ("Cache-Control:\n\n", None, None),
+        ("Cache-Control: x=\"no-store\"\n\n", None, None),
+        ("Cache-Control: no-store=1\n\n", no_store, no_store),
+        ("Cache-Control: a b\n\n", no_store, no_store),
+        ("Cache-Control: \u{e9}\n\n", no_store, no_store),
+        (
+            "CDN-Cache-Control: no-store\nExpires: 0\nPragma: x\n\n",
+            None,
+            None,
+        ),
+        (
+            "Cache-Control: no-store\nAuthorization: a\n",
+            no_store,
+            no_store,
+        ),
+        ("Authorization: a\n", authorization, None),
+    ];
+    let with_get =
+        with_get.map(|(lines, shared, private)| ([get, lines].concat(), shared, private));
+    let rows = rows.map(|(text, shared, private)| (text.to_string(), shared, private));
+    for (text, shared, private) in rows.iter().chain(&with_get) {
+        for (cache, expected) in [(Cache::Shared, shared), (Cache::Private, private)] {
+            let decide = |exchange: Exchange, response: &str| {
+                let mut request = Head::parse(parser(), text).unwrap();
+                let exchange = exchange.with_request(&mut request).unwrap();
+                let mut response = Head::parse(parser(), response).unwrap();
+                response.decide(&exchange, &[]).unwrap().obstacle
+            };
+            let exchange = Exchange::at(cache, 784_111_777);
+            let obstacle = decide(exchange, "HTTP/1.1 200 OK\n\n");
+            assert_eq!(obstacle, *expected, "{text:?}");
+            // A directive comes before what the request says, and the method and no-store of the
+            // request before the rest.
+            let obstacle = decide(exchange, "HTTP/1.1 200 OK\nCache-Control: no-store\n");
+            assert_eq!(obstacle, Some(Obstacle::Directive));
+            let of_request = expected.filter(|it| [method, no_store].contains(&Some(*it)));
+            let rest = [
+                ("HTTP/1.1 100 Go\n\n", Obstacle::Status),
+                ("HTTP/1.1 200 OK\n", Obstacle::Incomplete),
+                ("GET / HTTP/1.1\n\n", Obstacle::NotAResponse),
+            ];
+            for (response, obstacle) in rest {
+                let seen = decide(exchange, response);
+                assert_eq!(seen, of_request.or(Some(obstacle)), "{text:?}");
+            }
+            let unpermitted = expected.or(Some(Obstacle::Unpermitted));
+            assert_eq!(decide(exchange, "HTTP/1.1 500 No\n\n"), unpermitted);
+        }
+    }
+    // What was set before doesn't count, and without the call nothing is known.
+    let exchange = Exchange {
+        is_other_method: true,
+        is_request_no_store: true,
+        is_authorized: true,
+        is_request_incomplete: true,
+        ..Exchange::at(Cache::Shared, 784_111_777)
+    };
+    let mut request = Head::parse(parser(), "GET / HTTP/1.1\n\n").unwrap();
+    assert_eq!(
+        exchange.with_request(&mut request).unwrap(),
+        Exchange::at(Cache::Shared, 784_111_777)
+    );
+    // The faults of the request: the first line that is malformed, once.
+    let text = "GET / HTTP/1.1\nCache-Control:  no-store\nExpires: 0\nCache-Control:\ta b\n\
+                Cache-Control: =\nAge: x\n\n";
+    let mut request = Head::parse_request(parser(), text).unwrap();
+    assert!(
+        exchange
+            .with_request(&mut request)
+            .unwrap()
+            .is_request_no_store
+    );
+    assert!(
+        exchange
+            .with_request(&mut request)
+            .unwrap()
+            .is_request_no_store
+    );
+    assert_eq!(
+        messages(&request, 40),
+        ["line 4, place 17: Cache-Control: byte 0x62 'b', expected `,`, a tab, a space or the end\n\
+          Cache-Control:?a b\n                 ^"]
+    );
+    assert!(!request.is_incomplete());
+    let words = [Obstacle::Method, Obstacle::RequestNoStore].map(Obstacle::as_str);
+    assert_eq!(
+        words,
+        [
+            "the method of the request is neither GET nor HEAD",
+            "the request has no-store"
+        ]
+    );
+}
+
+/// `Expires` and `Date` have faults only if the lifetime by `Expires` counts.
+#[test]
+fn dates_that_count() {
+    let rows = [
+        // The directives, and whether the dates count in a shared and in a private cache.
+        ("", true, true),
+        ("public", true, true),
+        ("must-revalidate, proxy-revalidate", true, true),
+        ("max-age=60", false, false),
+        ("max-age=x", false, false),
+        ("s-maxage=60", false, true),
+        ("s-maxage=x", false, true),
+        ("s-maxage=60, max-age=1", false, false),
+        ("no-store", false, false),
+        ("private", false, true),
+        ("no-cache", false, false),
+        ("must-understand", false, false),
+        ("a b", false, false),
+    ];
+    let malformed = "Expires: 0\nDate: x\n";
+    let repeated = "Expires: Sun, 06 Nov 1994 08:49:37 GMT\nExpires: 0\n\
+                    Date: Sun, 06 Nov 1994 08:49:37 GMT\nDate: x\n";
+    for (directives, shared, private) in rows {
+        for dates in [malformed, repeated] {
+            let text = format!("Cache-Control: {directives}\n{dates}\n");
+            for (cache, counts) in [(Cache::Shared, shared), (Cache::Private, private)] {
+                let exchange = Exchange::at(cache, 784_111_777).with_status(200);
+                let mut head = Head::parse(parser(), &text).unwrap();
+                let verdict = head.decide(&exchange, &[]).unwrap();
+                let of_dates = |field: &str| field == "Expires" || field == "Date";
+                let of_verdict = verdict.malformed.iter().filter(|one| of_dates(one.field));
+                let of_head = head.malformed().iter().filter(|one| of_dates(&one.field));
+                let seen = (of_verdict.count(), of_head.count());
+                let expected = if counts { (2, 2) } else { (0, 0) };
+                assert_eq!(seen, expected, "{directives}, {cache:?}");
+            }
+        }
+    }
+    // A status code that is understood.
+    let exchange = Exchange::at(Cache::Shared, 784_111_777).with_understood(true);
+    let head = [
+        ("Cache-Control", "must-understand, no-store"),
+        ("Expires", "0"),
+    ];
+    assert_eq!(exchange.decide(&[], head).unwrap().malformed.len(), 1);
+    // Age counts in each case, and what is told of it comes after the dates.
+    let head = [("Age", "x"), ("Expires", "0"), ("Date", "x")];
+    let fields = |more: &[(&'static str, &'static str)]| -> Vec<&str> {
+        let verdict = exchange.decide(&[], [more, &head].concat()).unwrap();
+        verdict.malformed.iter().map(|one| one.field).collect()
+    };
+    assert_eq!(fields(&[]), ["Expires", "Date", "Age"]);
+    assert_eq!(fields(&[("Cache-Control", "max-age=1")]), ["Age"]);
+    assert_eq!(
+        fields(&[("Cache-Control", "a b")]),
+        ["Cache-Control", "Age"]
+    );
+    // A target with the name of such a field is a structured field.
+    let head = [("Expires", "0"), ("Cache-Control", "max-age=1")];
+    let verdict = exchange.decide(&["Expires"], head).unwrap();
+    assert_eq!(verdict.malformed.len(), 1);
+    assert!(matches!(verdict.malformed[0].fault, Fault::Refused(_)));
+}
+
+/// A message is written in few parts, however long its excerpt is, since each part may be a call of
+/// the system.
+#[test]
+fn messages_are_written_in_few_parts() {
+    use std::fmt::Write;
+    #[derive(Default)]
+    struct Parts(usize, String);
+    impl Write for Parts {
+        fn write_str(&mut self, text: &str) -> std::fmt::Result {
+            self.0 += 1;
+            self.1.write_str(text)
+        }
+    }
+    let line = [&[b'a'; 1000][..], &[0; 1000]].concat();
+    let head = Head::parse(parser(), &line).unwrap();
+    let parts = |most| {
+        let mut parts = Parts::default();
+        write!(parts, "{}", head.malformed()[0].excerpt(most)).unwrap();
+        assert_eq!(parts.1, head.malformed()[0].excerpt(most).to_string());
+        parts
+    };
+    let (short, long) = (parts(0), parts(usize::MAX));
+    assert!(short.1.ends_with("\n\n^"));
+    let expected = [
+        "\n",
+        &"a".repeat(1000),
+        &"?".repeat(1000),
+        "\n",
+        &" ".repeat(1000),
+        "^",
+    ]
+    .concat();
+    assert!(long.1.ends_with(&expected));
+    assert!(long.0 < short.0 + 30, "{} {}", long.0, short.0);
+    // At and around the length of a run.
+    for most in 100..150 {
+        let shown = parts(most).1;
+        let from = 1000 - most / 2;
+        let expected = format!(
+            "\n{}{}\n{}^",
+            "a".repeat(1000 - from),
+            "?".repeat(most - (1000 - from)),
+            " ".repeat(1000 - from)
+        );
+        assert!(shown.ends_with(&expected), "{shown}");
+    }
+    let refusal = sf::check(sf::Kind::Item, &line)
+        .unwrap_err()
+        .refusal()
+        .unwrap();
+    let mut parts = Parts::default();
+    write!(parts, "{}", refusal.excerpt(&line, 2000)).unwrap();
+    assert!(parts.0 < 40 && parts.1.len() > 3000, "{}", parts.0);
+}
+
+/// Why a line is no start line and no field line, if it is the first of a head, and why it is no
+/// field line, if it is another one.
 #[test]
 fn words_of_lines() {
     let no_colon = "no colon after the name";
     let bad_byte = "a CR, LF or NUL in the value";
     let [begins, continues] = ["it begins with white space", "it continues the line before"];
-    for (line, place, first, other) in [
-        (" x", 0, begins, continues),
-        ("\t: x", 0, begins, continues),
-        (" / HTTP/1.1", 0, begins, continues),
-        (": x", 0, "no name", "no name"),
-        ("\u{e9}", 0, "no name", "no name"),
-        ("\0", 0, "no name", "no name"),
-        ("Age", 3, no_colon, no_colon),
-        ("a b: c", 2, no_colon, no_colon),
-        ("HTTP/1.1 2x0", 4, no_colon, no_colon),
-        ("HTTP/", 4, no_colon, no_colon),
-        ("GET /", 4, no_colon, no_colon),
-        ("a: \0", 3, bad_byte, bad_byte),
+    let within = "a CR, LF or NUL in it";
+    let no_code = "no status code of three digits";
+    let at_end = "no HTTP version at the end";
+    for (line, at, start, place, first, other) in [
+        (" x", 0, at_end, 0, begins, continues),
+        ("\t: x", 0, at_end, 0, begins, continues),
+        (" / HTTP/1.1", 0, at_end, 0, begins, continues),
+        (": x", 0, at_end, 0, "no name", "no name"),
+        ("\u{e9}", 0, at_end, 0, "no name", "no name"),
+        ("\0", 0, within, 0, "no name", "no name"),
+        ("Age", 3, at_end, 3, no_colon, no_colon),
+        ("a b: c", 2, at_end, 2, no_colon, no_colon),
+        ("GET /", 4, at_end, 4, no_colon, no_colon),
+        ("GET / HTTP/", 4, at_end, 4, no_colon, no_colon),
+        ("a: \0", 3, within, 3, bad_byte, bad_byte),
+        ("a:b\rc\0", 3, within, 3, bad_byte, bad_byte),
+        ("GET / HTTP/1.1\0", 14, within, 4, no_colon, no_colon),
+        ("GET /\n HTTP/1.1", 5, within, 4, no_colon, no_colon),
+        ("\r\r", 0, within, 0, "no name", "no name"),
+        ("HTTP/", 5, "no version", 4, no_colon, no_colon),
+        ("HTTP/x.1 200 OK", 5, "no version", 4, no_colon, no_colon),
+        ("HTTP/\0", 5, within, 4, no_colon, no_colon),
+        ("HTTP", 4, at_end, 4, no_colon, no_colon),
+        ("http/1.1 200 OK", 4, at_end, 4, no_colon, no_colon),
+        ("HTTP/1.1", 8, no_code, 4, no_colon, no_colon),
+        ("HTTP/1.1 ", 9, no_code, 4, no_colon, no_colon),
+        ("HTTP/2", 6, no_code, 4, no_colon, no_colon),
+        ("HTTP/1. 200 OK", 6, no_code, 4, no_colon, no_colon),
+        ("HTTP/1.1x 200 OK", 8, no_code, 4, no_colon, no_colon),
+        ("HTTP/1.1  200 OK", 9, no_code, 4, no_colon, no_colon),
+        ("HTTP/1.1 2x0 OK", 9, no_code, 4, no_colon, no_colon),
+        ("HTTP/1.1 099", 9, no_code, 4, no_colon, no_colon),
+        ("HTTP/1.1 2000", 9, no_code, 4, no_colon, no_colon),
+        ("HTTP/1.1 200 \r: x", 13, within, 4, no_colon, no_colon),
+        ("HTTP/1.1 2x0 \0", 13, within, 4, no_colon, no_colon),
     ] {
         let mut head = Head::new(parser());
         for text in ["\r\n", line, line, "", line] {
@@ -118,7 +578,9 @@ fn words_of_lines() {
         }
         let shown: Vec<_> = head.malformed().iter().map(ToString::to_string).collect();
         let expected = [
-            format!("line 2, place {place}: neither a start line nor a field line: {first}"),
+            format!(
+                "line 2, place {at}: neither a start line ({start}) nor a field line ({first})"
+            ),
             format!("line 3, place {place}: not a field line: {other}"),
             format!("line 5, place {place}: not a field line: {other}"),
         ];
@@ -146,7 +608,7 @@ fn lines_like_others() {
     assert!(head.is_incomplete() && head.content().is_none());
     assert_eq!(
         messages(&head, 40),
-        ["line 3, place 0: the head does not end with an empty line\n\n^"]
+        ["line 3, place 0: the head does not end with an empty line"]
     );
 }
 
@@ -255,11 +717,17 @@ fn fields_of_a_head() {
             ("Cache-Status", 5, 25)
         ]
     );
-    for one in head.malformed() {
+    for one in &head.malformed()[..2] {
         assert!(
             matches!(one.fault, Fault::Refused(refusal) if refusal.offset == one.offset as u64)
         );
     }
+    assert_eq!(
+        messages(&head, 26)[2],
+        "line 5, place 25: Cache-Status: the member does not name a cache\n\
+         cache-status: edge; hit, 7\n                         ^"
+    );
+    head.path().unwrap();
     // A member that names no cache stays where it is.
     let hop = Hop::new(TokenRef::constant("edge")).with_outcome(Outcome::Hit);
     let sent = head.append_or_replace(&hop).unwrap();
@@ -322,6 +790,7 @@ fn faults_of_decisions() {
             &["line 1, place 7: Age: expected a number of seconds\nAge: 20??\n       ^"],
         ),
         ("T: max-age=1\nCache-Control: a b\nExpires: 0\nDate: x\n", &[]), // they are not read
+        ("Date: x\nDate: x\n", &[]), // without Expires
         (
             "Expires:  0 \nDate: Sun\n",
             &[
@@ -338,11 +807,12 @@ fn faults_of_decisions() {
                Expires: Sun, 06 Nov 1994 \n         ^"],
         ),
         (
-            "Date: x\nDate: Sun, 06 Nov 1994 08:49:37 GMT\nDate: x\n",
+            "Date: x\nExpires: Sun, 06 Nov 1994 08:49:37 GMT\n\
+             Date: Sun, 06 Nov 1994 08:49:37 GMT\nDate: x\n",
             &[
                 "line 1, place 6: Date: expected an HTTP-date, such as Sun, 06 Nov 1994 08:49:37 \
                  GMT\nDate: x\n      ^",
-                "line 2, place 6: Date: there are several lines\n\
+                "line 3, place 6: Date: there are several lines\n\
                  Date: Sun, 06 Nov 1994 08:\n      ^",
             ],
         ),
@@ -429,7 +899,7 @@ fn obstacles() {
             "HTTP/1.1 200\nCache-Control: a b\n\n",
             "Cache-Control: not stored (malformed)",
         ),
-        ("HTTP/1.1 200\nExpires: 0\n\n", "Expires: stale (expires)"),
+        ("HTTP/1.1 200\nExpires: 0\n\n", "Expires: stale"),
     ] {
         let mut head = Head::parse(parser(), text).unwrap();
         assert_eq!(head.decide(&exchange, &[]).unwrap().to_string(), shown);
@@ -440,7 +910,7 @@ fn obstacles() {
         messages(&head, 9),
         [
             "line 2, place 3: not a field line: white space after the name\nAge : 1\n   ^",
-            "line 3, place 0: the head does not end with an empty line\n\n^"
+            "line 3, place 0: the head does not end with an empty line"
         ]
     );
     let text = "GET / HTTP/1.1\nCache-Control: max-age=60\n\n";
@@ -457,8 +927,9 @@ fn obstacles() {
 #[test]
 fn obstacles_of_requests_and_directives() {
     let decide = |cache, request, response: &str| {
-        let request = Head::parse(parser(), request).unwrap();
-        let exchange = Exchange::at(cache, 784_111_777).with_request(&request);
+        let mut request = Head::parse(parser(), request).unwrap();
+        let exchange = Exchange::at(cache, 784_111_777);
+        let exchange = exchange.with_request(&mut request).unwrap();
         let response = format!("HTTP/1.1 200 OK\n{response}\n");
         let mut response = Head::parse(parser(), &response).unwrap();
         response.decide(&exchange, &["T"]).unwrap().to_string()
@@ -527,20 +998,21 @@ fn obstacles_of_requests_and_directives() {
     }
 
     let exchange = Exchange::at(Cache::Shared, 784_111_777).with_status(200);
-    let request = Head::parse(parser(), cut_off).unwrap();
-    let seen = exchange.with_authorization(true).with_request(&request);
+    let mut request = Head::parse(parser(), cut_off).unwrap();
+    let seen = exchange.with_authorization(true);
+    let seen = seen.with_request(&mut request).unwrap();
     assert_eq!(
         (seen.is_authorized, seen.is_request_incomplete),
         (false, true)
     );
-    let request = Head::parse(parser(), authorized).unwrap();
-    let seen = exchange.with_request(&request);
+    let mut request = Head::parse(parser(), authorized).unwrap();
+    let seen = exchange.with_request(&mut request).unwrap();
     assert_eq!(
         (seen.is_authorized, seen.is_request_incomplete),
         (true, true)
     );
-    let request = Head::parse(parser(), complete).unwrap();
-    let seen = seen.with_request(&request);
+    let mut request = Head::parse(parser(), complete).unwrap();
+    let seen = seen.with_request(&mut request).unwrap();
     assert_eq!(
         (seen.is_authorized, seen.is_request_incomplete),
         (false, false)
@@ -641,7 +1113,7 @@ fn files_are_named() {
             String::from(
                 "r.txt, line 3, place 4: not a field line: no colon after the name\nAge 1\n    ^"
             ),
-            String::from("r.txt, line 4, place 0: the head does not end with an empty line\n\n^"),
+            String::from("r.txt, line 4, place 0: the head does not end with an empty line"),
         ]
     );
     assert!(shown("", 40)[1].starts_with(", line 3, place 4: not a field line: "));

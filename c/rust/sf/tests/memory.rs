@@ -109,6 +109,20 @@ fn a_failed_allocation_is_an_error() {
     let received = "HTTP/1.1 200 OK\nAge 1\nCDN-Cache-Control: a,\nAge: x\nExpires: 0\nPriority: \
                     u=\nCache-Status: a,\nX: b=\nX: c";
     each_refused(|| Head::parse(Parser::new(), received));
+    each_refused(|| Head::parse_request(Parser::new(), received));
+    each_refused(|| Head::parse_response(Parser::new(), "Age: 1\n\n"));
+    let refused = "GET / HTTP/1.1\nCache-Control: a b\n\n";
+    each_refused(|| {
+        let mut head = Head::parse_request(Parser::new(), refused)?;
+        let exchange = exchange.with_request(&mut head)?;
+        assert!(exchange.is_request_no_store && head.malformed().len() == 1);
+        Ok(())
+    });
+    // The error of `std::io` for it has nothing that would be allocated.
+    LEFT.with(|left| left.set(0));
+    let error = std::io::Error::from(Error::OutOfMemory);
+    assert_eq!(LEFT.with(|left| left.replace(-1)), 0);
+    assert_eq!(error.kind(), std::io::ErrorKind::OutOfMemory);
     each_refused(|| {
         let mut head = Head::parse(Parser::new(), received)?;
         head.decide(&exchange, &["CDN-Cache-Control"])?;
