@@ -1219,6 +1219,49 @@ static void very_many_keys(void) {
   free(text);
 }
 
+/* Short texts, and buffers of which one has an element less than the value needs. The other one is
+ * large enough for any text of the length. The text is counted, without memory. */
+static void short_texts(void) {
+  static const struct {
+    uint32_t kind;
+    const char *text;
+    size_t nodes, decoded, all_bytes;
+  } rows[] = {
+      {SF_ITEM, "a", 1, 0, 1},      {SF_LIST, "a", 1, 0, 1},       {SF_DICT, "a", 1, 0, 1},
+      {SF_LIST, ":/w:", 1, 1, 1},   {SF_ITEM, ":YQ:", 1, 1, 1},    {SF_LIST, ":YQ:", 1, 1, 1},
+      {SF_LIST, "a;b", 2, 0, 2},    {SF_ITEM, "\"\\\"\"", 1, 1, 1}, {SF_LIST, "\"\\\"\"", 1, 1, 1},
+      {SF_DICT, "a=:/w:", 1, 1, 2}, {SF_LIST, "(a b c)", 4, 0, 3}, {SF_LIST, ":YWJj:", 1, 3, 3},
+  };
+  for (size_t i = 0; i < sizeof rows / sizeof *rows; ++i) {
+    const char *about = rows[i].text;
+    uint32_t status;
+    size_t length = strlen(about), nodes = rows[i].nodes, decoded = rows[i].decoded;
+    size_t most_nodes = SF_NODES_SIZE(length), most_bytes = SF_BYTES_SIZE(length);
+    unsigned char *text = take_buffer(about, length);
+    sf_refusal refusal = untouched;
+    value v = {text, length, take_buffer(NULL, most_nodes * sizeof *v.nodes),
+               take_buffer(NULL, most_bytes), {4711, 4712}};
+    for (size_t bytes = 0; bytes <= most_bytes; ++bytes) {
+      v.sizes = (sf_sizes){4711, 4712};
+      FREE_CALL(sf_parse(&seed, SF_RFC9651, rows[i].kind, text, length, v.nodes, nodes - 1, v.bytes,
+                         bytes, &v.sizes, &refusal));
+      CHECK(status == SF_TOO_MANY && v.sizes.nodes == nodes && v.sizes.bytes == rows[i].all_bytes);
+    }
+    for (size_t count = nodes; decoded > 0 && count <= most_nodes; ++count) {
+      v.sizes = (sf_sizes){4711, 4712};
+      FREE_CALL(sf_parse(&seed, SF_RFC9651, rows[i].kind, text, length, v.nodes, count, v.bytes,
+                         decoded - 1, &v.sizes, &refusal));
+      CHECK(status == SF_SHORT && v.sizes.nodes == nodes && v.sizes.bytes == rows[i].all_bytes);
+    }
+    FREE_CALL(sf_parse(&seed, SF_RFC9651, rows[i].kind, text, length, v.nodes, nodes, v.bytes,
+                       decoded, &v.sizes, &refusal));
+    CHECK(status == SF_OK && v.sizes.nodes == nodes && v.sizes.bytes == decoded);
+    CHECK(is_untouched(&refusal));
+    give_value(v);
+    give_buffer(text);
+  }
+}
+
 /* Buffers that are much too small for many members: the text is counted, without memory unless a
  * key is repeated, and then with memory for the different keys. */
 static void limits(void) {
@@ -2159,9 +2202,21 @@ static void changed_priorities(void) {
       {"u=-1, i", {0, 0, 1, 0}, "u=0, i", 0},
       {"u=1.5", {3, 1, 0, 1}, "u=1.5, i", 0},
       {"i=?0;a", {1, 0, 1, 0}, "i=?0;a, u=1", 0},
-      {"i, i=?0", {1, 0, 1, 0}, "i=?0, u=1", 1},
+      {"i, i=?0", {1, 0, 1, 0}, "i=?0, u=1", 0},
+      {"u=1, i, u=2", {3, 0, 0, 0}, "u=2, i", 0},
+      {"i, u=1, i=?0", {3, 0, 0, 0}, "i=?0, u=1", 0},
+      {"u=1, i, u=02", {3, 1, 0, 1}, "u=2, i", 0},
+      {"u=1, i, u=2", {5, 0, 1, 1}, "u=5, i=?0", 0},
+      {"u=1, u=9, i", {3, 0, 0, 0}, "u=9, i", 1},
+      {"u=1, x, u=2", {3, 0, 0, 0}, "u=2, x", 1},
+      {"u=1, u=2, i;p", {3, 0, 0, 0}, "u=2, i;p", 1},
+      {"u=1,       i", {2, 0, 1, 0}, "u=2, i", 0},
+      {"u=1,        i", {2, 0, 1, 0}, "u=2, i", 0},
       {"u=1,           i", {2, 0, 1, 0}, "u=2, i", 0},
       {"u=1,            i", {2, 0, 1, 0}, "u=2, i", 0},
+      /* as many nodes as a text of 16 bytes has at most, and one more in 17 bytes */
+      {"a,b,c,d,e,f,g,hh", {1, 0, 1, 0}, "a, b, c, d, e, f, g, hh, u=1", 0},
+      {"a,b,c,d,e,f,g,h,j", {1, 0, 1, 0}, "a, b, c, d, e, f, g, h, j, u=1", 0},
   };
   uint32_t status;
   for (size_t i = 0; i < sizeof rows / sizeof *rows; ++i) {
@@ -3592,6 +3647,7 @@ static void all(void) {
     nodes_of_values();
     many_keys();
     very_many_keys();
+    short_texts();
     limits();
     lean_refusals();
     finding();

@@ -12,15 +12,18 @@ use Rattle.sf_value.specs.declared.dialect.Dialect.{Dialect}
 use Rattle.sf_value.specs.declared.dialect.Dialect.TheVariants.{Rfc9651}
 use Rattle.sf_value.specs.declared.value.Bare.{Bare}
 use Rattle.sf_value.specs.declared.value.Bare.TheVariants.{Integer, Boolean}
+use Rattle.sf_value.specs.declared.value.Dict.{Dict as Dictionary}
 use Rattle.sf_value.specs.declared.value.Kind.TheVariants as kind
 use Rattle.sf_value.specs.declared.value.Field.TheVariants as field
 use Rattle.sf_value.specs.declared.value.Member.{Member}
 use Rattle.sf_value.specs.declared.value.Member.TheVariants as member
-use Rattle.sf_value.specs.Grammar.Pairs.{Pairs, settle}
+use Rattle.sf_value.specs.Grammar.Pairs.{Pairs, put, settle}
 use Rattle.sf_value.specs.Grammar.Parameters.{SpellsParams}
 use Rattle.sf_value.specs.Grammar.InnerLists.{SpellsMember}
 use Rattle.sf_value.specs.Grammar.Series.{SpellsCommas, SpellsWhole}
 use Rattle.sf_value.specs.Grammar.Fields.{SpellsEntry, SpellsField}
+use Rattle.sf_value.proofs.Settling.{settle_settle}
+use Rattle.sf_parse.specs.Parsers.{IsOnly}
 use Rattle.sf_parse.proofs.GrammarLaws.{one_value}
 use Rattle.sf_view.specs.declared.cursor.DictCursor.{DictCursor}
 use Rattle.sf_view.specs.declared.cursor.EntryView.{EntryView}
@@ -31,7 +34,11 @@ use Rattle.sf_use.specs.Priority.{bare_member}
 use Rattle.sf_use.specs.Scanning.{urgency_by}
 use Rattle.sf_use.specs.declared.priority.Asked.{Asked}
 use Rattle.sf_c.specs.declared.plain_priority.PlainPriority.{PlainPriority}
+use Rattle.sf_c.specs.Priorities.{dict_of_params}
 use Rattle.sf_c.specs.PlainPriorities.{IsPlain, dict_of_plain, in_order, plain, plain_members}
+
+abbrev pub no_members : Dictionary
+no_members = record { members = [] }
 
 -- no semicolon is in the text
 abbrev pub HasNone : List ℕ → Type 0
@@ -104,12 +111,12 @@ whole_plain d t (p ∷ ps) h (gap, body, tail, split, x, (prefix, suffix, is, s,
     let more = commas_plain d suffix ps b.1 others in
     ap (λ q. q ∷ map plain_entry ps) one ∙ ap (λ qs. p ∷ qs) more
 
--- some members were read, and these are what they are without parameters; whatever members remain,
--- the text spells those that were read and them
+-- some members were read, and without parameters they are settled to these; whatever members
+-- remain, the text spells those that were read and them
 pub record PlainSoFar (text : List ℕ) (c : DictCursor) (p : PlainPriority) : Type 0 where
   pub dialect : c.dialect ≡ Rfc9651
   pub members : Pairs Member
-  pub plain : map plain_entry members ≡ plain_members p
+  pub plain : settle (map plain_entry members) ≡ plain_members p
   pub reads : (ps : Pairs Member) → RemainsInDict c ps
       → SpellsWhole (SpellsEntry Rfc9651) text (members ++ ps)
 
@@ -121,32 +128,22 @@ none_read text c p d h e = record { dialect = d; members = []; plain = sym e; re
 pub member_read : (text : List ℕ) (c e : DictCursor) (v : EntryView) (p q : PlainPriority)
     → PlainSoFar text c p → e.dialect ≡ c.dialect → ReadsNextEntry c e (Some v)
     → ((d : Dialect) (m : Member) → ShowsMember d v.bare m
-    → plain_members q ≡ plain_members p ++ (v.key.now, plain m) ∷ [])
+    → plain_members q ≡ put (plain_members p) v.key.now (plain m))
     → PlainSoFar text e q
-member_read text c e v p q s same (m, shown, remains) h = record {
-  dialect = same ∙ s.dialect;
-  members = s.members ++ (v.key.now, m) ∷ [];
-  plain =
-      map-append plain_entry s.members ((v.key.now, m) ∷ [])
-      ∙ ap (λ ps. ps ++ (v.key.now, plain m) ∷ []) s.plain
-      ∙ sym (h c.dialect m shown);
-  reads = λ ps r.
-      subst (SpellsWhole (SpellsEntry Rfc9651) text)
-      (sym (append_assoc s.members ((v.key.now, m) ∷ []) ps))
-      (s.reads ((v.key.now, m) ∷ ps) (remains ps r));
-}
-
--- u and i are different keys
-settled : (b : Bool) (u : Option ℕ) (i : Option Bool)
-    → settle (in_order b u i) ≡ in_order b u i
-settled false None None = refl
-settled false None (Some i) = refl
-settled false (Some u) None = refl
-settled false (Some u) (Some i) = refl
-settled true None None = refl
-settled true None (Some i) = refl
-settled true (Some u) None = refl
-settled true (Some u) (Some i) = refl
+member_read text c e v p q s same (m, shown, remains) h =
+    let one : Pairs Member = (v.key.now, plain m) ∷ [] in record {
+      dialect = same ∙ s.dialect;
+      members = s.members ++ (v.key.now, m) ∷ [];
+      plain =
+          ap settle (map-append plain_entry s.members ((v.key.now, m) ∷ []))
+          ∙ sym (settle_settle (map plain_entry s.members) one)
+          ∙ ap (λ ps. settle (ps ++ one)) s.plain
+          ∙ sym (h c.dialect m shown);
+      reads = λ ps r.
+          subst (SpellsWhole (SpellsEntry Rfc9651) text)
+          (sym (append_assoc s.members ((v.key.now, m) ∷ []) ps))
+          (s.reads ((v.key.now, m) ∷ ps) (remains ps r));
+    }
 
 pub all_read : (text : List ℕ) (c e : DictCursor) (o : Option EntryView) (p : PlainPriority)
     → PlainSoFar text c p → HasNone text → ReadsNextEntry c e o → o ≡ None → IsPlain text p
@@ -154,13 +151,10 @@ all_read text c e o p s h n none =
     let left : RemainsInDict c [] = subst (ReadsNextEntry c e) none n in
     let whole : SpellsWhole (SpellsEntry Rfc9651) text s.members =
     subst (SpellsWhole (SpellsEntry Rfc9651) text) (append-nil s.members) (s.reads [] left) in
-    let same : s.members ≡ plain_members p =
-    sym (whole_plain Rfc9651 text s.members h whole) ∙ s.plain in
-    let spelled : SpellsField Rfc9651 kind.Dict text (field.Dict (dict_of_plain p)) = (
-      plain_members p,
-      sym (settled p.is_reversed p.urgency p.incremental),
-      subst (SpellsWhole (SpellsEntry Rfc9651) text) same whole,
-    ) in
+    let same : plain_members p ≡ settle s.members =
+    sym s.plain ∙ ap settle (whole_plain Rfc9651 text s.members h whole) in
+    let spelled : SpellsField Rfc9651 kind.Dict text (field.Dict (dict_of_plain p)) =
+    (s.members, same, whole) in
     record {
       spelled = spelled;
       only = λ w i. one_value Rfc9651 kind.Dict text w (field.Dict (dict_of_plain p)) i spelled;
@@ -251,3 +245,24 @@ changed_is p q a some none e f g h k =
     ∙ ap (λ x. in_order q.is_reversed u x) f
     ∙ ap (λ x. in_order x u i) first
     ∙ order_is p.is_reversed p.urgency p.incremental a.urgency a.incremental)
+
+-- no members are in an empty text
+pub none_in : (text : List ℕ) → text ≡ [] → IsOnly Rfc9651 kind.Dict text (field.Dict no_members)
+none_in text e =
+    let spelled : SpellsField Rfc9651 kind.Dict text (field.Dict no_members) = ([], refl, rw e tt) in
+    record {
+      spelled = spelled;
+      only = λ w i. one_value Rfc9651 kind.Dict text w (field.Dict no_members) i spelled;
+    }
+
+-- what is set is then all that there is
+pub updated_none : (a : Asked) → updated a no_members ≡ dict_of_params a
+updated_none a = by a.urgency a.incremental
+  where
+    by : (u : Option ℕ) (i : Option Bool)
+        → updated (record { urgency = u; incremental = i }) no_members
+        ≡ dict_of_params (record { urgency = u; incremental = i })
+    by None None = refl
+    by None (Some b) = refl
+    by (Some n) None = refl
+    by (Some n) (Some b) = refl

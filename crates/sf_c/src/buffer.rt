@@ -1,5 +1,5 @@
 //! The caller's buffer.
-ghost use Rattle.std.specs.Prelude.{◌≡◌, ◌+◌, ◌≤◌, ◌++◌, length, take, drop, Some};
+ghost use Rattle.std.specs.Prelude.{◌≡◌, ℕ, ◌+◌, ◌*◌, ◌≤◌, ◌++◌, length, take, drop, true, Some};
 ghost use Rattle.sf_c.specs.TextBuffers.{PutsText};
 
 use crate::status::Status;
@@ -28,11 +28,18 @@ pub(crate) fn put_text(text: &[u8], buffer: &mut [u8], required: &mut usize) -> 
     Status::Answered
 }
 
-/// Whether a buffer of so many nodes, and one of so many bytes, have about the sizes that are large
-/// enough for any text of this length: four fifths of it, and eight fifths. Both are rounded down,
-/// so that a text may need a little more. It decides only whether a value is counted before its
+/// Whether a buffer of so many nodes, and one of so many bytes, are large enough for any text of this
+/// length, as `SF_NODES_SIZE` and `SF_BYTES_SIZE` of `include/sf.h` say: four fifths of the length,
+/// rounded to the nearest integer, and eight fifths. If they aren't, a value is counted before its
 /// tree is built.
-pub(crate) fn are_large(text: &[u8], count: usize, bytes: usize) -> bool {
-    let length = text.len();
-    count >= length.saturating_mul(4) / 5 && bytes >= (length / 5).saturating_mul(8)
+pub(crate) fn are_large(text: &[u8], nodes: usize, bytes: usize) -> bool
+    // They hold as many nodes and bytes as any value of such a text has (`IsSmall`).
+    ensures nodes { result ≡ true → (n : ℕ) → 10 * n ≤ 8 * length text.now + 5 → n ≤ nodes }
+    ensures bytes { result ≡ true → (n : ℕ) → 5 * n ≤ 8 * length text.now → n ≤ bytes }
+{
+    let fifths = text.len() / 5;
+    let rest = text.len() % 5;
+    let most_nodes = fifths * 4 + (rest * 8 + 5) / 10;
+    let most_bytes = fifths * 8 + rest * 8 / 5;
+    nodes >= most_nodes && bytes >= most_bytes
 }

@@ -7,7 +7,7 @@ ghost use Rattle.sf_c.specs.Policies.{Directs, LifeIs, SaysPolicy, SaysToCache};
 ghost use Rattle.sf_c.specs.Policies.{policy_by, seconds_at};
 ghost use Rattle.sf_c.specs.Statuses.{status_at};
 
-use crate::call::{Scan, parse_dict};
+use crate::call::parse_dict;
 use crate::refusal::SyntaxRefusal;
 use crate::seed::Seed;
 use crate::status::Status;
@@ -180,7 +180,7 @@ fn policy_by_tree(
     ensures { SaysToCache (record { policy = policy.old; refusal = refusal.old })
         (record { policy = policy.new; refusal = refusal.new }) text.now (Some result) }
 {
-    match parse_dict(alloc, seed, Scan::Declined, Dialect::Rfc9651, text, refusal) {
+    match parse_dict(alloc, seed, Dialect::Rfc9651, text, refusal) {
         Ok(dict) => directed(&dict, policy),
         Err(status) => status,
     }

@@ -8,7 +8,7 @@ ghost use Rattle.sf_c.specs.Rules.{Rules, SaysRules, RulesCache, rules_by};
 ghost use Rattle.sf_c.specs.Statuses.{status_at};
 
 use crate::cache_control::PolicyFlags;
-use crate::call::{Scan, dialect_of, parse_dict};
+use crate::call::{dialect_of, parse_dict};
 use crate::refusal::SyntaxRefusal;
 use crate::seed::Seed;
 use crate::status::Status;
@@ -155,7 +155,7 @@ fn rules_by_tree(
     ensures { RulesCache (record { rules = rules.old; refusal = refusal.old })
         (record { rules = rules.new; refusal = refusal.new }) text.now dialect result }
 {
-    match parse_dict(alloc, seed, Scan::Declined, dialect, text, refusal) {
+    match parse_dict(alloc, seed, dialect, text, refusal) {
         Ok(dict) => ruled(&dict, rules),
         Err(status) => status,
     }

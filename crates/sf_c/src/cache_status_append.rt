@@ -16,6 +16,7 @@ ghost use Rattle.std.specs.Result.{result_map_both};
 
 use crate::buffer::put_text;
 use crate::call::{Scan, dialect_of, parse};
+use crate::hop_numbers::CONFLICT;
 use crate::hop_value::hop_of;
 use crate::hops::HopNode;
 use crate::refusal::SyntaxRefusal;
@@ -102,7 +103,7 @@ fn own_hop(alloc: Global, hop: &HopNode, bytes: &[u8]) -> Result<Hop, Status>
     ensures { MatchResult result (λ made. GivesOwn bytes.now hop.now made)
         (GivesNone (GivesOwn bytes.now hop.now)) }
 {
-    if hop.outcome == 3 {
+    if hop.outcome == CONFLICT {
         return Err(Status::Invalid);
     }
     hop_of(alloc, hop, bytes)

@@ -125,11 +125,11 @@ fn build(
     }
 }
 
-/// The Dictionary that the text spells, or the status that says why there is none, as of [`parse`].
+/// The Dictionary that a declined text spells, or the status that says why there is none, as of
+/// [`parse`].
 pub(crate) fn parse_dict(
     alloc: Global,
     seed: &Seed,
-    scan: Scan,
     dialect: Dialect,
     text: &[u8],
     refusal: &mut SyntaxRefusal,
@@ -139,7 +139,15 @@ pub(crate) fn parse_dict(
     ensures { ParsesOrSays refusal.old refusal.new text.now dialect kind_is.Dict
         (result_map_both field_is.Dict (λ status. status) result) }
 {
-    match parse(alloc, seed, scan, dialect, Kind::Dict, text, refusal)? {
+    match parse(
+        alloc,
+        seed,
+        Scan::Declined,
+        dialect,
+        Kind::Dict,
+        text,
+        refusal,
+    )? {
         Field::Dict(dict) => Ok(dict),
         _ => unreachable!(),
     }

@@ -23,6 +23,10 @@ ghost use Rattle.sf_c.specs.GivenHops.{GivesToken, GivesWhy, hop_text};
 ghost use Rattle.sf_c.specs.HopParts.{Decides, SpellsHop, param_text};
 
 use crate::filling::Parts;
+use crate::hop_numbers::{
+    BYPASS, CONFLICT, FORWARDED, HIT, METHOD, MISS, OTHER, PARTIAL, REQUEST, STALE, UNSAID,
+    URI_MISS, VARY_MISS,
+};
 use crate::hop_value::{status_of, ttl_of};
 use crate::hops::HopNode;
 use crate::span::Span;
@@ -42,10 +46,8 @@ pub(crate) struct GivenHop<'a> {
 impl<'a> Parts for GivenHop<'a> {
     ghost spells = { SpellsHop };
 
-    /// Whether the bytes of the spans, all of them escaped, are short with the 87 bytes that the
-    /// rest of the text has at most. The token of `fwd` counts among the spans. If the caller left
-    /// its span empty, since `why` names it, there may be 9 bytes more; a text that is then not
-    /// short is counted after all.
+    /// Whether the bytes of the spans, all of them escaped, are short with the 96 bytes that the
+    /// rest of the text has at most. These include the 9 of the longest token that `why` names.
     fn is_short(&self) -> bool {
         let hop = self.node;
         let bytes = hop
@@ -54,7 +56,7 @@ impl<'a> Parts for GivenHop<'a> {
             .saturating_add(hop.why_token.length)
             .saturating_add(hop.key.length)
             .saturating_add(hop.detail.length);
-        bytes <= 52
+        bytes <= 48
     }
 
     fn put<W: Sink>(&self, out: &mut W) -> Sent {
@@ -141,10 +143,10 @@ fn is_outcome(hop: &HopNode, bytes: &[u8]) -> bool
     ensures { Decides (GivesOutcome bytes.now hop.now) result }
 {
     match hop.outcome {
-        0 => return true,
-        1 => return true,
-        2 => return is_passed(hop, bytes),
-        3 => return is_passed(hop, bytes),
+        UNSAID => return true,
+        HIT => return true,
+        FORWARDED => return is_passed(hop, bytes),
+        CONFLICT => return is_passed(hop, bytes),
         _ => return false,
     }
 }
@@ -173,15 +175,15 @@ fn is_why(hop: &HopNode, bytes: &[u8]) -> bool
     ensures { Decides (GivesWhy bytes.now hop.now) result }
 {
     match hop.why {
-        1 => return true,
-        2 => return true,
-        3 => return true,
-        4 => return true,
-        5 => return true,
-        6 => return true,
-        7 => return true,
-        8 => return true,
-        9 => return is_token(bytes, hop.why_token),
+        BYPASS => return true,
+        METHOD => return true,
+        URI_MISS => return true,
+        VARY_MISS => return true,
+        MISS => return true,
+        REQUEST => return true,
+        STALE => return true,
+        PARTIAL => return true,
+        OTHER => return is_token(bytes, hop.why_token),
         _ => return false,
     }
 }
@@ -263,10 +265,10 @@ fn is_forwarded(hop: &HopNode) -> bool
         → MatchBool result ((p : Passed) × (passed_by o ≡ Some p) × GivesPassed bytes hop.now p)
         (passed_by o ≡ None) }
 {
-    if hop.outcome == 2 {
+    if hop.outcome == FORWARDED {
         return true;
     }
-    if hop.outcome == 3 {
+    if hop.outcome == CONFLICT {
         return true;
     }
     false
@@ -278,10 +280,10 @@ fn put_hit<W: Sink>(hop: &HopNode, before: Sent, out: &mut W) -> Sent
         → Follows W.state W.send_gives out.old out.new before result
         (param_text (codes "hit") (hit_value o)) }
 {
-    if hop.outcome == 1 {
+    if hop.outcome == HIT {
         return put(b";hit", before, out);
     }
-    if hop.outcome == 3 {
+    if hop.outcome == CONFLICT {
         return put(b";hit", before, out);
     }
     before
@@ -305,15 +307,15 @@ fn why_part<'a>(hop: &HopNode, bytes: &'a [u8]) -> &'a [u8]
     ensures { (why : Forward) → GivesWhy bytes.now hop.now why → result.now ≡ token_of why }
 {
     match hop.why {
-        1 => return b"bypass",
-        2 => return b"method",
-        3 => return b"uri-miss",
-        4 => return b"vary-miss",
-        5 => return b"miss",
-        6 => return b"request",
-        7 => return b"stale",
-        8 => return b"partial",
-        9 => return part(bytes, hop.why_token),
+        BYPASS => return b"bypass",
+        METHOD => return b"method",
+        URI_MISS => return b"uri-miss",
+        VARY_MISS => return b"vary-miss",
+        MISS => return b"miss",
+        REQUEST => return b"request",
+        STALE => return b"stale",
+        PARTIAL => return b"partial",
+        OTHER => return part(bytes, hop.why_token),
         _ => return b"",
     }
 }

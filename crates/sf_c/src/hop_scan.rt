@@ -21,6 +21,10 @@ ghost use Rattle.sf_c.specs.ScannedHops.{PutsAfter};
 ghost use Rattle.sf_c.specs.ScannedHops.{is_token_view, says_in, token_number};
 
 use crate::buffer::put;
+use crate::hop_numbers::{
+    BYPASS, FORWARDED, HIT, METHOD, MISS, NO_FORWARD, OTHER, PARTIAL, REQUEST, STALE, URI_MISS,
+    VARY_MISS,
+};
 use crate::hops::HopNode;
 use crate::span::Span;
 use sf_use::{HopCursor, HopStatus, HopView, NameView};
@@ -194,7 +198,7 @@ fn last_hit(last: Option<usize>, place: usize, outcome: u16) -> Option<usize>
     ensures hit { outcome ≡ 1 → result ≡ Some place }
     ensures other { outcome ≢ 1 → result ≡ last }
 {
-    if outcome == 1 { Some(place) } else { last }
+    if outcome == HIT { Some(place) } else { last }
 }
 
 /// Puts the bytes of a hop after so many of the buffer; `None` if it is too small.
@@ -338,7 +342,7 @@ fn outcome_of(hop: HopView) -> u16
     ensures { result ≡ (says_in hop.entry).outcome }
 {
     let is_hit = hop.params.hit.unwrap_or(false);
-    u16::from(is_hit) + 2 * u16::from(hop.params.fwd.is_some())
+    HIT * u16::from(is_hit) + FORWARDED * u16::from(hop.params.fwd.is_some())
 }
 
 /// Whether a name is a Token.
@@ -364,7 +368,7 @@ fn why_number(token: Option<&[u8]>) -> u16
 {
     match token {
         Some(token) => return reason_number(token),
-        None => return 0,
+        None => return NO_FORWARD,
     }
 }
 
@@ -373,14 +377,14 @@ fn reason_number(token: &[u8]) -> u16
     ensures { result ≡ token_number token.now }
 {
     match token {
-        b"bypass" => 1,
-        b"method" => 2,
-        b"uri-miss" => 3,
-        b"vary-miss" => 4,
-        b"miss" => 5,
-        b"request" => 6,
-        b"stale" => 7,
-        b"partial" => 8,
-        _ => 9,
+        b"bypass" => BYPASS,
+        b"method" => METHOD,
+        b"uri-miss" => URI_MISS,
+        b"vary-miss" => VARY_MISS,
+        b"miss" => MISS,
+        b"request" => REQUEST,
+        b"stale" => STALE,
+        b"partial" => PARTIAL,
+        _ => OTHER,
     }
 }

@@ -1,11 +1,16 @@
 //! The hop that a struct describes, as a value.
 ghost use Rattle.std.specs.Prelude.{◌≡◌, IfErr, MatchResult};
-ghost use Rattle.sf_c.specs.GivenHops.{AreBytes, GivesFlag, GivesHop, GivesInteger, GivesMaybe};
+ghost use Rattle.sf_c.specs.GivenHops.{AreBytes, GivesHop, GivesInteger, GivesMaybe};
 ghost use Rattle.sf_c.specs.GivenHops.{GivesName, GivesNone, GivesOutcome, GivesPassed};
 ghost use Rattle.sf_c.specs.GivenHops.{fault_status, is_invalid as is_invalid_part};
 ghost use Rattle.sf_c.specs.GivenHops.{GivesStatus, GivesString, GivesToken, GivesWhy};
 ghost use Rattle.sf_c.specs.declared.status.Status.TheVariants.{Invalid};
 
+use crate::flag::flag_of;
+use crate::hop_numbers::{
+    BYPASS, CONFLICT, FORWARDED, HIT, METHOD, MISS, OTHER, PARTIAL, REQUEST, STALE, UNSAID,
+    URI_MISS, VARY_MISS,
+};
 use crate::hops::HopNode;
 use crate::span::Span;
 use crate::status::Status;
@@ -112,13 +117,13 @@ fn outcome_of(alloc: Global, hop: &HopNode, bytes: &[u8]) -> Result<Outcome, Sta
         (GivesNone (GivesOutcome bytes.now hop.now)) }
 {
     match hop.outcome {
-        0 => Ok(Outcome::Unsaid),
-        1 => Ok(Outcome::Hit),
-        2 => match passed_of(alloc, hop, bytes) {
+        UNSAID => Ok(Outcome::Unsaid),
+        HIT => Ok(Outcome::Hit),
+        FORWARDED => match passed_of(alloc, hop, bytes) {
             Ok(passed) => Ok(Outcome::Forwarded(passed)),
             Err(status) => Err(status),
         },
-        3 => match passed_of(alloc, hop, bytes) {
+        CONFLICT => match passed_of(alloc, hop, bytes) {
             Ok(passed) => Ok(Outcome::Conflict(passed)),
             Err(status) => Err(status),
         },
@@ -148,15 +153,15 @@ fn why_of(alloc: Global, hop: &HopNode, bytes: &[u8]) -> Result<Forward, Status>
         (GivesNone (GivesWhy bytes.now hop.now)) }
 {
     match hop.why {
-        1 => Ok(Forward::Bypass),
-        2 => Ok(Forward::Method),
-        3 => Ok(Forward::UriMiss),
-        4 => Ok(Forward::VaryMiss),
-        5 => Ok(Forward::Miss),
-        6 => Ok(Forward::Request),
-        7 => Ok(Forward::Stale),
-        8 => Ok(Forward::Partial),
-        9 => match token_of(alloc, bytes, hop.why_token) {
+        BYPASS => Ok(Forward::Bypass),
+        METHOD => Ok(Forward::Method),
+        URI_MISS => Ok(Forward::UriMiss),
+        VARY_MISS => Ok(Forward::VaryMiss),
+        MISS => Ok(Forward::Miss),
+        REQUEST => Ok(Forward::Request),
+        STALE => Ok(Forward::Stale),
+        PARTIAL => Ok(Forward::Partial),
+        OTHER => match token_of(alloc, bytes, hop.why_token) {
             Ok(token) => Ok(Forward::Other(token)),
             Err(status) => Err(status),
         },
@@ -178,16 +183,6 @@ pub(crate) fn status_of(has_status: u8, status: u16) -> Result<Option<HopStatus>
         Ok(status) => Ok(Some(status)),
         Err(_) => Err(Status::Invalid),
     }
-}
-
-/// A flag, if there is one.
-pub(crate) fn flag_of(has_flag: u8, flag: u8) -> Option<bool>
-    ensures { GivesMaybe has_flag (GivesFlag flag) result }
-{
-    if has_flag == 0 {
-        return None;
-    }
-    Some(flag != 0)
 }
 
 /// The remaining freshness lifetime in seconds, if `ttl` is present.

@@ -9,6 +9,10 @@ ghost use Rattle.sf_c.specs.Hops.{why_token as token_of_why, hops_size, hop_cont
 ghost use Rattle.sf_c.specs.Hops.{says_of, HopsAtStart, PutsSpan};
 
 use crate::buffer::put;
+use crate::hop_numbers::{
+    BYPASS, CONFLICT, FORWARDED, HIT, METHOD, MISS, NO_FORWARD, OTHER, PARTIAL, REQUEST, STALE,
+    UNSAID, URI_MISS, VARY_MISS,
+};
 use crate::span::Span;
 use sf_use::{Forward, Hop, HopStatus, Name, Outcome};
 use sf_value::{Int, OutOfMemory, Text};
@@ -208,10 +212,10 @@ fn outcome_number(outcome: &Outcome) -> u16
     ensures { result ≡ number_of_outcome outcome.now }
 {
     match outcome {
-        Outcome::Unsaid => 0,
-        Outcome::Hit => 1,
-        Outcome::Forwarded(_) => 2,
-        Outcome::Conflict(_) => 3,
+        Outcome::Unsaid => UNSAID,
+        Outcome::Hit => HIT,
+        Outcome::Forwarded(_) => FORWARDED,
+        Outcome::Conflict(_) => CONFLICT,
     }
 }
 
@@ -220,15 +224,15 @@ fn reason_number(why: &Forward) -> u16
     ensures { result ≡ number_of_reason why.now }
 {
     match why {
-        Forward::Bypass => 1,
-        Forward::Method => 2,
-        Forward::UriMiss => 3,
-        Forward::VaryMiss => 4,
-        Forward::Miss => 5,
-        Forward::Request => 6,
-        Forward::Stale => 7,
-        Forward::Partial => 8,
-        Forward::Other(_) => 9,
+        Forward::Bypass => BYPASS,
+        Forward::Method => METHOD,
+        Forward::UriMiss => URI_MISS,
+        Forward::VaryMiss => VARY_MISS,
+        Forward::Miss => MISS,
+        Forward::Request => REQUEST,
+        Forward::Stale => STALE,
+        Forward::Partial => PARTIAL,
+        Forward::Other(_) => OTHER,
     }
 }
 
@@ -238,7 +242,7 @@ fn why_number(outcome: &Outcome) -> u16
 {
     match outcome.passed() {
         Some(passed) => reason_number(&passed.why),
-        None => 0,
+        None => NO_FORWARD,
     }
 }
 

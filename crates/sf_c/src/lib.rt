@@ -20,6 +20,8 @@ mod decoding;
 mod fallback;
 mod filling;
 mod find;
+mod flag;
+mod hop_numbers;
 mod hop_parts;
 mod hop_scan;
 mod hop_text;

@@ -1,16 +1,18 @@
 //! Priority fields with the members `u` and `i` alone, which most are. They are read and changed
 //! without nodes.
-ghost use Rattle.std.specs.Prelude.{◌≡◌, ◌++◌, [], ◌∷◌, Some, IfSome};
+ghost use Rattle.std.specs.Prelude.{◌≡◌, pos, codes, Some, IfSome};
 ghost use Rattle.sf_value.specs.declared.dialect.Dialect.{Dialect as Which};
+ghost use Rattle.sf_value.specs.declared.value.Bare.TheVariants.{Boolean, Integer};
 ghost use Rattle.sf_value.specs.declared.value.Field.TheVariants as field_is;
 ghost use Rattle.sf_value.specs.declared.value.Member.{Member};
 ghost use Rattle.sf_value.specs.Grammar.Canonical.{canon};
+ghost use Rattle.sf_value.specs.Grammar.Pairs.{put};
 ghost use Rattle.sf_view.specs.Cursors.{integer_in};
 ghost use Rattle.sf_view.specs.Reads.{ShowsMember};
+ghost use Rattle.sf_use.specs.Priority.{bare_member};
 ghost use Rattle.sf_use.specs.PriorityUpdate.{updated};
 ghost use Rattle.sf_use.specs.Scanning.{urgency_by};
 ghost use Rattle.sf_c.specs.PlainPriorities.{IsPlain, dict_of_plain, plain, plain_members, reversed};
-ghost use Rattle.sf_c.specs.Priorities.{incremental_member, urgency_member};
 ghost use Rattle.sf_c.specs.TextBuffers.{PutsText};
 
 use crate::buffer::put_text;
@@ -20,8 +22,9 @@ use sf_use::{Asked, Urgency};
 use sf_value::Dialect;
 use sf_view::{DictCursor, EntryView};
 
-/// The longest text that is read: a longer one most likely has other members.
-const LONGEST: usize = 16;
+/// The longest text that is read: a longer one most likely has other members. With both members, a
+/// canonical text has at most 9 bytes.
+const LONGEST: usize = 12;
 
 /// The members `u` and `i` of a Priority field that has no others, without parameters.
 #[derive(Clone, Copy, Debug, Drop)]
@@ -43,7 +46,7 @@ impl PlainPriority {
     };
 
     /// Reads a text. `None` says nothing: the text may be long, or have other members, or one of
-    /// another type, out of range, repeated or with parameters.
+    /// another type, out of range or with parameters.
     pub(crate) fn scan(text: &[u8]) -> Option<PlainPriority>
         // The text spells the Dictionary of these members, and no other value.
         ensures { IfSome result (IsPlain text.now) }
@@ -60,54 +63,47 @@ impl PlainPriority {
         Some(read)
     }
 
-    /// The members and one more.
+    /// The members after one more, which overwrites one with its key.
     #[inline]
     fn with(self, member: EntryView) -> Option<PlainPriority>
         ensures { (d : Which) (m : Member) → ShowsMember d member.entry.bare m
             → IfSome result (λ p. plain_members p
-            ≡ plain_members self ++ (member.entry.key.now, plain m) ∷ []) }
+            ≡ put (plain_members self) member.entry.key.now (plain m)) }
     {
         match member.key {
-            b"u" => return self.with_urgency(urgency_in(member)?),
-            b"i" => return self.with_incremental(member.as_boolean()?),
+            b"u" => return Some(self.with_urgency(urgency_in(member)?)),
+            b"i" => return Some(self.with_incremental(member.as_boolean()?)),
             _ => return None,
         }
     }
 
-    /// The members and `u`.
+    /// The members after `u`.
     #[inline]
-    fn with_urgency(self, urgency: Urgency) -> Option<PlainPriority>
-        ensures { IfSome result (λ p. plain_members p
-            ≡ plain_members self ++ urgency_member (Some urgency)) }
+    fn with_urgency(self, urgency: Urgency) -> PlainPriority
+        ensures { plain_members result
+            ≡ put (plain_members self) (codes "u") (bare_member (Integer (pos urgency))) }
     {
-        if self.urgency.is_some() {
-            return None;
-        }
-        Some(PlainPriority {
+        self.changed(Asked {
             urgency: Some(urgency),
-            incremental: self.incremental,
-            is_reversed: self.incremental.is_some(),
+            incremental: None,
         })
     }
 
-    /// The members and `i`.
+    /// The members after `i`.
     #[inline]
-    fn with_incremental(self, incremental: bool) -> Option<PlainPriority>
-        ensures { IfSome result (λ p. plain_members p
-            ≡ plain_members self ++ incremental_member (Some incremental)) }
+    fn with_incremental(self, incremental: bool) -> PlainPriority
+        ensures { plain_members result
+            ≡ put (plain_members self) (codes "i") (bare_member (Boolean incremental)) }
     {
-        if self.incremental.is_some() {
-            return None;
-        }
-        Some(PlainPriority {
-            urgency: self.urgency,
+        self.changed(Asked {
+            urgency: None,
             incremental: Some(incremental),
-            is_reversed: false,
         })
     }
 
     /// The members with what is set put at its key. A member that is new goes last, so `i` is
     /// before `u` if it was there without `u`.
+    #[inline]
     pub(crate) fn changed(self, asked: Asked) -> PlainPriority
         ensures { dict_of_plain result ≡ updated asked (dict_of_plain self) }
     {

@@ -2,11 +2,12 @@
 ghost use Rattle.std.specs.Prelude.{◌≡◌, Some};
 ghost use Rattle.sf_value.specs.declared.dialect.Dialect.TheVariants.{Rfc9651};
 ghost use Rattle.sf_c.specs.Calls.{ChecksDialect, dialect_at};
-ghost use Rattle.sf_c.specs.Priorities.{AsksFor, SaysAsked, params_of_flags, flag_at, urgency_at};
+ghost use Rattle.sf_c.specs.Priorities.{AsksFor, SaysAsked, params_of_flags, urgency_at};
 ghost use Rattle.sf_c.specs.Priorities.{has_unset_value as is_unset};
 ghost use Rattle.sf_c.specs.Statuses.{status_at};
 
-use crate::call::{Scan, dialect_of, parse_dict};
+use crate::call::{dialect_of, parse_dict};
+use crate::flag::flag_of;
 use crate::refusal::SyntaxRefusal;
 use crate::seed::Seed;
 use crate::status::Status;
@@ -119,16 +120,6 @@ pub(crate) fn urgency_of(has_urgency: u8, urgency: u8) -> Option<Urgency>
     Urgency::new(urgency).ok()
 }
 
-/// The flag, if it is set.
-pub(crate) fn flag_of(has_flag: u8, flag: u8) -> Option<bool>
-    ensures { result ≡ flag_at has_flag flag }
-{
-    if has_flag == 0 {
-        return None;
-    }
-    Some(flag != 0)
-}
-
 /// Reads the parameters of a text.
 fn read_params(
     alloc: Global,
@@ -164,7 +155,7 @@ fn params_by_tree(
     ensures { AsksFor (record { priority = priority.old; refusal = refusal.old })
         (record { priority = priority.new; refusal = refusal.new }) text.now dialect result }
 {
-    match parse_dict(alloc, seed, Scan::Declined, dialect, text, refusal) {
+    match parse_dict(alloc, seed, dialect, text, refusal) {
         Ok(dict) => {
             *priority = PriorityFlags::of(Priority::from_dict(&dict));
             Status::Answered

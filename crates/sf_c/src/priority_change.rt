@@ -10,11 +10,12 @@ ghost use Rattle.sf_c.specs.PriorityChanges.{ChangesBy, ChangesPriority};
 ghost use Rattle.sf_c.specs.Statuses.{status_at};
 
 use crate::buffer::put_text;
-use crate::call::{Scan, parse_dict};
+use crate::call::parse_dict;
 use crate::filling::put_parts;
 use crate::plain_priority::PlainPriority;
 use crate::priority::PriorityFlags;
 use crate::priority_parts::ChangedPriority;
+use crate::priority_text::write;
 use crate::refusal::SyntaxRefusal;
 use crate::seed::Seed;
 use crate::status::Status;
@@ -27,6 +28,10 @@ use std::hash::RandomState;
 
 /// The most nodes that are kept on the stack: most Priority fields have two.
 const FEW_NODES: usize = 16;
+
+/// A text of at most so many bytes needs at most half as many nodes, since each node but one has two
+/// bytes or more. Fewer nodes take less time to clear.
+const SHORT_TEXT: usize = 16;
 
 /// The canonical text of a Priority field (RFC 9218 section 4), read by RFC 9651, with what the
 /// struct sets put into it: the members `u` and `i` are overwritten in place, or go last if the
@@ -93,6 +98,10 @@ fn change(
         (record { buffer = buffer.new; required = required.new; refusal = refusal.new })
         text.now priority.now (Some result) }
 {
+    // Many requests have no field.
+    if text.is_empty() {
+        return write(priority.asked(), buffer, required);
+    }
     match PlainPriority::scan(text) {
         Some(plain) => return plain.changed(priority.asked()).put(buffer, required),
         None => return change_nodes(alloc, seed, text, priority, buffer, required, refusal),
@@ -116,8 +125,36 @@ fn change_nodes(
         (record { buffer = buffer.new; required = required.new; refusal = refusal.new })
         text.now priority.now (Some result) }
 {
+    if text.len() <= SHORT_TEXT {
+        let mut nodes = [Node::NONE; SHORT_TEXT / 2];
+        return change_scanned(
+            alloc, seed, text, priority, &mut nodes, buffer, required, refusal,
+        );
+    }
     let mut nodes = [Node::NONE; FEW_NODES];
-    match View::scan(Dialect::Rfc9651, Kind::Dict, text, &mut nodes) {
+    change_scanned(
+        alloc, seed, text, priority, &mut nodes, buffer, required, refusal,
+    )
+}
+
+/// As [`change_nodes`], by a scan into these nodes.
+#[inline(always)]
+fn change_scanned(
+    alloc: Global,
+    seed: &Seed,
+    text: &[u8],
+    priority: &PriorityFlags,
+    nodes: &mut [Node],
+    buffer: &mut [u8],
+    required: &mut usize,
+    refusal: &mut SyntaxRefusal,
+) -> Status
+    ensures { ChangesBy
+        (record { buffer = buffer.old; required = required.old; refusal = refusal.old })
+        (record { buffer = buffer.new; required = required.new; refusal = refusal.new })
+        text.now priority.now (Some result) }
+{
+    match View::scan(Dialect::Rfc9651, Kind::Dict, text, nodes) {
         Ok(view) => {
             let asked = priority.asked();
             let parts = ChangedPriority {
@@ -148,7 +185,7 @@ fn change_tree(
         (record { buffer = buffer.new; required = required.new; refusal = refusal.new })
         text.now priority.now (Some result) }
 {
-    let dict = match parse_dict(alloc, seed, Scan::Declined, Dialect::Rfc9651, text, refusal) {
+    let dict = match parse_dict(alloc, seed, Dialect::Rfc9651, text, refusal) {
         Ok(dict) => dict,
         Err(status) => return status,
     };

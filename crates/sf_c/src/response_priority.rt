@@ -5,8 +5,9 @@ ghost use Rattle.sf_c.specs.ResponsePriorities.{AnswersPriority, SaysResponse, W
 ghost use Rattle.sf_c.specs.ResponsePriorities.{has_unset_value as is_unset, response_of_flags};
 ghost use Rattle.sf_c.specs.Statuses.{status_at};
 
-use crate::call::{Scan, dialect_of, parse_dict};
-use crate::priority::{flag_of, urgency_of};
+use crate::call::{dialect_of, parse_dict};
+use crate::flag::flag_of;
+use crate::priority::urgency_of;
 use crate::priority_text::write;
 use crate::refusal::SyntaxRefusal;
 use crate::seed::Seed;
@@ -170,7 +171,7 @@ fn response_by_tree(
     ensures { AnswersPriority (record { priority = priority.old; refusal = refusal.old })
         (record { priority = priority.new; refusal = refusal.new }) text.now dialect result }
 {
-    match parse_dict(alloc, seed, Scan::Declined, dialect, text, refusal) {
+    match parse_dict(alloc, seed, dialect, text, refusal) {
         Ok(dict) => {
             *priority = ResponsePriorityFlags::of(ResponsePriority::from_dict(&dict));
             Status::Answered

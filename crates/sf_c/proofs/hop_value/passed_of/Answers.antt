@@ -9,4 +9,4 @@ returns-in_err-why_of c =
     rw (p.1, p.2)
     (no_passed c.args.bytes.now c.args.hop.now c.in_ok-status.status c.flag_of-stored.result
     c.flag_of-collapsed.result c.in_err-why_of.field-0.0 c.in_ok-status.ensures.gives
-    c.flag_of-stored.ensures c.flag_of-collapsed.ensures c.in_err-why_of.ensures)
+    c.flag_of-stored.ensures.gives c.flag_of-collapsed.ensures.gives c.in_err-why_of.ensures)

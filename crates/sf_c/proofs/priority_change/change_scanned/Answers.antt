@@ -1,7 +1,7 @@
 use Rattle.std.proofs.Common.{refl}
 use Rattle.sf_c.specs.Normal.{TextOutput}
 use Rattle.sf_c.proofs.ChangedMembers.{puts_change, viewed_dict}
-use Rattle.sf_c.proofs.priority_change.change_nodes.Goals as goal
+use Rattle.sf_c.proofs.priority_change.change_scanned.Goals as goal
 
 pub put_parts-requires : goal.put_parts-requires
 put_parts-requires c =
