@@ -12,7 +12,7 @@
  *   Values that are built     sf_build, sf_put_string and the like, sf_put_copy, sf_write_built
  *   Priority                  sf_read_priority, sf_merge_priority, sf_write_priority
  *   Cache-Status              sf_read_hops, sf_write_hop_in, sf_append_or_write_hop
- *   Heads of messages         sf_head_in_memory, sf_take_head, sf_find_field, sf_locate_in_head
+ *   Heads of messages         sf_head_in_memory, sf_take_request, sf_take_response, sf_find_field
  *   The fields of a head      sf_find_priority, sf_find_hops, sf_add_hop, sf_show_fault_in
  *   What a cache decides      sf_decide_response; its parts, such as sf_choose_rules
  *
@@ -122,7 +122,8 @@ enum {
 typedef enum sf_status {
   SF_OK = 0,             /* success */
   SF_REFUSED = 1,        /* the text is malformed: sf_refusal says where and why; of Cache-Control,
-                            a line is no list of directives */
+                            a line is no list of directives; of a head, a line is no field line, or
+                            the head did not end */
   SF_SECOND_REFUSED = 2, /* of two texts, the first is well-formed and the second is malformed */
   SF_SHORT = 3,          /* a buffer is too small */
   SF_NO_MEMORY = 4,      /* malloc or realloc failed */
@@ -555,6 +556,30 @@ typedef struct sf_tree {
 
 /* Returns an empty tree with these buffers, which must be valid as long as the tree is used. */
 static inline sf_tree sf_tree_in(sf_nodes nodes, sf_buffer bytes);
+
+/* Returns the size in bytes of the memory that sf_tree_in_memory requires for the value of any text
+ * of this length: at most 28 times the length, and 40; but SIZE_MAX if that is too large for a
+ * size_t. */
+static inline size_t sf_tree_memory_size(size_t text_length);
+
+/*
+ * Returns an empty tree whose buffers are parts of the caller's memory, which is aligned as that of
+ * malloc, and must be valid as long as the tree is used. It begins at tree.nodes.at, so it is freed
+ * by one call:
+ *
+ *   sf_text text = sf_cstr("a=1, b=\"\\\"\"");
+ *   size_t size = sf_tree_memory_size(text.length);
+ *   sf_tree tree = sf_tree_in_memory(malloc(size), size, text.length);
+ *   if (sf_read_tree(&context, SF_DICT, text, &tree) != SF_OK)
+ *     return EXIT_FAILURE;
+ *   printf("%d nodes\n", (int)tree.nodes.length); // 2 nodes
+ *   free(tree.nodes.at);
+ *
+ * The memory is enough for the value of each text of at most this length. If memory is NULL or not
+ * aligned, or size is less than sf_tree_memory_size(text_length), the buffers are empty: a value
+ * with a node is SF_TOO_MANY.
+ */
+static inline sf_tree sf_tree_in_memory(void *memory, size_t size, size_t text_length);
 
 /*
  * Parses a text (RFC 9651 section 4.2) into a tree, by sf_parse:
@@ -1042,6 +1067,15 @@ typedef struct sf_hop_list {
 /* Returns an empty list with these buffers, which must be valid as long as the list is used. */
 static inline sf_hop_list sf_hop_list_in(sf_hops hops, sf_buffer bytes);
 
+/* Returns the size in bytes of the memory that sf_hop_list_in_memory requires for the path of any
+ * text of this length: at most 72 times the length, and 90; but SIZE_MAX likewise. */
+static inline size_t sf_hops_memory_size(size_t text_length);
+
+/* Returns an empty list whose buffers are parts of the caller's memory, likewise: see
+ * sf_tree_in_memory. It begins at list.hops.at. If it is too small, a path with a hop is
+ * SF_SHORT. */
+static inline sf_hop_list sf_hop_list_in_memory(void *memory, size_t size, size_t text_length);
+
 /*
  * Reads the Cache-Status field of a response (RFC 9211 section 2), by sf_cache_status_in: a hop for
  * each member, with the parameters that the RFC defines. sf_read_tree has the others, too:
@@ -1216,24 +1250,35 @@ typedef enum sf_reason {
   SF_FAULT_NOT_A_LINE = 95, /* the line is no field line: location.refusal says where and why; see
                                sf_add_head_line */
   SF_FAULT_NO_END = 96,     /* the head does not end with an empty line: see sf_take_head */
-  SF_FAULT_NOT_A_START = 97 /* the first line is neither a start line nor a field line: the refusal
-                               is that of SF_FAULT_NOT_A_LINE */
+  SF_FAULT_NOT_A_START = 97, /* the first line is neither a start line nor a field line; the
+                                message of sf_show_fault says why it is neither */
+  SF_FAULT_NOT_A_CACHE = 98, /* a member of Cache-Status does not name a cache: location.refusal is
+                                that of sf_read_hops */
+  SF_FAULT_NO_REQUEST_LINE = 101, /* there is no request line, but one was expected: see
+                                     sf_take_request */
+  SF_FAULT_NO_STATUS_LINE = 102   /* the same for a status line: see sf_take_response */
 } sf_reason;
 
 /* A line or a field of a head that is malformed. */
 typedef struct sf_fault {
-  const char *field;    /* the name by which the field was looked up; "" for SF_FAULT_NOT_A_LINE,
-                           SF_FAULT_NOT_A_START and SF_FAULT_NO_END */
+  const char *field;    /* the name by which the field was looked up; "" if the fault is about no
+                           field, as those of lines, of the start line and of the end */
   uint32_t reason;      /* an sf_reason */
   sf_location location; /* the line as it was received, and the place in it. For the reasons of
                            Expires and Date, that is where the value begins; for that of Age, the
                            first byte of the first member that is no digit or, if the member is
-                           empty, its end; of these three the refusal says no more. For
-                           SF_FAULT_NO_END the line is empty */
+                           empty, its end. For SF_FAULT_NOT_A_START, it is that of the first CR, LF
+                           or NUL; otherwise, if the line begins with HTTP/, where it can't go on as
+                           a status line; otherwise where it can't go on as a field line. For a
+                           missing start line, it is the beginning of the first line that is not
+                           empty. For SF_FAULT_NO_END, and if there is no such line, the line is
+                           empty, and its number that of the line to be added next. For all of
+                           these, the refusal says only where, not why */
 } sf_fault;
 
 /* A buffer for faults. A head has at most one for each line that is no field line, two for each of
- * Expires and Date, one for each other name that is looked up, and one for a missing end. */
+ * Expires and Date, one for each other name that is looked up, one for a missing start line, and
+ * one for a missing end. */
 typedef struct sf_faults {
   sf_fault *at;
   size_t capacity;
@@ -1249,14 +1294,20 @@ static inline sf_faults sf_faults_of(sf_fault *at, size_t capacity);
 typedef struct sf_head {
   sf_head_lines lines;    /* the first lines.length are those that were added */
   sf_buffer joined;       /* the fields of several lines that were looked up, joined */
+  sf_text start;          /* the start line as it was received, without its CR and LF; empty if
+                             there is none */
+  sf_text method;         /* of a request line, case-sensitive (RFC 9110 section 9.1); otherwise
+                             empty */
   uint64_t number;        /* of the line that is added next; 1 at first: set it if the caller's file
                              or stream has another */
   uint32_t status;        /* the status code, if the start line is a status line; otherwise 0 */
   uint32_t is_request;    /* 1 if the start line is a request line, otherwise 0 */
   uint32_t is_begun;      /* 1 after a line that is not empty, otherwise 0 */
-  uint32_t is_incomplete; /* 1 if a line was refused, otherwise 0. It may have had a directive, so
-                             sf_decide_response does not permit to store the response */
-  uint32_t is_truncated;  /* 1 from SF_EMPTY of sf_take_head until SF_OK, otherwise 0; likewise */
+  uint32_t is_incomplete; /* 1 if a line was refused, or the start line that sf_take_request or
+                             sf_take_response expects is missing; otherwise 0. The line may have had
+                             a directive, so sf_decide_response does not permit to store the
+                             response */
+  uint32_t is_truncated;  /* 1 from SF_REFUSED of sf_take_head until SF_OK, otherwise 0; likewise */
   sf_faults faults;       /* what was found to be malformed, if there is a buffer for it: that of
                              sf_head_in_memory, or head.faults = SF_FAULTS(array); */
 } sf_head;
@@ -1268,7 +1319,7 @@ static inline sf_head sf_head_in(sf_head_lines lines, sf_buffer joined);
 
 /*
  * Returns the size in bytes of the memory that sf_head_in_memory requires for the head that this
- * text begins with: at most 70 times the length of that head, and 150. What comes after the empty
+ * text begins with: at most 70 times the length of that head, and 230. What comes after the empty
  * line that ends the head does not count.
  */
 static inline size_t sf_head_memory_size(sf_text received);
@@ -1281,9 +1332,9 @@ static inline size_t sf_head_memory_size(sf_text received);
  *   sf_text rest = sf_cstr("GET / HTTP/1.1\r\nPriority: u=5\r\nPriority: i\r\n\r\n");
  *   size_t size = sf_head_memory_size(rest);
  *   sf_head head = sf_head_in_memory(malloc(size), size, rest);
- *   if (sf_take_head(&head, &rest) != SF_OK)
+ *   if (sf_take_request(&head, &rest) != SF_OK)
  *     return EXIT_FAILURE;
- *   printf("%d lines\n", (int)head.lines.length); // 2 lines
+ *   printf("%.*s: %d lines\n", SF_ARGS(head.method), (int)head.lines.length); // GET: 2 lines
  *   free(head.lines.at);
  *
  * The memory is enough for the lines that sf_take_head takes from this text, up to the end of one
@@ -1313,15 +1364,16 @@ static inline sf_text sf_take_line(sf_text *rest);
  * not copied: it must be valid as long as the head is used.
  *
  *   SF_OK       the line is added; or it is the first one, and a status line or a request line
- *               (sections 3 and 4), which sets head->status or head->is_request
+ *               (sections 3 and 4), which sets head->start, and head->status, or head->is_request
+ *               and head->method
  *   SF_EMPTY    it is empty: the head ends, unless it has not begun
  *   SF_REFUSED  it is no field line nor, as the first one, a start line: it has no colon, or before
- *               it no name (RFC 9110 section 5.1); it has a CR, LF or NUL within (section 5.5); it
- *               begins with white space, as one does that continues the line before (RFC 9112
- *               section 5.2); or, in a request, there is white space before the colon (section
- *               5.1), which is skipped otherwise. A cache that skips such a line may miss a
- *               directive: head->is_incomplete is 1, and head->faults has the line, and where and
- *               why. No context->refusal is written
+ *               it no name (RFC 9110 section 5.1); it has a CR, LF or NUL within (section 5.5, and
+ *               RFC 9112 section 2.2); it begins with white space, as one does that continues the
+ *               line before (RFC 9112 section 5.2); or, in a request, there is white space before
+ *               the colon (section 5.1), which is skipped otherwise. A cache that skips such a line
+ *               may miss a directive: head->is_incomplete is 1, and head->faults has the line, and
+ *               where and why. No context->refusal is written
  *   SF_SHORT    head->lines.required lines are required
  *
  * Unless SF_SHORT is returned, the line counts: head->number is one greater.
@@ -1333,15 +1385,41 @@ static inline sf_status sf_add_head_line(sf_head *head, sf_text line);
  * Adds the lines of a head by sf_add_head_line, up to the empty line that ends it, and takes them
  * off the text. A line that is no field line is in head->faults. Empty lines before the first other
  * one are skipped (RFC 9112 section 2.2). A missing start line is no fault: head->status and
- * head->is_request stay 0.
+ * head->is_request stay 0, and head->start is empty.
  *
- *   SF_OK     the head has ended: *rest is what comes after it
- *   SF_EMPTY  the text ended before the head did. Lines may be missing: head->is_truncated is 1,
- *             and head->faults tells
- *   SF_SHORT  head->lines.required lines are required; *rest begins with the line that is too many
+ *   SF_OK       the head has ended: *rest is what comes after it
+ *   SF_REFUSED  the text ended before the head did. Lines may be missing: head->is_truncated is 1,
+ *               and head->faults tells. No context->refusal is written
+ *   SF_SHORT    head->lines.required lines are required; *rest begins with the line that is too
+ *               many
  */
 SF_USE_RESULT
 static inline sf_status sf_take_head(sf_head *head, sf_text *rest);
+
+/*
+ * Take the head of a request and of a response, likewise. Its first line that is not empty has to
+ * be a request line or a status line, respectively (RFC 9112 section 2.1). If it is a start line of
+ * the other kind or a field line, or if there is no line, that is a fault, and head->is_incomplete
+ * is 1. The results are those of sf_take_head, so SF_OK also for such a head.
+ *
+ *   sf_head_line head_lines[8];
+ *   sf_fault faults[4];
+ *   char message[SF_FAULT_SIZE(0, 40)];
+ *   sf_buffer out = SF_BUFFER(message);
+ *   sf_text rest = sf_cstr("Age: 20\r\n\r\n");
+ *   sf_head head = sf_head_in(SF_HEAD_LINES(head_lines), sf_buffer_of(NULL, 0));
+ *   head.faults = SF_FAULTS(faults);
+ *   if (sf_take_response(&head, &rest) == SF_OK && head.faults.length == 1 &&
+ *       sf_show_fault(&faults[0], 40, &out) == SF_OK)
+ *     printf("%.*s\n", SF_ARGS(out));
+ *     // line 1, place 0: the head of a response begins with a status line
+ *     // Age: 20
+ *     // ^
+ */
+SF_USE_RESULT
+static inline sf_status sf_take_request(sf_head *head, sf_text *rest);
+SF_USE_RESULT
+static inline sf_status sf_take_response(sf_head *head, sf_text *rest);
 
 /*
  * Adds a field line by its name and its value, of which white space around it is no part. They are
@@ -1416,7 +1494,7 @@ static inline sf_location sf_locate_in_head(const sf_refusal *refusal, const sf_
  *   head.faults = SF_FAULTS(faults);
  *   sf_text rest = sf_cstr("GET / HTTP/1.1\r\nPriority: u=5\r\npriority: i=?2\r\n\r\n");
  *   sf_priority_flags client;
- *   if (sf_take_head(&head, &rest) != SF_OK ||
+ *   if (sf_take_request(&head, &rest) != SF_OK ||
  *       sf_find_priority(&context, &head, &client) != SF_OK)
  *     return EXIT_FAILURE;
  *   for (size_t i = 0; i < head.faults.length; ++i)
@@ -1445,7 +1523,7 @@ static inline sf_status sf_find_response_priority(sf_context *context, sf_head *
 
 /*
  * Reads the Cache-Status field of a response, as sf_read_hops does. A member that names no cache is
- * a fault, too.
+ * a fault, too, SF_FAULT_NOT_A_CACHE. For sf_hop_list_in_memory, the length of the head is enough.
  *
  *   SF_OK     the list is the path, without hops if the field is absent or malformed
  *   SF_SHORT  head->joined.required bytes are required for the lines, or, if that is 0, the list
@@ -1459,7 +1537,8 @@ SF_USE_RESULT
 static inline sf_status sf_find_hops(sf_context *context, sf_head *head, sf_hop_list *list);
 
 /*
- * Reads a field of a kind into a tree, as sf_read_tree does.
+ * Reads a field of a kind into a tree, as sf_read_tree does. For sf_tree_in_memory, the length of
+ * the head is enough.
  *
  *   SF_OK     the tree is the value, without nodes if the field is absent or malformed
  *   SF_SHORT  head->joined.required bytes are required for the lines, or, if that is 0,
@@ -1520,9 +1599,10 @@ static inline void sf_note_refusal(sf_head *head, const char *name, const sf_ref
 /*
  * Writes the error message of a fault: the number of the line and the place in it, from 0; the name
  * of the field, if it is about one; what is wrong; and, as sf_show_excerpt does, at most so many
- * bytes of the line around the place. Bytes of the line that can't be printed are question marks. A
- * buffer of SF_FAULT_SIZE(strlen(fault->field), most) bytes is always large enough. The results are
- * those of sf_write_refusal.
+ * bytes of the line around the place. If there is no line to show, such as for SF_FAULT_NO_END, the
+ * message is one line. Bytes of the line that can't be printed are question marks. A buffer of
+ * SF_FAULT_SIZE(strlen(fault->field), most) bytes is always large enough. The results are those of
+ * sf_write_refusal.
  */
 SF_USE_RESULT
 static inline sf_status sf_show_fault(const sf_fault *fault, size_t most, sf_buffer *out);
@@ -1539,10 +1619,11 @@ static inline sf_status sf_show_fault(const sf_fault *fault, size_t most, sf_buf
  *   sf_fault faults[2];
  *   sf_head head = sf_head_in(SF_HEAD_LINES(head_lines), sf_buffer_of(NULL, 0));
  *   head.faults = SF_FAULTS(faults);
- *   if (sf_add_head_line(&head, sf_cstr("Age 20")) == SF_REFUSED &&
+ *   if (sf_add_head_line(&head, sf_cstr("HTTP/1.1 200")) == SF_OK &&
+ *       sf_add_head_line(&head, sf_cstr("Age 20")) == SF_REFUSED &&
  *       sf_show_fault_in("a.txt", &faults[0], 40, &out) == SF_OK)
  *     printf("%.*s\n", SF_ARGS(out));
- *     // a.txt, line 1, place 4: neither a start line nor a field line: no colon after the name
+ *     // a.txt, line 2, place 4: not a field line: no colon after the name
  *     // Age 20
  *     //     ^
  */
@@ -1631,8 +1712,15 @@ typedef struct sf_exchange {
                              requirements, otherwise 0: counts for 206, 304 and must-understand.
                              Most caches understand 200; with 0, fewer responses are stored */
   uint32_t is_authorized; /* 1 if the request had Authorization, otherwise 0: see sf_set_request */
-  uint32_t is_request_incomplete; /* 1 if it may have had Authorization, since a line of its head is
-                                     no field line, or the head did not end; otherwise 0 */
+  uint32_t is_request_incomplete; /* 1 if it may have had Authorization, since its head is
+                                     incomplete or did not end, or is that of a response; otherwise
+                                     0 */
+  uint32_t is_other_method;       /* 1 if the method of the request is neither GET nor HEAD, for
+                                     which caches mostly store no response (RFC 9110 section 9.2.3);
+                                     otherwise 0 */
+  uint32_t is_request_no_store;   /* 1 if the request had no-store (RFC 9111 section 5.2.1.5), or a
+                                     malformed Cache-Control, in which it may be lost; otherwise
+                                     0 */
   uint64_t requested;     /* when the request was sent */
   uint64_t received;      /* when the response was received */
   uint64_t now;           /* when the response would be used */
@@ -1642,9 +1730,10 @@ typedef struct sf_exchange {
  * be used now. Of its other members, which are 0, set what is known. */
 static inline sf_exchange sf_exchange_of(sf_cache cache, uint64_t now);
 
-/* Sets is_authorized and is_request_incomplete of an exchange by the head of the request. Returns
- * nothing. */
-static inline void sf_set_request(sf_exchange *exchange, const sf_head *request);
+/* Sets is_authorized, is_request_incomplete, is_other_method and is_request_no_store of an exchange
+ * by the head of the request. Without a request line, the method does not count. The first line of
+ * Cache-Control that is malformed is a fault of that head. Returns nothing. */
+static inline void sf_set_request(sf_exchange *exchange, sf_head *request);
 
 /* Why a response may not be stored (RFC 9111 section 3). */
 typedef enum sf_obstacle {
@@ -1660,8 +1749,13 @@ typedef enum sf_obstacle {
   SF_BARRED_NO_RESPONSE = 87, /* the head is that of a request (is_request) */
   SF_BARRED_MALFORMED = 88,   /* no target decides, and a line of Cache-Control is malformed, so
                                  that it counts as no-store */
-  SF_BARRED_REQUEST_HEAD = 89 /* the request may have had Authorization, as its head is incomplete,
-                                 the cache is shared, and no directive permits it (3.5) */
+  SF_BARRED_REQUEST_HEAD = 89, /* the request may have had Authorization, as its head is
+                                  incomplete, the cache is shared, and no directive permits it
+                                  (3.5) */
+  SF_BARRED_METHOD = 90,       /* the method of the request is neither GET nor HEAD (RFC 9110
+                                  section 9.2.3) */
+  SF_BARRED_REQUEST_NO_STORE = 103 /* the request has no-store (5.2.1.5), or a malformed
+                                      Cache-Control */
 } sf_obstacle;
 
 /* Returns an obstacle in words, such as "the status code forbids it"; "" for SF_NO_OBSTACLE and for
@@ -1727,10 +1821,15 @@ typedef struct sf_verdict {
  *   SF_NO_MEMORY
  *
  * Unless SF_OK is returned, *verdict is unchanged. What is malformed is in head->faults, too: of
- * Cache-Control the first such line, of Expires and Date the first if malformed, and the second.
- * The heuristics of section 4.2.2 are the caller's; so are the method, directives of the request
- * and Vary (sections 3, 4 and 4.1). The fields that it joins are not kept in head->joined. Does not
- * allocate.
+ * Cache-Control the first such line; of Expires the first if malformed, and the second; and so of
+ * Date, if there is Expires. These two are faults only if the lifetime by Expires counts: not
+ * beside a target that decides, a max-age, in a shared cache an s-maxage, or a directive that
+ * forbids storing or asks for validation.
+ *
+ * The method and no-store of the request count as sf_set_request sets them. The rest is the
+ * caller's: the heuristics of section 4.2.2, Vary and other directives of the request when the
+ * response is used (sections 4.1 and 5.2.1), and what extensions of Cache-Control ask for (section
+ * 5.2.3). The fields that it joins are not kept in head->joined. Does not allocate.
  */
 SF_USE_RESULT
 static inline sf_status sf_decide_response(sf_context *context, sf_head *head, sf_target *targets,
@@ -1743,8 +1842,8 @@ static inline sf_status sf_decide_response(sf_context *context, sf_head *head, s
 
 /*
  * Writes a verdict in words: the field, unless it is NULL; sf_reuse_name and, if fresh, seconds;
- * sf_cause_name, or "malformed" if is_refused is 1; and the obstacle, unless it is
- * SF_BARRED_DIRECTIVE or SF_BARRED_MALFORMED. Such as
+ * sf_cause_name, unless it is that of SF_BY_EXPIRES, or "malformed" if is_refused is 1; and the
+ * obstacle, unless it is SF_BARRED_DIRECTIVE or SF_BARRED_MALFORMED. Such as
  *
  *   CDN-Cache-Control: fresh for 600 s (max-age); not stored: the head is incomplete
  *

@@ -332,6 +332,21 @@ static inline void sf_hide_bytes(char *at, size_t length) {
       at[i] = '?';
 }
 
+/* Writes these texts, and leaves so many bytes after them free: for the functions below. */
+SF_USE_RESULT
+static inline sf_status sf_write_parts(const sf_text *parts, size_t parts_length, size_t more,
+                                      sf_buffer *out) {
+  size_t required = more, i;
+  char *to = out->at;
+  for (i = 0; i < parts_length; ++i)
+    required += parts[i].length;
+  if (required > out->capacity)
+    return sf_wrote(out, SF_SHORT, required);
+  for (i = 0; i < parts_length; ++i)
+    to = sf_put_text(to, parts[i]);
+  return sf_wrote(out, SF_OK, required);
+}
+
 /* Writes these texts, then the lines of sf_show_excerpt: at most so many bytes of a line around a
  * place, and a caret below it. For the functions below. */
 SF_USE_RESULT
@@ -339,26 +354,25 @@ static inline sf_status sf_show_excerpt_below(const sf_text *parts, size_t parts
                                              uint64_t place, sf_text line, size_t most,
                                              sf_buffer *out) {
   size_t at = place < line.length ? (size_t)place : line.length;
-  size_t from = at > most / 2 ? at - most / 2 : 0, length, required, i;
-  char *to = out->at, *excerpt;
+  size_t from = at > most / 2 ? at - most / 2 : 0, length, more;
+  char *to;
+  sf_status status;
   if (line.length - from < most)
     from = line.length > most ? line.length - most : 0;
   length = line.length - from < most ? line.length - from : most;
-  required = length + (at - from) + 3;
-  for (i = 0; i < parts_length; ++i)
-    required += parts[i].length;
-  if (required > out->capacity)
-    return sf_wrote(out, SF_SHORT, required);
-  for (i = 0; i < parts_length; ++i)
-    to = sf_put_text(to, parts[i]);
+  more = length + (at - from) + 3;
+  status = sf_write_parts(parts, parts_length, more, out);
+  if (status != SF_OK)
+    return status;
+  to = out->at + (out->length - more);
   *to++ = '\n';
-  excerpt = to;
-  to = sf_put_text(to, sf_text_of(length == 0 ? "" : line.at + from, length));
-  sf_hide_bytes(excerpt, length);
+  (void)sf_put_text(to, sf_text_of(length == 0 ? "" : line.at + from, length));
+  sf_hide_bytes(to, length);
+  to += length;
   *to++ = '\n';
   memset(to, ' ', at - from);
   to[at - from] = '^';
-  return sf_wrote(out, SF_OK, required);
+  return SF_OK;
 }
 
 static inline sf_status sf_show_excerpt(const sf_refusal *refusal, sf_text text, size_t most,
@@ -462,6 +476,44 @@ static inline sf_tree sf_tree_in(sf_nodes nodes, sf_buffer bytes) {
   tree.bytes.length = 0;
   tree.kind = 0;
   return tree;
+}
+
+/* Returns so many bytes, and a number of elements of a size; SIZE_MAX if that is more: for the
+ * functions below. */
+static inline size_t sf_add_size(size_t bytes, size_t count, size_t size) {
+  return count > (SIZE_MAX - bytes) / size ? SIZE_MAX : bytes + count * size;
+}
+
+/* Returns the bytes that are enough for the nodes or hops, each of so many bytes, of a text of this
+ * length, and for SF_BYTES_SIZE of it; never 0, so that a malloc that returns NULL failed. For the
+ * functions below. */
+static inline size_t sf_memory_for(size_t text_length, size_t size) {
+  size_t length = text_length > 0 ? text_length : 1;
+  return sf_add_size(sf_add_size(length % 5 * 8 / 5, length / 5, 8), SF_NODES_SIZE(length), size);
+}
+
+/* Returns memory that is aligned; otherwise NULL. For the functions below. */
+static inline void *sf_aligned(void *memory) {
+  return (uintptr_t)memory % sizeof(uint64_t) == 0 ? memory : NULL;
+}
+
+/* Returns whether there is memory, and of enough bytes: for the functions below. */
+static inline int sf_fits(const void *memory, size_t size, size_t enough) {
+  return memory != NULL && size >= enough && enough < SIZE_MAX;
+}
+
+static inline size_t sf_tree_memory_size(size_t text_length) {
+  return sf_memory_for(text_length, sizeof(sf_node));
+}
+
+static inline sf_tree sf_tree_in_memory(void *memory, size_t size, size_t text_length) {
+  sf_node *at = (sf_node *)sf_aligned(memory);
+  int fits = sf_fits(at, size, sf_tree_memory_size(text_length));
+  sf_nodes nodes = sf_nodes_of(at, fits ? SF_NODES_SIZE(text_length) : 0);
+  sf_buffer bytes = sf_buffer_of(NULL, 0);
+  if (fits)
+    bytes = sf_buffer_of(nodes.at + nodes.capacity, SF_BYTES_SIZE(text_length));
+  return sf_tree_in(nodes, bytes);
 }
 
 static inline sf_status sf_read_tree(sf_context *context, sf_kind kind, sf_text text,
@@ -961,6 +1013,20 @@ static inline sf_hop_list sf_hop_list_in(sf_hops hops, sf_buffer bytes) {
   return list;
 }
 
+static inline size_t sf_hops_memory_size(size_t text_length) {
+  return sf_memory_for(text_length, sizeof(sf_hop));
+}
+
+static inline sf_hop_list sf_hop_list_in_memory(void *memory, size_t size, size_t text_length) {
+  sf_hop *at = (sf_hop *)sf_aligned(memory);
+  int fits = sf_fits(at, size, sf_hops_memory_size(text_length));
+  sf_hops hops = sf_hops_of(at, fits ? SF_NODES_SIZE(text_length) : 0);
+  sf_buffer bytes = sf_buffer_of(NULL, 0);
+  if (fits)
+    bytes = sf_buffer_of(hops.at + hops.capacity, SF_BYTES_SIZE(text_length));
+  return sf_hop_list_in(hops, bytes);
+}
+
 /* Returns the refusal of a member of a well-formed List that is no Item of a String or a Token: for
  * the function below. */
 static inline sf_refusal sf_refusal_of_nameless(sf_text list, size_t index) {
@@ -1081,6 +1147,8 @@ static inline sf_head sf_head_in(sf_head_lines lines, sf_buffer joined) {
   head.lines.length = 0;
   head.joined = joined;
   head.joined.length = 0;
+  head.start = sf_text_of("", 0);
+  head.method = sf_text_of("", 0);
   head.number = 1;
   head.status = 0;
   head.is_request = 0;
@@ -1117,18 +1185,12 @@ static inline size_t sf_head_length(sf_text received, size_t *lines) {
   return length - rest.length;
 }
 
-/* Returns so many bytes, and a number of elements of a size; SIZE_MAX if that is more: for the
- * function below. */
-static inline size_t sf_add_size(size_t bytes, size_t count, size_t size) {
-  return count > (SIZE_MAX - bytes) / size ? SIZE_MAX : bytes + count * size;
-}
-
 /* Returns the bytes that are enough for a head of so many lines and bytes: for the functions below.
  * A line that is no field line has one fault, a field has at most as many as it has lines, and a
- * missing end is one more. All fields, joined, have fewer bytes than the head, and each of them has
- * when it is joined again while all are kept. */
+ * missing start line and a missing end are two more. All fields, joined, have fewer bytes than the
+ * head, and each of them has when it is joined again while all are kept. */
 static inline size_t sf_head_memory_of(size_t lines, size_t length) {
-  size_t bytes = sf_add_size(sizeof(sf_fault), lines, sizeof(sf_head_line) + sizeof(sf_fault));
+  size_t bytes = sf_add_size(2 * sizeof(sf_fault), lines, sizeof(sf_head_line) + sizeof(sf_fault));
   return sf_add_size(bytes, length, 2);
 }
 
@@ -1139,14 +1201,13 @@ static inline size_t sf_head_memory_size(sf_text received) {
 
 static inline sf_head sf_head_in_memory(void *memory, size_t size, sf_text received) {
   size_t lines, length = sf_head_length(received, &lines);
-  int is_aligned = (uintptr_t)memory % sizeof(uint64_t) == 0;
-  sf_head_line *at = is_aligned ? (sf_head_line *)memory : NULL;
-  int fits = at != NULL && size >= sf_head_memory_of(lines, length);
+  sf_head_line *at = (sf_head_line *)sf_aligned(memory);
+  int fits = sf_fits(at, size, sf_head_memory_of(lines, length));
   sf_fault *faults = fits ? (sf_fault *)(void *)(at + lines) : NULL;
   sf_head head = sf_head_in(sf_head_lines_of(at, fits ? lines : 0), sf_buffer_of(NULL, 0));
   if (fits) {
-    head.faults = sf_faults_of(faults, lines + 1);
-    head.joined = sf_buffer_of(faults + lines + 1, 2 * length);
+    head.faults = sf_faults_of(faults, lines + 2);
+    head.joined = sf_buffer_of(faults + lines + 2, 2 * length);
   }
   return head;
 }
@@ -1186,6 +1247,12 @@ static inline void sf_expect(sf_refusal *refusal, unsigned byte) {
   *half |= UINT64_C(1) << byte % 64;
 }
 
+/* Returns whether a byte is one that no line may have within (RFC 9112 section 2.2, RFC 9110
+ * section 5.5): for the functions below. */
+static inline int sf_is_break(char c) {
+  return c == '\r' || c == '\n' || c == 0;
+}
+
 /* Splits a line at its colon, or says where it is no field line (RFC 9112 section 5): the place,
  * and the bytes that may be there by the grammar. White space before the colon is skipped, but not
  * in a request (section 5.1); in a value only CR, LF and NUL are refused (RFC 9110 section 5.5).
@@ -1204,7 +1271,7 @@ static inline int sf_split_line(sf_text line, int is_request, sf_text *name, sf_
     *value = sf_text_of(line.at + at + 1, line.length - at - 1);
     do
       ++at;
-    while (at < line.length && line.at[at] != 0 && line.at[at] != '\r' && line.at[at] != '\n');
+    while (at < line.length && !sf_is_break(line.at[at]));
     if (at == line.length)
       return 1;
     for (byte = ' '; byte <= '~'; ++byte)
@@ -1251,16 +1318,39 @@ static inline uint32_t sf_code_of(sf_text line) {
   return code < 100 ? 0 : code;
 }
 
-/* Returns whether a line is a request line (RFC 9112 section 3): for the functions below. */
-static inline int sf_is_request_line(sf_text line) {
+/* Returns the length of the method of a request line (RFC 9112 section 3); 0 if the line is none:
+ * for the functions below. */
+static inline size_t sf_method_length(sf_text line) {
   size_t method = 0, version = line.length;
   while (method < line.length && sf_is_tchar(line.at[method]))
     ++method;
   while (version > 0 && line.at[version - 1] != ' ')
     --version;
-  return method > 0 && version > method + 2 && line.at[method] == ' ' && version < line.length &&
-         sf_version_length(sf_text_of(line.at + version, line.length - version)) ==
-             line.length - version;
+  return version > method + 2 && line.at[method] == ' ' && version < line.length &&
+                 sf_version_length(sf_text_of(line.at + version, line.length - version)) ==
+                     line.length - version
+             ? method
+             : 0;
+}
+
+/* Returns in words why a line is no start line (RFC 9112 sections 2.2, 3 and 4), and sets the
+ * place, unless it is that at which the line is no field line. For the functions below. */
+static inline const char *sf_start_fault(sf_text line, uint64_t *place) {
+  size_t version = sf_version_length(line), at = 0;
+  while (at < line.length && !sf_is_break(line.at[at]))
+    ++at;
+  if (at < line.length) {
+    *place = at;
+    return "a CR, LF or NUL in it";
+  }
+  if (version > 0) {
+    *place = version + (version < line.length && line.at[version] == ' ');
+    return "no status code of three digits";
+  }
+  if (line.length < 5 || memcmp(line.at, "HTTP/", 5) != 0)
+    return "no HTTP version at the end";
+  *place = 5;
+  return "no version";
 }
 
 /* Adds a fault to those of a head, in the order of the lines, unless it is one of them: for the
@@ -1288,14 +1378,29 @@ static inline void sf_note_fault(sf_head *head, const char *field, sf_reason rea
  * below. */
 static inline int sf_take_start_line(sf_head *head, sf_text line) {
   uint32_t status = sf_code_of(line);
-  int is_request = sf_is_request_line(line);
-  if (status == 0 && !is_request)
+  size_t method = sf_method_length(line), i;
+  for (i = 0; i < line.length; ++i)
+    if (sf_is_break(line.at[i]))
+      return 0;
+  if (status == 0 && method == 0)
     return 0;
+  head->start = line;
+  head->method = sf_text_of(line.at, method);
   head->status = status;
-  head->is_request = is_request != 0;
+  head->is_request = method > 0;
   head->is_begun = 1;
   ++head->number;
   return 1;
+}
+
+/* Sets the refusal of a location to a place and the byte there, without what is expected: for the
+ * functions below. */
+static inline void sf_refuse_at(sf_location *location, uint64_t place) {
+  memset(&location->refusal, 0, sizeof location->refusal);
+  location->refusal.offset = place;
+  location->refusal.found = place < location->line.length
+                                ? (int32_t)(unsigned char)location->line.at[place]
+                                : (int32_t)SF_ENDED;
 }
 
 static inline sf_status sf_add_head_line(sf_head *head, sf_text line) {
@@ -1314,19 +1419,46 @@ static inline sf_status sf_add_head_line(sf_head *head, sf_text line) {
   location.line = line;
   if (line.length == 0)
     return SF_EMPTY;
+  if (reason == SF_FAULT_NOT_A_START) {
+    uint64_t place = location.refusal.offset;
+    (void)sf_start_fault(line, &place);
+    sf_refuse_at(&location, place);
+  }
   head->is_begun = 1;
   head->is_incomplete = 1;
   sf_note_fault(head, "", reason, &location);
   return SF_REFUSED;
 }
 
-static inline sf_status sf_take_head(sf_head *head, sf_text *rest) {
+/* Adds a fault to those of a head that has no start line of the kind that the reason is about, if
+ * there is one and no line of the head is refused: for the function below. */
+static inline void sf_expect_start(sf_head *head, sf_reason reason) {
+  int has_start = head->start.length > 0, has_lines = head->lines.length > 0;
+  sf_location location;
+  if (head->is_incomplete || (reason == SF_FAULT_NO_REQUEST_LINE  ? head->is_request != 0
+                              : reason == SF_FAULT_NO_STATUS_LINE ? head->status != 0
+                                                                  : 1))
+    return;
+  location.index = 0;
+  location.number = (has_lines ? head->lines.at[0].number : head->number) - (uint64_t)has_start;
+  location.line = has_start || !has_lines ? head->start : head->lines.at[0].received;
+  sf_refuse_at(&location, 0);
+  head->is_incomplete = 1;
+  sf_note_fault(head, "", reason, &location);
+}
+
+/* Takes a head, as sf_take_head does, whose start line has to be of the kind that the reason is
+ * about, if there is one: for the functions below. */
+SF_USE_RESULT
+static inline sf_status sf_take_head_for(sf_head *head, sf_text *rest, sf_reason reason) {
   sf_location location;
   while (rest->length > 0) {
     sf_text before = *rest;
     int is_begun = head->is_begun != 0;
     sf_text line = sf_take_line(rest);
     sf_status status;
+    if (is_begun)
+      sf_expect_start(head, reason);
     if (line.length == 1 && *line.at == '\r')
       break; /* an empty line whose LF is missing */
     status = sf_add_head_line(head, line);
@@ -1339,13 +1471,26 @@ static inline sf_status sf_take_head(sf_head *head, sf_text *rest) {
       return status;
     }
   }
+  sf_expect_start(head, reason);
   head->is_truncated = 1;
-  memset(&location, 0, sizeof location);
   location.index = head->lines.length;
   location.number = head->number;
   location.line = sf_text_of("", 0);
+  sf_refuse_at(&location, 0);
   sf_note_fault(head, "", SF_FAULT_NO_END, &location);
-  return SF_EMPTY;
+  return SF_REFUSED;
+}
+
+static inline sf_status sf_take_head(sf_head *head, sf_text *rest) {
+  return sf_take_head_for(head, rest, SF_FAULT_NO_END);
+}
+
+static inline sf_status sf_take_request(sf_head *head, sf_text *rest) {
+  return sf_take_head_for(head, rest, SF_FAULT_NO_REQUEST_LINE);
+}
+
+static inline sf_status sf_take_response(sf_head *head, sf_text *rest) {
+  return sf_take_head_for(head, rest, SF_FAULT_NO_STATUS_LINE);
 }
 
 static inline int sf_is_named(const sf_head_line *line, const char *name) {
@@ -1423,9 +1568,15 @@ static inline sf_location sf_locate_in_head(const sf_refusal *refusal, const sf_
   return location;
 }
 
-static inline void sf_note_refusal(sf_head *head, const char *name, const sf_refusal *refusal) {
+/* Adds a refusal of a field to the faults of a head, for this reason: for the functions below. */
+static inline void sf_note_field(sf_head *head, const char *name, sf_reason reason,
+                                 const sf_refusal *refusal) {
   sf_location location = sf_locate_in_head(refusal, head, name);
-  sf_note_fault(head, name, SF_FAULT_REFUSED, &location);
+  sf_note_fault(head, name, reason, &location);
+}
+
+static inline void sf_note_refusal(sf_head *head, const char *name, const sf_refusal *refusal) {
+  sf_note_field(head, name, SF_FAULT_REFUSED, refusal);
 }
 
 /* Adds what is wrong with the value of a line of a head, with a refusal in it: for the functions
@@ -1441,9 +1592,8 @@ static inline void sf_note_value(sf_head *head, const char *name, sf_reason reas
   sf_note_fault(head, name, reason, &location);
 }
 
-/* Returns in words why a line is no field line: for the function below. */
-static inline const char *sf_line_fault(const sf_fault *fault) {
-  const sf_refusal *refusal = &fault->location.refusal;
+/* Returns in words why a line, the first or another, is no field line: for the function below. */
+static inline const char *sf_line_fault(const sf_refusal *refusal, int is_first) {
   int is_space = refusal->found == ' ' || refusal->found == '\t';
   if (refusal->may_end)
     return "a CR, LF or NUL in the value";
@@ -1451,12 +1601,11 @@ static inline const char *sf_line_fault(const sf_fault *fault) {
     return is_space ? "white space after the name" : "no colon after the name";
   if (!is_space)
     return "no name";
-  return fault->reason == SF_FAULT_NOT_A_START ? "it begins with white space"
-                                               : "it continues the line before";
+  return is_first ? "it begins with white space" : "it continues the line before";
 }
 
-/* Returns the words for a reason, which sf_line_fault ends for lines; NULL if a refusal has them:
- * for the function below. */
+/* Returns the words for a reason, which go on for lines; NULL if a refusal has them: for the
+ * function below. */
 static inline const char *sf_fault_words(uint32_t reason) {
   switch (reason) {
   case SF_FAULT_NOT_A_DATE:
@@ -1470,7 +1619,13 @@ static inline const char *sf_fault_words(uint32_t reason) {
   case SF_FAULT_NO_END:
     return "the head does not end with an empty line";
   case SF_FAULT_NOT_A_START:
-    return "neither a start line nor a field line: ";
+    return "neither a start line (";
+  case SF_FAULT_NOT_A_CACHE:
+    return "the member does not name a cache";
+  case SF_FAULT_NO_REQUEST_LINE:
+    return "the head of a request begins with a request line";
+  case SF_FAULT_NO_STATUS_LINE:
+    return "the head of a response begins with a status line";
   default:
     return NULL;
   }
@@ -1495,10 +1650,12 @@ static inline sf_status sf_show_fault_in(const char *file, const sf_fault *fault
                                         sf_buffer *out) {
   const sf_location *location = &fault->location;
   const char *words = sf_fault_words(fault->reason);
-  int is_line = fault->reason == SF_FAULT_NOT_A_LINE || fault->reason == SF_FAULT_NOT_A_START;
+  int is_of_head = fault->reason == SF_FAULT_NO_END || fault->reason == SF_FAULT_NO_REQUEST_LINE ||
+                   fault->reason == SF_FAULT_NO_STATUS_LINE;
   char message[SF_REFUSAL_SIZE], place[64], *end;
   sf_buffer refused = SF_BUFFER(message);
-  sf_text parts[7];
+  sf_text parts[10];
+  size_t count = 6;
   sf_status status;
   end = sf_put_number(place, "line ", location->number);
   end = sf_put_number(end, ", place ", location->refusal.offset);
@@ -1509,14 +1666,28 @@ static inline sf_status sf_show_fault_in(const char *file, const sf_fault *fault
   parts[3] = sf_cstr(fault->field);
   parts[4] = sf_text_of(": ", parts[3].length == 0 ? 0 : 2);
   parts[5] = sf_cstr(words);
-  parts[6] = sf_cstr(is_line ? sf_line_fault(fault) : "");
-  if (words == NULL) {
+  if (fault->reason == SF_FAULT_NOT_A_LINE) {
+    parts[count++] = sf_cstr(sf_line_fault(&location->refusal, 0));
+  } else if (fault->reason == SF_FAULT_NOT_A_START) {
+    uint64_t ignored = 0;
+    sf_refusal refusal;
+    sf_text name, value;
+    (void)sf_split_line(location->line, 0, &name, &value, &refusal);
+    parts[count++] = sf_cstr(sf_start_fault(location->line, &ignored));
+    parts[count++] = sf_cstr(") nor a field line (");
+    parts[count++] = sf_cstr(sf_line_fault(&refusal, 1));
+    parts[count++] = sf_cstr(")");
+  } else if (words == NULL) {
     status = sf_write_refusal(&location->refusal, &refused);
     if (status != SF_OK)
       return sf_wrote(out, status, 0);
     sf_leave_out_place(sf_written(&refused), &parts[5], &parts[6]);
+    ++count;
   }
-  status = sf_show_excerpt_below(parts, 7, location->refusal.offset, location->line, most, out);
+  status = is_of_head && location->line.length == 0
+               ? sf_write_parts(parts, count, 0, out)
+               : sf_show_excerpt_below(parts, count, location->refusal.offset, location->line, most,
+                                      out);
   if (status == SF_OK)
     sf_hide_bytes(out->at, parts[0].length);
   return status;
@@ -1532,7 +1703,8 @@ static inline sf_status sf_found(const sf_context *context, sf_head *head, const
                                  sf_status status) {
   if (status != SF_REFUSED && status != SF_NOT_A_CACHE)
     return status;
-  sf_note_refusal(head, name, &context->refusal);
+  sf_note_field(head, name, status == SF_REFUSED ? SF_FAULT_REFUSED : SF_FAULT_NOT_A_CACHE,
+                &context->refusal);
   return SF_OK;
 }
 
@@ -1636,11 +1808,6 @@ static inline sf_exchange sf_exchange_of(sf_cache cache, uint64_t now) {
   return exchange;
 }
 
-static inline void sf_set_request(sf_exchange *exchange, const sf_head *request) {
-  exchange->is_authorized = sf_has_field(request, "Authorization") != 0;
-  exchange->is_request_incomplete = request->is_incomplete || request->is_truncated;
-}
-
 static inline const char *sf_obstacle_name(uint32_t obstacle) {
   switch (obstacle) {
   case SF_BARRED_DIRECTIVE:
@@ -1659,6 +1826,10 @@ static inline const char *sf_obstacle_name(uint32_t obstacle) {
     return "Cache-Control is malformed";
   case SF_BARRED_REQUEST_HEAD:
     return "the request may have had Authorization, as its head is incomplete";
+  case SF_BARRED_METHOD:
+    return "the method of the request is neither GET nor HEAD";
+  case SF_BARRED_REQUEST_NO_STORE:
+    return "the request has no-store";
   default:
     return "";
   }
@@ -1671,6 +1842,10 @@ static inline uint32_t sf_obstacle_of(const sf_decision *decision, const sf_exch
   int is_for_one = exchange->cache == SF_SHARED_CACHE && !decision->allows_authorized;
   if (decision->reuse == SF_REUSE_NOT_STORED)
     return is_refused ? SF_BARRED_MALFORMED : SF_BARRED_DIRECTIVE;
+  if (exchange->is_other_method)
+    return SF_BARRED_METHOD;
+  if (exchange->is_request_no_store)
+    return SF_BARRED_REQUEST_NO_STORE;
   if (head->is_request)
     return SF_BARRED_NO_RESPONSE;
   if (head->is_incomplete || head->is_truncated)
@@ -1801,7 +1976,7 @@ static inline sf_refusal sf_refusal_of_directives(sf_text value) {
   return refusal;
 }
 
-/* Adds a line of Cache-Control, and notes it if it is the first that is refused. For the function
+/* Adds a line of Cache-Control, and notes it if it is the first that is refused. For the functions
  * below. */
 static inline void sf_add_directives(sf_head *head, size_t index, sf_fallback *fallback,
                                      size_t *refused_line) {
@@ -1815,34 +1990,62 @@ static inline void sf_add_directives(sf_head *head, size_t index, sf_fallback *f
   }
 }
 
-/* Adds a line of Expires or Date, after so many of it, and notes the first if it is no HTTP-date,
- * and the second. For the function below. */
-static inline void sf_add_date(sf_head *head, size_t index, size_t before, sf_fallback *fallback,
-                               sf_fallback_field field) {
-  int is_expires = field == SF_FALLBACK_EXPIRES;
-  sf_refusal refusal;
-  memset(&refusal, 0, sizeof refusal);
-  sf_add_fallback_line(fallback, field, head->lines.at[index].value);
-  if (before == 1 || (before == 0 && (is_expires ? fallback->expires : fallback->date).lines > 1))
-    sf_note_value(head, is_expires ? "Expires" : "Date",
-                  before == 0 ? SF_FAULT_NOT_A_DATE : SF_FAULT_REPEATED, index, &refusal);
-}
-
-/* Returns what Cache-Control, Expires and Date of a head say, and which line is the first that is
- * refused. For the function below. */
+/* Returns what Cache-Control, Expires and Date of a head say, and which line of Cache-Control is
+ * the first that is refused, which it notes. For the functions below. */
 static inline sf_fallback sf_fallback_of(sf_head *head, size_t *refused_line) {
   sf_fallback fallback = sf_fallback_begin();
-  size_t i, expires = 0, dates = 0;
+  size_t i;
   for (i = 0; i < head->lines.length; ++i) {
     const sf_head_line *line = &head->lines.at[i];
     if (sf_is_named(line, "Cache-Control"))
       sf_add_directives(head, i, &fallback, refused_line);
     else if (sf_is_named(line, "Expires"))
-      sf_add_date(head, i, expires++, &fallback, SF_FALLBACK_EXPIRES);
+      sf_add_fallback_line(&fallback, SF_FALLBACK_EXPIRES, line->value);
     else if (sf_is_named(line, "Date"))
-      sf_add_date(head, i, dates++, &fallback, SF_FALLBACK_DATE);
+      sf_add_fallback_line(&fallback, SF_FALLBACK_DATE, line->value);
   }
   return fallback;
+}
+
+static inline void sf_set_request(sf_exchange *exchange, sf_head *request) {
+  size_t refused_line;
+  sf_fallback fallback = sf_fallback_of(request, &refused_line);
+  sf_text method = request->method;
+  exchange->is_authorized = sf_has_field(request, "Authorization") != 0;
+  exchange->is_request_incomplete =
+      request->is_incomplete || request->is_truncated || request->status != 0;
+  exchange->is_other_method = method.length > 0 &&
+                              !(method.length == 3 && memcmp(method.at, "GET", 3) == 0) &&
+                              !(method.length == 4 && memcmp(method.at, "HEAD", 4) == 0);
+  exchange->is_request_no_store = fallback.rules.policy.no_store != 0;
+}
+
+/* Notes the first line of Expires or Date if it is no HTTP-date, and the second. For the function
+ * below. */
+static inline void sf_note_dates(sf_head *head, const char *name) {
+  sf_fallback fallback = sf_fallback_begin();
+  sf_refusal refusal;
+  size_t i, count = 0;
+  memset(&refusal, 0, sizeof refusal);
+  for (i = 0; i < head->lines.length && count < 2; ++i)
+    if (sf_is_named(&head->lines.at[i], name)) {
+      sf_add_fallback_line(&fallback, SF_FALLBACK_DATE, head->lines.at[i].value);
+      if (fallback.date.lines > 1)
+        sf_note_value(head, name, count == 0 ? SF_FAULT_NOT_A_DATE : SF_FAULT_REPEATED, i,
+                      &refusal);
+      ++count;
+    }
+}
+
+/* Returns whether the lifetime by Expires counts beside these directives: none forbids storing,
+ * asks for validation, or sets a lifetime, valid or not (RFC 9111 section 4.2.1). For the function
+ * below. */
+static inline int sf_is_by_expires(const sf_rules *rules, const sf_decision *decision,
+                                   uint32_t cache) {
+  int has_max_age = rules->policy.has_max_age || rules->invalid_max_age;
+  int has_s_maxage = rules->policy.has_s_maxage || rules->invalid_s_maxage;
+  return decision->reuse != SF_REUSE_NOT_STORED && decision->cause != SF_BY_NO_CACHE &&
+         !has_max_age && !(has_s_maxage && cache == SF_SHARED_CACHE);
 }
 
 /* Returns the number of the first line of Age of a head, whose first member counts; 0 without one,
@@ -1907,6 +2110,10 @@ static inline sf_status sf_decide_response(sf_context *context, sf_head *head, s
   status = (sf_status)sf_decide(&choice.rules, exchange->cache, &response, &decision);
   if (status != SF_OK)
     return status;
+  if (fallback.expires.lines > 0 && sf_is_by_expires(&choice.rules, &decision, exchange->cache)) {
+    sf_note_dates(head, "Expires");
+    sf_note_dates(head, "Date");
+  }
   verdict->obstacle = sf_obstacle_of(&decision, exchange, head, fallback.is_refused != 0,
                                      response.has_lifetime);
   verdict->may_store = verdict->obstacle == SF_NO_OBSTACLE;
@@ -1936,8 +2143,10 @@ static inline void sf_put_words(sf_buffer *out, const char *words) {
 
 static inline sf_status sf_write_verdict(const sf_verdict *verdict, sf_buffer *out) {
   char seconds[32], *end;
-  const char *cause =
-      verdict->is_refused ? "malformed" : sf_cause_name(verdict->decision.cause);
+  uint32_t by = verdict->decision.cause;
+  const char *cause = verdict->is_refused   ? "malformed"
+                      : by == SF_BY_EXPIRES ? "" /* the field says it */
+                                            : sf_cause_name(by);
   out->length = 0;
   if (verdict->field != NULL) {
     sf_put_words(out, verdict->field);

@@ -6,7 +6,7 @@
  * prints the priority of the response, the caches on its path, what this cache does with it, what
  * each signature of the request covers, and the Cache-Status to send on. Standard error shows what
  * is malformed in the two heads, each with the name of the file, the line and the place. Ends with
- * status 0, or 2 for other words, and 3 if memory, a file or the output fails. */
+ * status 0, or 2 for other words, and 3 if memory, a file or an output fails. */
 #include <sf.h>
 #include <stdio.h>
 #include <stdlib.h>
@@ -14,7 +14,7 @@
 
 enum { MOST = 65536 }; /* bytes of a file, and so of a field */
 
-static char written[SF_APPENDED_SIZE(MOST, 16)];
+static char bytes[SF_BYTES_SIZE(MOST)], written[SF_APPENDED_SIZE(MOST, 16)];
 static sf_buffer out = {written, sizeof written, 0, 0}; /* for each call that writes a text */
 
 static void give_up(const char *what, const char *why) {
@@ -28,25 +28,24 @@ static void must(sf_status status) {
     give_up("a call failed", sf_status_name(status));
 }
 
-/* Reads the head of a message from a file. The head keeps the text, and its lines are where its
- * memory begins. */
-static sf_head read_head(const char *name, char *text) {
+/* Reads the head of a message from a file, by sf_take_request or sf_take_response. The head keeps
+ * the text, and its lines are where its memory begins. */
+static sf_head read_head(const char *name, char *text, sf_status (*take)(sf_head *, sf_text *)) {
   FILE *file = fopen(name, "rb");
-  sf_text received = sf_text_of(text, file == NULL ? 0 : fread(text, 1, MOST, file));
-  if (file == NULL || ferror(file) || received.length == MOST)
+  sf_text received = sf_text_of(text, file == NULL ? 0 : fread(text, 1, MOST + 1, file));
+  if (file == NULL || ferror(file) || received.length > MOST)
     give_up(name, "it can't be read, or is too long");
   fclose(file);
   size_t size = sf_head_memory_size(received);
   sf_head head = sf_head_in_memory(malloc(size), size, received);
-  if (sf_take_head(&head, &received) == SF_SHORT)
+  if (take(&head, &received) == SF_SHORT || head.lines.at == NULL)
     give_up(name, "out of memory");
-  return head;
+  return head; /* what is malformed is one of its faults, also if it does not end */
 }
 
 /* Prints the caches that the response came through, that nearest the origin first (RFC 9211). */
 static void print_path(sf_context *context, sf_head *response) {
   static sf_hop hops[SF_NODES_SIZE(MOST)];
-  static char bytes[SF_BYTES_SIZE(MOST)];
   sf_hop_list path = sf_hop_list_in(SF_HOPS(hops), SF_BUFFER(bytes));
   must(sf_find_hops(context, response, &path));
   for (size_t i = 0; i < path.hops.length; ++i) {
@@ -60,7 +59,6 @@ static void print_path(sf_context *context, sf_head *response) {
 /* Prints what each signature covers, and its parameters (RFC 9421 section 4.1). */
 static void print_signatures(sf_context *context, sf_head *request) {
   static sf_node nodes[SF_NODES_SIZE(MOST)];
-  static char bytes[SF_BYTES_SIZE(MOST)];
   sf_tree tree = sf_tree_in(SF_NODES(nodes), SF_BUFFER(bytes));
   must(sf_find_tree(context, SF_DICT, request, "Signature-Input", &tree));
   for (const sf_node *label = nodes; label < sf_tree_end(&tree); label += label->size) {
@@ -96,7 +94,7 @@ static void print_faults(const char *name, const sf_faults *faults) {
 }
 
 int main(int count, char **words) {
-  static char texts[2][MOST];
+  static char texts[2][MOST + 1];
   sf_seed seed;
   if (count != 3) {
     fprintf(stderr, "usage: heads REQUEST RESPONSE\n");
@@ -105,8 +103,8 @@ int main(int count, char **words) {
   if (!sf_random_seed(&seed))
     give_up("no seed", "getrandom failed");
   sf_context context = sf_context_of(seed, SF_RFC8941); /* that the RFCs of these fields cite */
-  sf_head request = read_head(words[1], texts[0]);
-  sf_head response = read_head(words[2], texts[1]);
+  sf_head request = read_head(words[1], texts[0], sf_take_request);
+  sf_head response = read_head(words[2], texts[1], sf_take_response);
 
   /* What the client asks for, with what the server sets (RFC 9218 section 8). */
   sf_priority_flags client;
@@ -122,6 +120,7 @@ int main(int count, char **words) {
                          sf_target_of("CDN-Cache-Control")};
   sf_exchange exchange = sf_exchange_of(SF_SHARED_CACHE, (uint64_t)time(NULL));
   sf_verdict verdict;
+  exchange.is_understood = 1; /* this cache understands each final status code */
   sf_set_request(&exchange, &request);
   must(sf_decide_response(&context, &response, targets, 2, &exchange, &verdict));
   must(sf_write_verdict(&verdict, &out));
@@ -137,5 +136,5 @@ int main(int count, char **words) {
   print_faults(words[2], &response.faults);
   free(request.lines.at);
   free(response.lines.at);
-  return fflush(stdout) != 0 || ferror(stdout) ? 3 : 0;
+  return fflush(stdout) != 0 || ferror(stdout) || ferror(stderr) ? 3 : 0;
 }

@@ -826,12 +826,13 @@ static void head_in_memory(const uint8_t *text, size_t length) {
   sf_text rest = sf_text_of(text, length);
   size_t size = sf_head_memory_size(rest), joined = 0;
   void *memory = malloc(size);
-  CHECK(memory != NULL && size <= 70 * length + 150);
+  CHECK(memory != NULL && size <= 70 * length + 230);
   sf_head head = sf_head_in_memory(memory, size, rest);
-  CHECK(sf_take_head(&head, &rest) != SF_SHORT && head.faults.length == head.faults.required);
+  CHECK(sf_take_response(&head, &rest) != SF_SHORT && head.faults.length == head.faults.required);
   for (size_t i = 0; i < head.lines.length; ++i)
     joined += head.lines.at[i].value.length + 2;
-  CHECK(2 * joined <= head.joined.capacity && head.lines.length + 1 <= head.faults.capacity);
+  CHECK(2 * joined <= head.joined.capacity && head.lines.length + 2 <= head.faults.capacity);
+  CHECK(head.status != 0 || head.is_incomplete == 1);
   for (size_t i = 0; i < head.faults.length; ++i) {
     char message[SF_FAULT_IN_SIZE(1, 0, 20)];
     sf_buffer out = SF_BUFFER(message);

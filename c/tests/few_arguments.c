@@ -752,36 +752,47 @@ static void whole_heads(void) {
   static const struct {
     const char *line;
     uint32_t status, is_request; /* both are 0 if it is no start line */
+    const char *start, *method;
   } first[] = {
-      {"HTTP/1.1 200 OK", 200, 0},
-      {"HTTP/1.1 404", 404, 0},
-      {"HTTP/1.0 100 \r\n", 100, 0},
-      {"HTTP/2 999 ", 999, 0},
-      {"GET / HTTP/1.1", 0, 1},
-      {"GET http://a:80/ HTTP/1.1", 0, 1},
-      {"OPTIONS * HTTP/1.1\r\n", 0, 1},
-      {"GET /a b HTTP/3", 0, 1},
-      {"HTTP/1.1", 0, 0},
-      {"HTTP/1.1 ", 0, 0},
-      {"HTTP/1.1 20", 0, 0},
-      {"HTTP/1.1 2000 OK", 0, 0},
-      {"HTTP/1.1 2x0 OK", 0, 0},
-      {"HTTP/1.1 099 OK", 0, 0},
-      {"HTTP/1.1  200 OK", 0, 0},
-      {"HTTP/1.1x 200 OK", 0, 0},
-      {"HTTP/1. 200 OK", 0, 0},
-      {"HTTP/x.1 200 OK", 0, 0},
-      {"http/1.1 200 OK", 0, 0},
-      {"GET /", 0, 0},
-      {"GET /HTTP/1.1", 0, 0},
-      {"GET / HTTP/1.1 ", 0, 0},
-      {"GET / HTTP/1.1x", 0, 0},
-      {"GET  HTTP/1.1", 0, 0},
-      {"GET HTTP/1.1", 0, 0},
-      {"G\"T / HTTP/1.1", 0, 0},
-      {" / HTTP/1.1", 0, 0},
-      {"  HTTP/1.1", 0, 0},
-      {"ICY 200 OK", 0, 0},
+      {"HTTP/1.1 200 OK", 200, 0, "HTTP/1.1 200 OK", ""},
+      {"HTTP/1.1 404", 404, 0, "HTTP/1.1 404", ""},
+      {"HTTP/1.0 100 \r\n", 100, 0, "HTTP/1.0 100 ", ""},
+      {"HTTP/2 999 ", 999, 0, "HTTP/2 999 ", ""},
+      {"HTTP/1.1 200 \xe9\t\1", 200, 0, "HTTP/1.1 200 \xe9\t\1", ""},
+      {"GET / HTTP/1.1", 0, 1, "GET / HTTP/1.1", "GET"},
+      {"GET http://a:80/ HTTP/1.1\n", 0, 1, "GET http://a:80/ HTTP/1.1", "GET"},
+      {"OPTIONS * HTTP/1.1\r\n", 0, 1, "OPTIONS * HTTP/1.1", "OPTIONS"},
+      {"GET /a b HTTP/3", 0, 1, "GET /a b HTTP/3", "GET"},
+      {"m!~ \xe9 HTTP/1.1", 0, 1, "m!~ \xe9 HTTP/1.1", "m!~"},
+      {"HTTP/1.1", 0, 0, "", ""},
+      {"HTTP/1.1 ", 0, 0, "", ""},
+      {"HTTP/1.1 20", 0, 0, "", ""},
+      {"HTTP/1.1 2000 OK", 0, 0, "", ""},
+      {"HTTP/1.1 2x0 OK", 0, 0, "", ""},
+      {"HTTP/1.1 099 OK", 0, 0, "", ""},
+      {"HTTP/1.1  200 OK", 0, 0, "", ""},
+      {"HTTP/1.1x 200 OK", 0, 0, "", ""},
+      {"HTTP/1. 200 OK", 0, 0, "", ""},
+      {"HTTP/x.1 200 OK", 0, 0, "", ""},
+      {"http/1.1 200 OK", 0, 0, "", ""},
+      {"GET /", 0, 0, "", ""},
+      {"GET /HTTP/1.1", 0, 0, "", ""},
+      {"GET / HTTP/1.1 ", 0, 0, "", ""},
+      {"GET / HTTP/1.1x", 0, 0, "", ""},
+      {"GET  HTTP/1.1", 0, 0, "", ""},
+      {"GET HTTP/1.1", 0, 0, "", ""},
+      {"G\"T / HTTP/1.1", 0, 0, "", ""},
+      {" / HTTP/1.1", 0, 0, "", ""},
+      {"  HTTP/1.1", 0, 0, "", ""},
+      {"ICY 200 OK", 0, 0, "", ""},
+      /* "A recipient of such a bare CR MUST consider that element to be invalid" (RFC 9112 section
+       * 2.2) */
+      {"HTTP/1.1 200 OK\rCache-Control: no-store", 0, 0, "", ""},
+      {"HTTP/1.1 200 OK\nCache-Control: no-store", 0, 0, "", ""},
+      {"HTTP/1.1 200 \r\r\n", 0, 0, "", ""},
+      {"GET /\r HTTP/1.1", 0, 0, "", ""},
+      {"GET / \r\nHTTP/1.1", 0, 0, "", ""},
+      {"\rGET / HTTP/1.1", 0, 0, "", ""},
   };
   sf_head_line lines[3];
   sf_fault faults[2];
@@ -791,9 +802,11 @@ static void whole_heads(void) {
     CHECK(sf_add_head_line(&head, sf_cstr(first[i].line)) == (is_start ? SF_OK : SF_REFUSED));
     CHECK(head.status == first[i].status && head.is_request == first[i].is_request);
     CHECK(head.lines.length == 0 && head.is_incomplete == !is_start && head.number == 2);
+    CHECK(is(head.start, first[i].start) && is(head.method, first[i].method));
     /* only the first line is a start line */
     CHECK(sf_add_head_line(&head, sf_cstr(first[i].line)) == SF_REFUSED && head.is_incomplete == 1);
     CHECK(head.status == first[i].status && head.is_request == first[i].is_request);
+    CHECK(is(head.start, first[i].start) && is(head.method, first[i].method));
     for (int k = 0; k < 3; ++k) {
       static const char *const before[] = {"a: b", "a", "\r\n"};
       head = sf_head_in(SF_HEAD_LINES(lines), sf_buffer_of(NULL, 0));
@@ -801,7 +814,15 @@ static void whole_heads(void) {
       CHECK(sf_add_head_line(&head, sf_cstr(before[k])) == status);
       CHECK(sf_add_head_line(&head, sf_cstr(first[i].line)) ==
             (k == 2 && is_start ? SF_OK : SF_REFUSED));
+      CHECK(is(head.start, k == 2 ? first[i].start : ""));
     }
+  }
+  /* likewise with a NUL */
+  for (int k = 0; k < 2; ++k) {
+    sf_text line = k == 0 ? sf_text_of("HTTP/1.1 200 OK\0", 16) : sf_text_of("GET /\0 HTTP/1.1", 15);
+    sf_head head = sf_head_in(SF_HEAD_LINES(lines), sf_buffer_of(NULL, 0));
+    CHECK(sf_add_head_line(&head, line) == SF_REFUSED && head.status == 0 && head.is_request == 0);
+    CHECK(is(head.start, "") && is(head.method, "") && head.is_incomplete == 1 && head.is_begun == 1);
   }
 
   /* the places where lines are no field lines, and some of the bytes that are expected there */
@@ -855,8 +876,8 @@ static void whole_heads(void) {
     sf_text rest = sf_cstr("HTTP/1.1 200\r\na: b\r\n\r"), more = sf_cstr("\nrest");
     sf_head head = sf_head_in(SF_HEAD_LINES(lines), sf_buffer_of(NULL, 0));
     head.faults = SF_FAULTS(faults);
-    CHECK(sf_take_head(&head, &rest) == SF_EMPTY && head.is_truncated == 1 && rest.length == 0);
-    CHECK(says(&faults[0], 40, "line 3, place 0: the head does not end with an empty line\n\n^"));
+    CHECK(sf_take_head(&head, &rest) == SF_REFUSED && head.is_truncated == 1 && rest.length == 0);
+    CHECK(says(&faults[0], 40, "line 3, place 0: the head does not end with an empty line"));
     CHECK(sf_take_head(&head, &more) == SF_OK && head.is_truncated == 0 && is(more, "rest"));
   }
 
@@ -870,23 +891,23 @@ static void whole_heads(void) {
   CHECK(faults[0].reason == SF_FAULT_NOT_A_LINE && *faults[0].field == 0);
   CHECK(faults[0].location.number == 5 && is(faults[0].location.line, "Via"));
   CHECK(faults[1].location.number == 6 && is(faults[1].location.line, "\tx"));
-  CHECK(sf_take_head(&head, &rest) == SF_EMPTY && rest.length == 0 && head.lines.length == 3);
+  CHECK(sf_take_head(&head, &rest) == SF_REFUSED && rest.length == 0 && head.lines.length == 3);
   CHECK(head.is_truncated == 1 && head.faults.length == 2 && head.faults.required == 3);
   rest = sf_cstr("b: c\n\n");
   CHECK(sf_take_head(&head, &rest) == SF_SHORT && is(rest, "b: c\n\n"));
   CHECK(head.lines.required == 4 && head.number == 10);
   head = sf_head_in(SF_HEAD_LINES(lines), sf_buffer_of(NULL, 0));
   rest = sf_text_of(NULL, 0);
-  CHECK(sf_take_head(&head, &rest) == SF_EMPTY && rest.at == NULL && head.is_truncated == 1);
+  CHECK(sf_take_head(&head, &rest) == SF_REFUSED && rest.at == NULL && head.is_truncated == 1);
   rest = sf_cstr("\r\n");
-  CHECK(sf_take_head(&head, &rest) == SF_EMPTY && rest.length == 0);
+  CHECK(sf_take_head(&head, &rest) == SF_REFUSED && rest.length == 0);
   head = sf_head_in(SF_HEAD_LINES(lines), sf_buffer_of(NULL, 0));
   head.faults = SF_FAULTS(faults);
   rest = sf_cstr("HTTP/1.1 2x0\na: b\n");
-  CHECK(sf_take_head(&head, &rest) == SF_EMPTY && head.faults.length == 2);
-  CHECK(says(&faults[0], 40, "line 1, place 4: neither a start line nor a field line: no colon after "
-                             "the name\nHTTP/1.1 2x0\n    ^"));
-  CHECK(says(&faults[1], 40, "line 3, place 0: the head does not end with an empty line\n\n^"));
+  CHECK(sf_take_head(&head, &rest) == SF_REFUSED && head.faults.length == 2);
+  CHECK(says(&faults[0], 40, "line 1, place 9: neither a start line (no status code of three digits) "
+                             "nor a field line (no colon after the name)\nHTTP/1.1 2x0\n         ^"));
+  CHECK(says(&faults[1], 40, "line 3, place 0: the head does not end with an empty line"));
   head = sf_head_in(SF_HEAD_LINES(lines), sf_buffer_of(NULL, 0));
   rest = sf_cstr("a: b\n\r\nc");
   CHECK(sf_take_head(&head, &rest) == SF_OK && is(rest, "c") && head.is_truncated == 0);
@@ -904,6 +925,7 @@ static void whole_heads(void) {
       {"HTTP/1.1 103 Early\nCache-Control: max-age=1\n\n", 0, SF_BARRED_STATUS},
       {"HTTP/1.1 500 No\n\n", 200, SF_NO_OBSTACLE},
       {"HTTP/1.1 2x0 OK\n\n", 200, SF_BARRED_HEAD},
+      {"HTTP/1.1 200 OK\rCache-Control: no-store\n\n", 200, SF_BARRED_HEAD},
       {"GET / HTTP/1.1\nCache-Control: max-age=1\n\n", 200, SF_BARRED_NO_RESPONSE},
       {"GET / HTTP/1.1\nCache-Control: max-age=1\n", 200, SF_BARRED_NO_RESPONSE},
       {"GET / HTTP/1.1\nCache-Control: private\n\n", 200, SF_BARRED_DIRECTIVE},
@@ -921,51 +943,199 @@ static void whole_heads(void) {
     CHECK(verdict.obstacle == stored[i].obstacle);
   }
 
-  /* what the request may have had counts */
+  /* what the request has counts, and what it may have had */
+  enum { AUTHORIZED = 1, INCOMPLETE = 2, OTHER_METHOD = 4, NO_STORE = 8 };
   static const struct {
     const char *head;
-    uint32_t is_authorized, is_incomplete;
+    unsigned flags;
+    const char *fault; /* of Cache-Control */
   } requests[] = {
-      {"GET / HTTP/1.1\r\nAge: 1\r\n\r\n", 0, 0},
-      {"GET / HTTP/1.1\r\nauthorization: a\r\n\r\n", 1, 0},
-      {"GET / HTTP/1.1\r\nAuthorization : a\r\n\r\n", 0, 1},
-      {"GET / HTTP/1.1\r\nAge: 1\r\n", 0, 1},
-      {"GET / HTTP/1.1\r\nb\r\nAuthorization: a\r\n", 1, 1},
-      {"GET /\r\n\r\n", 0, 1},
+      {"GET / HTTP/1.1\r\nAge: 1\r\n\r\n", 0, NULL},
+      {"GET / HTTP/1.1\r\nauthorization: a\r\n\r\n", AUTHORIZED, NULL},
+      {"GET / HTTP/1.1\r\nAuthorization : a\r\n\r\n", INCOMPLETE, NULL},
+      {"GET / HTTP/1.1\r\nAge: 1\r\n", INCOMPLETE, NULL},
+      {"GET / HTTP/1.1\r\nb\r\nAuthorization: a\r\n", AUTHORIZED | INCOMPLETE, NULL},
+      {"GET /\r\n\r\n", INCOMPLETE, NULL},
+      {"HTTP/1.1 200 OK\r\n\r\n", INCOMPLETE, NULL},
+      {"Age: 1\r\n\r\n", 0, NULL}, /* a head without a start line, as of HTTP/2 */
+      /* "the request method is understood by the cache" (RFC 9111 section 3); most "only support
+       * GET and HEAD" (RFC 9110 section 9.2.3) */
+      {"HEAD / HTTP/1.1\n\n", 0, NULL},
+      {"POST / HTTP/1.1\n\n", OTHER_METHOD, NULL},
+      {"get / HTTP/1.1\n\n", OTHER_METHOD, NULL},
+      {"GETS / HTTP/1.1\n\n", OTHER_METHOD, NULL},
+      {"GE / HTTP/1.1\n\n", OTHER_METHOD, NULL},
+      {"GEM / HTTP/1.1\n\n", OTHER_METHOD, NULL},
+      {"HEAT / HTTP/1.1\n\n", OTHER_METHOD, NULL},
+      {"HEADS / HTTP/1.1\n\n", OTHER_METHOD, NULL},
+      {"PUT / HTTP/1.1\nAuthorization: a\nCache-Control: no-store\n",
+       OTHER_METHOD | AUTHORIZED | INCOMPLETE | NO_STORE, NULL},
+      /* "a cache MUST NOT store any part of either this request or any response to it" (RFC 9111
+       * section 5.2.1.5) */
+      {"GET / HTTP/1.1\ncache-control: max-age=0, No-Store\n\n", NO_STORE, NULL},
+      {"GET / HTTP/1.1\nCache-Control: no-cache\nCache-Control: no-store\n\n", NO_STORE, NULL},
+      {"GET / HTTP/1.1\nCache-Control: no-store, must-understand\n\n", NO_STORE, NULL},
+      {"GET / HTTP/1.1\nCache-Control: no-cache, x=\"no-store\"\n\n", 0, NULL},
+      {"GET / HTTP/1.1\nCache-Control:\nPragma: no-store\nExpires: x\nDate: x\n\n", 0, NULL},
+      {"GET / HTTP/1.1\nCDN-Cache-Control: no-store\n\n", 0, NULL},
+      {"GET / HTTP/1.1\nCache-Control: a\nCache-Control: b c\nCache-Control: d e\n\n", NO_STORE,
+       "line 3, place 17: Cache-Control: byte 0x63 'c', expected `,`, a tab, a space or the end\n"
+       "Cache-Control: b c\n                 ^"},
   };
   for (size_t i = 0; i < sizeof requests / sizeof *requests; ++i) {
     sf_exchange exchange = sf_exchange_of(SF_SHARED_CACHE, 0);
+    sf_fault more_faults[4];
     head = sf_head_in(SF_HEAD_LINES(lines), sf_buffer_of(NULL, 0));
+    head.faults = SF_FAULTS(more_faults);
     rest = sf_cstr(requests[i].head);
     (void)!sf_take_head(&head, &rest);
+    size_t before = head.faults.length;
     CHECK(exchange.is_authorized == 0 && exchange.is_request_incomplete == 0);
+    CHECK(exchange.is_other_method == 0 && exchange.is_request_no_store == 0);
     for (int twice = 0; twice < 2; ++twice) {
       sf_set_request(&exchange, &head);
-      CHECK(exchange.is_authorized == requests[i].is_authorized);
-      CHECK(exchange.is_request_incomplete == requests[i].is_incomplete);
-      exchange.is_authorized = exchange.is_request_incomplete = 7; /* what was there before */
+      CHECK(exchange.is_authorized == (requests[i].flags & AUTHORIZED) / AUTHORIZED);
+      CHECK(exchange.is_request_incomplete == (requests[i].flags & INCOMPLETE) / INCOMPLETE);
+      CHECK(exchange.is_other_method == (requests[i].flags & OTHER_METHOD) / OTHER_METHOD);
+      CHECK(exchange.is_request_no_store == (requests[i].flags & NO_STORE) / NO_STORE);
+      CHECK(head.faults.length == before + (requests[i].fault != NULL));
+      CHECK(requests[i].fault == NULL || says(&more_faults[before], 40, requests[i].fault));
+      /* what was there before */
+      exchange.is_authorized = exchange.is_request_incomplete = 7;
+      exchange.is_other_method = exchange.is_request_no_store = 7;
     }
   }
 
   /* why lines are no field lines, in words: the second of a response, or its first that is not empty */
   static const struct {
-    const char *line, *second, *first;
+    const char *line;
     size_t length;
+    const char *second, *first;
   } whys[] = {
-      {" x: y", "line 2, place 0: not a field line: it continues the line before\n x: y\n^",
-       "line 2, place 0: neither a start line nor a field line: it begins with white space\n x: y\n^", 5},
-      {"\t", "line 2, place 0: not a field line: it continues the line before\n?\n^",
-       "line 2, place 0: neither a start line nor a field line: it begins with white space\n?\n^", 1},
-      {": y", "line 2, place 0: not a field line: no name\n: y\n^",
-       "line 2, place 0: neither a start line nor a field line: no name\n: y\n^", 3},
-      {"\xe9", "line 2, place 0: not a field line: no name\n?\n^",
-       "line 2, place 0: neither a start line nor a field line: no name\n?\n^", 1},
-      {"a b: c", "line 2, place 2: not a field line: no colon after the name\na b: c\n  ^",
-       "line 2, place 2: neither a start line nor a field line: no colon after the name\na b: c\n  ^", 6},
-      {"a: \0", "line 2, place 3: not a field line: a CR, LF or NUL in the value\na: ?\n   ^",
-       "line 2, place 3: neither a start line nor a field line: a CR, LF or NUL in the value\na: ?\n   ^", 4},
-      {"HTTP/1.1 2x0", "line 2, place 4: not a field line: no colon after the name\nHTTP/1.1 2x0\n    ^",
-       "line 2, place 4: neither a start line nor a field line: no colon after the name\nHTTP/1.1 2x0\n    ^", 12},
+      {" x: y", 5,
+       "line 2, place 0: not a field line: it continues the line before\n x: y\n^",
+       "line 2, place 0: neither a start line (no HTTP version at the end) nor a field line (it "
+       "begins with white space)\n x: y\n^"},
+      {"\t", 1,
+       "line 2, place 0: not a field line: it continues the line before\n?\n^",
+       "line 2, place 0: neither a start line (no HTTP version at the end) nor a field line (it "
+       "begins with white space)\n?\n^"},
+      {": y", 3,
+       "line 2, place 0: not a field line: no name\n: y\n^",
+       "line 2, place 0: neither a start line (no HTTP version at the end) nor a field line (no "
+       "name)\n: y\n^"},
+      {"\xe9", 1,
+       "line 2, place 0: not a field line: no name\n?\n^",
+       "line 2, place 0: neither a start line (no HTTP version at the end) nor a field line (no "
+       "name)\n?\n^"},
+      {"a b: c", 6,
+       "line 2, place 2: not a field line: no colon after the name\na b: c\n  ^",
+       "line 2, place 2: neither a start line (no HTTP version at the end) nor a field line (no "
+       "colon after the name)\na b: c\n  ^"},
+      {"a", 1,
+       "line 2, place 1: not a field line: no colon after the name\na\n ^",
+       "line 2, place 1: neither a start line (no HTTP version at the end) nor a field line (no "
+       "colon after the name)\na\n ^"},
+      {"GET /", 5,
+       "line 2, place 4: not a field line: no colon after the name\nGET /\n    ^",
+       "line 2, place 4: neither a start line (no HTTP version at the end) nor a field line (no "
+       "colon after the name)\nGET /\n    ^"},
+      {"GET / HTTP/1.1x", 15,
+       "line 2, place 4: not a field line: no colon after the name\nGET / HTTP/1.1x\n    ^",
+       "line 2, place 4: neither a start line (no HTTP version at the end) nor a field line (no "
+       "colon after the name)\nGET / HTTP/1.1x\n    ^"},
+      {"ICY 200 OK", 10,
+       "line 2, place 4: not a field line: no colon after the name\nICY 200 OK\n    ^",
+       "line 2, place 4: neither a start line (no HTTP version at the end) nor a field line (no "
+       "colon after the name)\nICY 200 OK\n    ^"},
+      {"HTTP", 4,
+       "line 2, place 4: not a field line: no colon after the name\nHTTP\n    ^",
+       "line 2, place 4: neither a start line (no HTTP version at the end) nor a field line (no "
+       "colon after the name)\nHTTP\n    ^"},
+      {"HTTP 1.1", 8,
+       "line 2, place 5: not a field line: no colon after the name\nHTTP 1.1\n     ^",
+       "line 2, place 5: neither a start line (no HTTP version at the end) nor a field line (no "
+       "colon after the name)\nHTTP 1.1\n     ^"},
+      {"http/1.1 200", 12,
+       "line 2, place 4: not a field line: no colon after the name\nhttp/1.1 200\n    ^",
+       "line 2, place 4: neither a start line (no HTTP version at the end) nor a field line (no "
+       "colon after the name)\nhttp/1.1 200\n    ^"},
+      {"a: \0", 4,
+       "line 2, place 3: not a field line: a CR, LF or NUL in the value\na: ?\n   ^",
+       "line 2, place 3: neither a start line (a CR, LF or NUL in it) nor a field line (a CR, LF "
+       "or NUL in the value)\na: ?\n   ^"},
+      {"a\r: b", 5,
+       "line 2, place 1: not a field line: no colon after the name\na?: b\n ^",
+       "line 2, place 1: neither a start line (a CR, LF or NUL in it) nor a field line (no colon "
+       "after the name)\na?: b\n ^"},
+      {"a b: c\n\r", 8,
+       "line 2, place 2: not a field line: no colon after the name\na b: c?\n  ^",
+       "line 2, place 6: neither a start line (a CR, LF or NUL in it) nor a field line (no colon "
+       "after the name)\na b: c?\n      ^"},
+      {" \n\0", 3,
+       "line 2, place 0: not a field line: it continues the line before\n ??\n^",
+       "line 2, place 1: neither a start line (a CR, LF or NUL in it) nor a field line (it begins "
+       "with white space)\n ??\n ^"},
+      {"\0", 1,
+       "line 2, place 0: not a field line: no name\n?\n^",
+       "line 2, place 0: neither a start line (a CR, LF or NUL in it) nor a field line (no "
+       "name)\n?\n^"},
+      {"GET /\r HTTP/1.1", 15,
+       "line 2, place 4: not a field line: no colon after the name\nGET /? HTTP/1.1\n    ^",
+       "line 2, place 5: neither a start line (a CR, LF or NUL in it) nor a field line (no colon "
+       "after the name)\nGET /? HTTP/1.1\n     ^"},
+      {"HTTP/1.1 200 OK\rA: b", 20,
+       "line 2, place 4: not a field line: no colon after the name\nHTTP/1.1 200 OK?A: b\n    ^",
+       "line 2, place 15: neither a start line (a CR, LF or NUL in it) nor a field line (no colon "
+       "after the name)\nHTTP/1.1 200 OK?A: b\n               ^"},
+      {"HTTP/x\r1", 8,
+       "line 2, place 4: not a field line: no colon after the name\nHTTP/x?1\n    ^",
+       "line 2, place 6: neither a start line (a CR, LF or NUL in it) nor a field line (no colon "
+       "after the name)\nHTTP/x?1\n      ^"},
+      {"HTTP/", 5,
+       "line 2, place 4: not a field line: no colon after the name\nHTTP/\n    ^",
+       "line 2, place 5: neither a start line (no version) nor a field line (no colon after the "
+       "name)\nHTTP/\n     ^"},
+      {"HTTP/x.1 200 OK", 15,
+       "line 2, place 4: not a field line: no colon after the name\nHTTP/x.1 200 OK\n    ^",
+       "line 2, place 5: neither a start line (no version) nor a field line (no colon after the "
+       "name)\nHTTP/x.1 200 OK\n     ^"},
+      {"HTTP/ 200 OK", 12,
+       "line 2, place 4: not a field line: no colon after the name\nHTTP/ 200 OK\n    ^",
+       "line 2, place 5: neither a start line (no version) nor a field line (no colon after the "
+       "name)\nHTTP/ 200 OK\n     ^"},
+      {"HTTP/1.1 2x0", 12,
+       "line 2, place 4: not a field line: no colon after the name\nHTTP/1.1 2x0\n    ^",
+       "line 2, place 9: neither a start line (no status code of three digits) nor a field line "
+       "(no colon after the name)\nHTTP/1.1 2x0\n         ^"},
+      {"HTTP/1.1", 8,
+       "line 2, place 4: not a field line: no colon after the name\nHTTP/1.1\n    ^",
+       "line 2, place 8: neither a start line (no status code of three digits) nor a field line "
+       "(no colon after the name)\nHTTP/1.1\n        ^"},
+      {"HTTP/1.1 ", 9,
+       "line 2, place 4: not a field line: no colon after the name\nHTTP/1.1 \n    ^",
+       "line 2, place 9: neither a start line (no status code of three digits) nor a field line "
+       "(no colon after the name)\nHTTP/1.1 \n         ^"},
+      {"HTTP/1.1  200", 13,
+       "line 2, place 4: not a field line: no colon after the name\nHTTP/1.1  200\n    ^",
+       "line 2, place 9: neither a start line (no status code of three digits) nor a field line "
+       "(no colon after the name)\nHTTP/1.1  200\n         ^"},
+      {"HTTP/1.1x 200 OK", 16,
+       "line 2, place 4: not a field line: no colon after the name\nHTTP/1.1x 200 OK\n    ^",
+       "line 2, place 8: neither a start line (no status code of three digits) nor a field line "
+       "(no colon after the name)\nHTTP/1.1x 200 OK\n        ^"},
+      {"HTTP/1. 200", 11,
+       "line 2, place 4: not a field line: no colon after the name\nHTTP/1. 200\n    ^",
+       "line 2, place 6: neither a start line (no status code of three digits) nor a field line "
+       "(no colon after the name)\nHTTP/1. 200\n      ^"},
+      {"HTTP/2 2000", 11,
+       "line 2, place 4: not a field line: no colon after the name\nHTTP/2 2000\n    ^",
+       "line 2, place 7: neither a start line (no status code of three digits) nor a field line "
+       "(no colon after the name)\nHTTP/2 2000\n       ^"},
+      {"HTTP/1.1 099 \xe9", 14,
+       "line 2, place 4: not a field line: no colon after the name\nHTTP/1.1 099 ?\n    ^",
+       "line 2, place 9: neither a start line (no status code of three digits) nor a field line "
+       "(no colon after the name)\nHTTP/1.1 099 ?\n         ^"},
   };
   for (size_t i = 0; i < sizeof whys / sizeof *whys; ++i)
     for (int is_first = 0; is_first < 2; ++is_first) {
@@ -976,6 +1146,11 @@ static void whole_heads(void) {
       CHECK(sf_add_head_line(&head, sf_text_of(whys[i].line, whys[i].length)) == SF_REFUSED);
       CHECK(faults[0].reason == (is_first ? SF_FAULT_NOT_A_START : SF_FAULT_NOT_A_LINE));
       CHECK(says(&faults[0], 40, is_first ? whys[i].first : whys[i].second));
+      const sf_refusal *why = &faults[0].location.refusal;
+      CHECK(why->found == (why->offset == whys[i].length
+                               ? (int32_t)SF_ENDED
+                               : (int32_t)(unsigned char)whys[i].line[why->offset]));
+      CHECK(head.is_incomplete == 1 && head.is_begun == 1 && head.number == 3);
       /* only one line is the first */
       CHECK(sf_add_head_line(&head, sf_cstr("x")) == SF_REFUSED);
       CHECK(faults[1].reason == SF_FAULT_NOT_A_LINE && *faults[1].field == 0);
@@ -996,7 +1171,7 @@ static void whole_heads(void) {
     sf_head_line more[4];
     head = sf_head_in(sf_head_lines_of(more, SF_HEAD_LINES_SIZE(length)), sf_buffer_of(NULL, 0));
     rest = sf_text_of(shortest, length);
-    CHECK(sf_take_head(&head, &rest) == SF_EMPTY);
+    CHECK(sf_take_head(&head, &rest) == SF_REFUSED);
     CHECK(length % 3 != 2 || head.lines.length == head.lines.capacity);
   }
 }
@@ -1049,12 +1224,47 @@ static void messages_of_faults(void) {
                 "value\nb?\n  ^"));
   sf_buffer out = sf_buffer_of(NULL, 0);
   CHECK(sf_show_fault_in("f", &fault, 2, &out) == SF_SHORT && out.length == 0);
+  fault.reason = SF_FAULT_NOT_A_START;
+  for (int k = 0; k < 3; ++k) { /* of these lines, one is a field line, and one a start line */
+    fault.location.line = k == 0 ? sf_text_of(NULL, 0) : sf_cstr(k == 1 ? "a:" : "HTTP/1.1 200");
+    fault.location.refusal.offset = 0;
+    CHECK(says_in("f", &fault, 2,
+                  k == 0   ? "f, line " NUMBER ", place 0: neither a start line (no HTTP version at the "
+                             "end) nor a field line (no name)\n\n^"
+                  : k == 1 ? "f, line " NUMBER ", place 0: neither a start line (no HTTP version at the "
+                             "end) nor a field line (no name)\na:\n^"
+                           : "f, line " NUMBER ", place 0: neither a start line (no status code of three "
+                             "digits) nor a field line (no colon after the name)\nHT\n^"));
+  }
+  /* that of a missing end, and of a missing start line of a head without a line, is one line */
+  static const struct {
+    uint32_t reason;
+    const char *words;
+  } whole[] = {
+      {SF_FAULT_NO_END, "the head does not end with an empty line"},
+      {SF_FAULT_NO_REQUEST_LINE, "the head of a request begins with a request line"},
+      {SF_FAULT_NO_STATUS_LINE, "the head of a response begins with a status line"},
+  };
+  for (size_t i = 0; i < sizeof whole / sizeof *whole; ++i) {
+    char expected[128];
+    memset(&fault, 0, sizeof fault);
+    fault.field = "";
+    fault.reason = whole[i].reason;
+    fault.location.number = 7;
+    snprintf(expected, sizeof expected, "line 7, place 0: %s", whole[i].words);
+    CHECK(says(&fault, 40, expected) && says(&fault, 0, expected));
+    snprintf(expected, sizeof expected, "a?, line 7, place 0: %s", whole[i].words);
+    CHECK(says_in("a\n", &fault, 40, expected));
+    fault.location.line = sf_cstr("b\tcd");
+    snprintf(expected, sizeof expected, "line 7, place 0: %s\nb?c\n^", whole[i].words);
+    CHECK(says(&fault, 3, expected));
+  }
 
   /* the longest names and messages fit */
   char names[2][301], longest[SF_FAULT_IN_SIZE(300, 300, 10)];
   memset(names, 'n', sizeof names);
   names[0][300] = names[1][300] = 0;
-  for (uint32_t reason = 90; reason < 99; ++reason)
+  for (uint32_t reason = 90; reason < 105; ++reason)
     for (int found = -1; found < 256; ++found) {
       memset(&fault, 0xff, sizeof fault);
       fault.field = names[0];
@@ -1068,6 +1278,130 @@ static void messages_of_faults(void) {
       out.capacity = SF_FAULT_SIZE(300, 10);
       CHECK(sf_show_fault(&fault, 10, &out) == SF_OK);
     }
+}
+
+/* Heads that have to be those of a request or of a response (RFC 9112 section 2.1: "A message can
+ * be either a request from client to server or a response from server to client"). */
+static void kinds_of_heads(void) {
+  enum { NONE = -1 }; /* no fault of a missing start line */
+  static const struct {
+    const char *head;
+    int request, response;   /* the number of the line of which the fault is; 0 is in no line */
+    uint32_t is_incomplete, lines;
+    const char *line;        /* that of the fault */
+    const char *first, *end; /* other faults: that of the first line, and that of the end */
+  } rows[] = {
+      {"GET / HTTP/1.1\r\na: b\r\n\r\n", NONE, 1, 0, 1, "GET / HTTP/1.1", NULL, NULL},
+      {"HTTP/1.1 200 OK\r\na: b\r\n\r\n", 1, NONE, 0, 1, "HTTP/1.1 200 OK", NULL, NULL},
+      {"\r\n\nGET / HTTP/1.1\n\n", NONE, 3, 0, 0, "GET / HTTP/1.1", NULL, NULL},
+      {"\n\nHTTP/2 200 \n\n", 3, NONE, 0, 0, "HTTP/2 200 ", NULL, NULL},
+      {"a: b\r\nc: d\r\n\r\n", 1, 1, 0, 2, "a: b", NULL, NULL},
+      {"\r\na : \xe9 \r\nc: d\r\n\r\n", 2, 2, 0, 2, "a : \xe9 ", NULL, NULL},
+      {"a: b\nGET / HTTP/1.1\n\n", 1, 1, 0, 1, "a: b",
+       "line 2, place 4: not a field line: no colon after the name\nGET / HTTP/1.1\n    ^", NULL},
+      {"GET /\na: b\n\n", NONE, NONE, 1, 1, NULL,
+       "line 1, place 4: neither a start line (no HTTP version at the end) nor a field line (no colon "
+       "after the name)\nGET /\n    ^", NULL},
+      {"HTTP/1.1 200\rx\na: b\n\n", NONE, NONE, 1, 1, NULL,
+       "line 1, place 12: neither a start line (a CR, LF or NUL in it) nor a field line (no colon after "
+       "the name)\nHTTP/1.1 200?x\n            ^", NULL},
+      {"GET / HTTP/1.1\na: b", NONE, 1, 0, 1, "GET / HTTP/1.1", NULL,
+       "line 3, place 0: the head does not end with an empty line"},
+      {"HTTP/1.1 200", 1, NONE, 0, 0, "HTTP/1.1 200", NULL,
+       "line 2, place 0: the head does not end with an empty line"},
+      {"a: b", 1, 1, 0, 1, "a: b", NULL, "line 2, place 0: the head does not end with an empty line"},
+      {"", 0, 0, 0, 0, "", NULL, "line 1, place 0: the head does not end with an empty line"},
+      {"\r\n\n\r", 0, 0, 0, 0, "", NULL, "line 3, place 0: the head does not end with an empty line"},
+  };
+#define NO_REQUEST_LINE "the head of a request begins with a request line"
+#define NO_STATUS_LINE "the head of a response begins with a status line"
+  sf_head_line lines[2];
+  sf_fault faults[4];
+  for (size_t i = 0; i < sizeof rows / sizeof *rows; ++i)
+    for (int is_request = 0; is_request < 2; ++is_request) {
+      int number = is_request ? rows[i].request : rows[i].response;
+      sf_text rest = sf_cstr(rows[i].head);
+      sf_head head = sf_head_in(SF_HEAD_LINES(lines), sf_buffer_of(NULL, 0));
+      head.faults = SF_FAULTS(faults);
+      sf_status status = is_request ? sf_take_request(&head, &rest) : sf_take_response(&head, &rest);
+      CHECK(status == (rows[i].end == NULL ? SF_OK : SF_REFUSED) && rest.length == 0);
+      CHECK(head.is_truncated == (rows[i].end != NULL) && head.lines.length == rows[i].lines);
+      CHECK(head.is_incomplete == (number != NONE || rows[i].is_incomplete));
+      size_t count = 0;
+      if (number != NONE) {
+        char expected[128], shown[32];
+        size_t length = strlen(rows[i].line);
+        for (size_t k = 0; k <= length; ++k)
+          shown[k] = (char)((unsigned char)rows[i].line[k] > 126 ? '?' : rows[i].line[k]);
+        snprintf(expected, sizeof expected, "line %d, place 0: %s%s%s%s",
+                 number == 0 ? (int)head.number : number, is_request ? NO_REQUEST_LINE : NO_STATUS_LINE,
+                 length == 0 ? "" : "\n", shown, length == 0 ? "" : "\n^");
+        CHECK(says(&faults[0], 40, expected));
+        CHECK(faults[0].reason == (is_request ? SF_FAULT_NO_REQUEST_LINE : SF_FAULT_NO_STATUS_LINE));
+        CHECK(is(faults[0].location.line, rows[i].line) && *faults[0].field == 0);
+        CHECK(faults[0].location.index == 0 && faults[0].location.refusal.offset == 0);
+        ++count;
+      }
+      if (rows[i].first != NULL)
+        CHECK(says(&faults[count++], 40, rows[i].first));
+      if (rows[i].end != NULL)
+        CHECK(says(&faults[count++], 40, rows[i].end));
+      CHECK(head.faults.length == count && head.faults.required == count);
+    }
+
+  /* a head of the other kind permits nothing: neither that it is stored, nor that it is one without
+   * Authorization */
+  sf_context context = sf_context_of(seed, SF_RFC8941);
+  sf_exchange exchange = sf_exchange_of(SF_SHARED_CACHE, 0);
+  sf_verdict verdict;
+  sf_text rest = sf_cstr("Cache-Control: max-age=60\n\n");
+  sf_head head = sf_head_in(SF_HEAD_LINES(lines), sf_buffer_of(NULL, 0));
+  exchange.status = 200;
+  CHECK(sf_take_response(&head, &rest) == SF_OK && head.is_incomplete == 1);
+  CHECK(sf_decide_response(&context, &head, NULL, 0, &exchange, &verdict) == SF_OK);
+  CHECK(verdict.obstacle == SF_BARRED_HEAD);
+  rest = sf_cstr("Age: 1\n\n");
+  head = sf_head_in(SF_HEAD_LINES(lines), sf_buffer_of(NULL, 0));
+  CHECK(sf_take_request(&head, &rest) == SF_OK && head.faults.required == 1);
+  sf_set_request(&exchange, &head);
+  CHECK(exchange.is_request_incomplete == 1 && exchange.is_other_method == 0);
+
+  /* lines that were added before count; a call that is repeated finds nothing more */
+  for (int k = 0; k < 4; ++k) {
+    static const char *const before[] = {"HTTP/1.1 200", "a: b", "GET / HTTP/1.1", "x"};
+    head = sf_head_in(SF_HEAD_LINES(lines), sf_buffer_of(NULL, 0));
+    head.faults = SF_FAULTS(faults);
+    head.number = 7;
+    rest = sf_cstr("c: d\n\n");
+    CHECK(sf_add_head_line(&head, sf_cstr(before[k])) == (k == 3 ? SF_REFUSED : SF_OK));
+    CHECK(sf_take_request(&head, &rest) == SF_OK && head.faults.length == (k != 2));
+    CHECK(k > 1 || (faults[0].reason == SF_FAULT_NO_REQUEST_LINE && faults[0].location.number == 7));
+    CHECK(k > 1 || is(faults[0].location.line, before[k]));
+    CHECK(head.is_incomplete == (k != 2));
+    rest = sf_cstr("\n");
+    CHECK(sf_take_request(&head, &rest) == SF_OK && head.faults.required == (k != 2));
+  }
+  /* after a line that was too many, the first line is as before */
+  head = sf_head_in(sf_head_lines_of(lines, 0), sf_buffer_of(NULL, 0));
+  head.faults = SF_FAULTS(faults);
+  rest = sf_cstr("a: b\nc: d\n\n");
+  CHECK(sf_take_response(&head, &rest) == SF_SHORT && head.faults.required == 0);
+  head.lines.capacity = 1;
+  CHECK(sf_take_response(&head, &rest) == SF_SHORT && is(rest, "c: d\n\n"));
+  head.lines.capacity = 2;
+  CHECK(sf_take_response(&head, &rest) == SF_OK && head.faults.length == 1);
+  CHECK(faults[0].location.number == 1 && is(faults[0].location.line, "a: b"));
+  /* a head that says it has begun, but has no line */
+  head = sf_head_in(SF_HEAD_LINES(lines), sf_buffer_of(NULL, 0));
+  head.faults = SF_FAULTS(faults);
+  head.is_begun = 1;
+  rest = sf_cstr("\n");
+  CHECK(sf_take_response(&head, &rest) == SF_OK && head.faults.length == 1);
+  CHECK(says(&faults[0], 40, "line 1, place 0: " NO_STATUS_LINE));
+  /* without a buffer for faults, they are counted */
+  head = sf_head_in(SF_HEAD_LINES(lines), sf_buffer_of(NULL, 0));
+  rest = sf_text_of(NULL, 0);
+  CHECK(sf_take_response(&head, &rest) == SF_REFUSED && head.faults.required == 2);
 }
 
 /* Heads whose buffers are parts of one memory: enough for each of them, and one byte less. */
@@ -1096,19 +1430,26 @@ static void heads_in_memory(void) {
   for (size_t i = 0; i < sizeof rows / sizeof *rows; ++i) {
     sf_text received = sf_text_of(rows[i].head, rows[i].length), rest = received;
     size_t size = sf_head_memory_size(received);
-    CHECK(size == rows[i].lines * (sizeof(sf_head_line) + sizeof(sf_fault)) + sizeof(sf_fault) +
+    CHECK(size == rows[i].lines * (sizeof(sf_head_line) + sizeof(sf_fault)) + 2 * sizeof(sf_fault) +
                       2 * rows[i].taken);
-    CHECK(size <= 70 * rows[i].taken + 150);
+    CHECK(size <= 70 * rows[i].taken + 230);
     char *memory = (char *)malloc(size);
     CHECK(memory != NULL);
     sf_head head = sf_head_in_memory(memory, size, received);
     CHECK((char *)head.lines.at == memory && head.lines.length == 0 && head.number == 1);
-    CHECK(head.lines.capacity == rows[i].lines && head.faults.capacity == rows[i].lines + 1);
+    CHECK(head.lines.capacity == rows[i].lines && head.faults.capacity == rows[i].lines + 2);
     CHECK(head.joined.capacity == 2 * rows[i].taken && head.joined.length == 0);
     CHECK((size_t)(head.joined.at - memory) + head.joined.capacity == size);
     CHECK(sf_take_head(&head, &rest) != SF_SHORT);
     CHECK(rest.length == rows[i].length - rows[i].taken && head.lines.length == rows[i].count);
     CHECK(head.faults.length == rows[i].faults && head.faults.required == rows[i].faults);
+    for (int is_request = 0; is_request < 2; ++is_request) {
+      rest = received;
+      head = sf_head_in_memory(memory, size, received);
+      CHECK((is_request ? sf_take_request(&head, &rest) : sf_take_response(&head, &rest)) != SF_SHORT);
+      CHECK(head.faults.length >= rows[i].faults && head.faults.length <= rows[i].faults + 1);
+      CHECK(head.faults.length == head.faults.required && head.lines.length == rows[i].count);
+    }
     free(memory);
     /* one byte less, no memory, and memory that is not aligned */
     memory = (char *)malloc(size + 1);
@@ -1127,7 +1468,7 @@ static void heads_in_memory(void) {
     CHECK(head.lines.capacity == rows[i].lines && head.joined.capacity == 2 * rows[i].taken);
     free(memory);
   }
-  CHECK(sf_head_memory_size(sf_text_of(NULL, SIZE_MAX)) == sizeof(sf_fault));
+  CHECK(sf_head_memory_size(sf_text_of(NULL, SIZE_MAX)) == 2 * sizeof(sf_fault));
   CHECK(sf_head_memory_of(SIZE_MAX, 0) == SIZE_MAX && sf_head_memory_of(0, SIZE_MAX) == SIZE_MAX);
   CHECK(sf_head_memory_of(SIZE_MAX, SIZE_MAX) == SIZE_MAX);
   CHECK(sf_head_memory_of(SIZE_MAX / sizeof(sf_fault), SIZE_MAX / 2) == SIZE_MAX);
@@ -1151,8 +1492,8 @@ static void heads_in_memory(void) {
   CHECK(memory != NULL);
   sf_head head = sf_head_in_memory(memory, size, received);
   rest = received;
-  CHECK(sf_take_head(&head, &rest) == SF_EMPTY && head.lines.length == 2 * FIELDS);
-  CHECK(head.faults.length == FIELDS + 1 && rest.length == 0);
+  CHECK(sf_take_response(&head, &rest) == SF_REFUSED && head.lines.length == 2 * FIELDS);
+  CHECK(head.faults.length == FIELDS + 2 && rest.length == 0);
   for (int i = 0; i < FIELDS; ++i) {
     sf_text found;
     CHECK(sf_find_field(&head, i < 7 ? known[i] : names[i], &found) == SF_OK && is(found, ",, ,"));
@@ -1181,7 +1522,7 @@ static void heads_in_memory(void) {
   }
   /* Cache-Control is a list of directives here, Expires and Date have two faults each */
   CHECK(head.faults.length == head.faults.required);
-  CHECK(head.faults.length == FIELDS + 1 + (FIELDS - 7) + 3 + 2 * 2 + 1);
+  CHECK(head.faults.length == FIELDS + 2 + (FIELDS - 7) + 3 + 2 * 2 + 1);
   free(memory);
 
   /* a field that is nearly all of the head, which is kept and then joined again */
@@ -1200,6 +1541,84 @@ static void heads_in_memory(void) {
   free(memory);
 }
 
+/* Trees and paths whose buffers are parts of one memory: enough for each text of the length, and
+ * one byte less. */
+static void values_in_memory(void) {
+  sf_context context = sf_context_of(seed, SF_RFC8941);
+  for (size_t length = 0; length < 40; ++length) {
+    char text[40];
+    size_t size = sf_tree_memory_size(length), hops_size = sf_hops_memory_size(length);
+    CHECK(size > 0 && size <= 28 * length + 40 && hops_size > 0 && hops_size <= 72 * length + 90);
+    /* a text with as many members as there can be */
+    for (size_t i = 0; i < length; ++i)
+      text[i] = i % 2 == 0 ? 'a' : i + 1 == length ? 'b' : ',';
+    void *memory = malloc(size), *hops_memory = malloc(hops_size);
+    CHECK(memory != NULL && hops_memory != NULL);
+    sf_tree tree = sf_tree_in_memory(memory, size, length);
+    CHECK((void *)tree.nodes.at == memory && tree.nodes.length == 0 && tree.kind == 0);
+    CHECK(tree.nodes.capacity == SF_NODES_SIZE(length) && tree.bytes.capacity == SF_BYTES_SIZE(length));
+    CHECK(length == 0 || (size_t)(tree.bytes.at - (char *)memory) + tree.bytes.capacity == size);
+    memset(memory, 0x5a, size); /* all of it is there */
+    CHECK(sf_read_tree(&context, SF_LIST, sf_text_of(text, length), &tree) == SF_OK);
+    CHECK(tree.nodes.length == length / 2 + length % 2);
+    sf_hop_list list = sf_hop_list_in_memory(hops_memory, hops_size, length);
+    CHECK((void *)list.hops.at == hops_memory && list.hops.length == 0 && list.served == NULL);
+    CHECK(list.hops.capacity == SF_NODES_SIZE(length) && list.bytes.capacity == SF_BYTES_SIZE(length));
+    CHECK(length == 0 ||
+          (size_t)(list.bytes.at - (char *)hops_memory) + list.bytes.capacity == hops_size);
+    memset(hops_memory, 0x5a, hops_size);
+    CHECK(sf_read_hops(&context, sf_text_of(text, length), &list) == SF_OK);
+    CHECK(list.hops.length == length / 2 + length % 2);
+    free(memory);
+    free(hops_memory);
+    /* one byte less, no memory, and memory that is not aligned */
+    memory = malloc(hops_size + 1);
+    CHECK(memory != NULL);
+    for (int k = 0; k < 3; ++k) {
+      char *at = k == 1 ? NULL : (char *)memory + k / 2;
+      tree = sf_tree_in_memory(at, k == 0 ? size - 1 : size, length);
+      list = sf_hop_list_in_memory(at, k == 0 ? hops_size - 1 : hops_size, length);
+      CHECK(tree.nodes.at == (k == 0 ? memory : NULL) && list.hops.at == (k == 0 ? memory : NULL));
+      CHECK(tree.nodes.capacity == 0 && tree.bytes.capacity == 0 && tree.bytes.at == NULL);
+      CHECK(list.hops.capacity == 0 && list.bytes.capacity == 0 && list.bytes.at == NULL);
+      CHECK(sf_read_tree(&context, SF_LIST, sf_text_of(text, length), &tree) ==
+            (length == 0 ? SF_OK : SF_TOO_MANY));
+      CHECK(sf_read_hops(&context, sf_text_of(text, length), &list) ==
+            (length == 0 ? SF_OK : SF_SHORT));
+    }
+    free(memory);
+  }
+  /* lengths for which there is no memory */
+  static const size_t long_ones[] = {SIZE_MAX, SIZE_MAX - 1, SIZE_MAX / 2, SIZE_MAX / 8, SIZE_MAX / 24};
+  sf_node node;
+  sf_hop hop;
+  for (size_t i = 0; i < sizeof long_ones / sizeof *long_ones; ++i) {
+    sf_tree tree = sf_tree_in_memory(&node, SIZE_MAX, long_ones[i]);
+    sf_hop_list list = sf_hop_list_in_memory(&hop, SIZE_MAX, long_ones[i]);
+    CHECK(sf_tree_memory_size(long_ones[i]) == SIZE_MAX && sf_hops_memory_size(long_ones[i]) == SIZE_MAX);
+    CHECK(tree.nodes.capacity == 0 && tree.bytes.capacity == 0 && tree.nodes.at == &node);
+    CHECK(list.hops.capacity == 0 && list.bytes.capacity == 0 && list.hops.at == &hop);
+  }
+  CHECK(sf_tree_memory_size(SIZE_MAX / 64) < SIZE_MAX);
+
+  /* the length of a head is enough for each of its fields, of one line and of several */
+  static const char received[] = "HTTP/2 200\nA:a,a,a\nA:a\nA:a\nCache-Status:a,a\nCache-Status:a\n\n";
+  size_t length = sizeof received - 1, size = sf_hops_memory_size(length);
+  sf_head_line lines[8];
+  char joined[64];
+  sf_text rest = sf_cstr(received);
+  sf_head head = sf_head_in(SF_HEAD_LINES(lines), SF_BUFFER(joined));
+  void *memory = malloc(size);
+  CHECK(memory != NULL && sf_take_response(&head, &rest) == SF_OK);
+  sf_tree tree = sf_tree_in_memory(memory, size, length);
+  CHECK(sf_find_tree(&context, SF_LIST, &head, "A", &tree) == SF_OK && tree.nodes.length == 5);
+  CHECK((void *)tree.nodes.at == memory);
+  sf_hop_list list = sf_hop_list_in_memory(memory, size, length);
+  CHECK(sf_find_hops(&context, &head, &list) == SF_OK && list.hops.length == 3);
+  CHECK((void *)list.hops.at == memory);
+  free(memory);
+}
+
 /* Verdicts in words, and hops by them. */
 static void verdicts_in_words(void) {
   static const struct {
@@ -1214,8 +1633,12 @@ static void verdicts_in_words(void) {
       {"HTTP/1.1 200\ncache-control: public\n\n", "Cache-Control: unspecified", "a;fwd=miss;stored"},
       {"HTTP/1.1 200\nCache-Control: a b\n\n", "Cache-Control: not stored (malformed)",
        "a;fwd=miss;stored=?0"},
-      {"HTTP/1.1 206\nExpires: 0\n\n",
-       "Expires: stale (expires); not stored: the status code forbids it", "a;fwd=miss;ttl=0;stored=?0"},
+      {"HTTP/1.1 206\nExpires: 0\n\n", "Expires: stale; not stored: the status code forbids it",
+       "a;fwd=miss;ttl=0;stored=?0"},
+      {"HTTP/1.1 200\nExpires: Sun, 06 Nov 1994 08:50:37 GMT\n\n", "Expires: fresh for 60 s",
+       "a;fwd=miss;ttl=60;stored"},
+      {"HTTP/1.1 200\nExpires: 0\nCache-Control: must-revalidate\n\n",
+       "Cache-Control: revalidate (must-revalidate)", "a;fwd=miss;ttl=0;stored"},
       {"HTTP/1.1 200\nT: max-age=99999999999\n", "T: fresh for 2147483648 s (max-age); not stored: the "
        "head is incomplete", "a;fwd=miss;ttl=2147483648;stored=?0"},
   };
@@ -1359,6 +1782,9 @@ static void fields_of_a_head(void) {
   CHECK(sf_find_hops(&context, &head, &list) == SF_OK && list.hops.length == 0 && !list.served);
   CHECK(faults[2].location.number == 12 && faults[2].location.refusal.offset == 25);
   CHECK(faults[2].location.refusal.found == '7' && head.joined.length == 0);
+  CHECK(faults[2].reason == SF_FAULT_NOT_A_CACHE && strcmp(faults[2].field, "Cache-Status") == 0);
+  CHECK(says(&faults[2], 40, "line 12, place 25: Cache-Status: the member does not name a cache\n"
+                             "cache-status: edge; hit, 7\n                         ^"));
   CHECK(faults[3].reason == SF_FAULT_NOT_A_LINE && faults[3].location.number == 13);
   /* a member that names no cache stays where it is */
   sf_own_hop own = sf_hop_named("edge", SF_TOKEN);
@@ -1462,13 +1888,37 @@ static void faults_of_decisions(void) {
       {"Age: 5\nAge: x\n", {NULL}},
       {"T: max-age=1\nCache-Control: a b\nExpires: 0\nDate: x\n", {NULL}}, /* they are not read */
       {"Expires:  0 \nDate: Sun\n",
-       {"line 1, place 10: Expires: expected an HTTP-date, such as Sun, 06 Nov 1994 08:49:37 GMT\nExpires:  0 \n          ^",
-        "line 2, place 6: Date: expected an HTTP-date, such as Sun, 06 Nov 1994 08:49:37 GMT\nDate: Sun\n      ^"}},
+       {"line 1, place 10: Expires: expected an HTTP-date, such as Sun, 06 Nov 1994 08:49:37 "
+        "GMT\nExpires:  0 \n          ^",
+        "line 2, place 6: Date: expected an HTTP-date, such as Sun, 06 Nov 1994 08:49:37 "
+        "GMT\nDate: Sun\n      ^"}},
       {"Expires: Sun, 06 Nov 1994 08:49:37 GMT\nExpires: Sun, 06 Nov 1994 08:49:37 GMT\nexpires: x\n",
-       {"line 2, place 9: Expires: there are several lines\nExpires: Sun, 06 Nov 1994 \n         ^"}},
-      {"Date: x\nDate: Sun, 06 Nov 1994 08:49:37 GMT\nDate: x\n",
-       {"line 1, place 6: Date: expected an HTTP-date, such as Sun, 06 Nov 1994 08:49:37 GMT\nDate: x\n      ^",
-        "line 2, place 6: Date: there are several lines\nDate: Sun, 06 Nov 1994 08:\n      ^"}},
+       {"line 2, place 9: Expires: there are several lines\nExpires: Sun, 06 Nov 1994 \n         "
+        "^"}},
+      {"Expires: Sun, 06 Nov 1994 08:49:37 GMT\nDate: x\nDate: Sun, 06 Nov 1994 08:49:37 GMT\nDate: x\n",
+       {"line 2, place 6: Date: expected an HTTP-date, such as Sun, 06 Nov 1994 08:49:37 "
+        "GMT\nDate: x\n      ^",
+        "line 3, place 6: Date: there are several lines\nDate: Sun, 06 Nov 1994 08:\n      ^"}},
+      /* dates by which nothing is decided, as of the Expires: 0 that is everywhere */
+      {"Date: x\nDate: Sun, 06 Nov 1994 08:49:37 GMT\nDate: x\n", {NULL}},
+      {"Expires: 0\nCache-Control: no-store\nDate: x\n", {NULL}},
+      {"Expires: 0\nExpires: 0\nCache-Control: private\n", {NULL}},
+      {"Expires: 0\nCache-Control: No-Cache\nDate: x\n", {NULL}},
+      {"Expires: 0\nCache-Control: max-age=1\nDate: x\n", {NULL}},
+      {"Expires: 0\nCache-Control: max-age=x, must-revalidate\n", {NULL}},
+      {"Expires: 0\nCache-Control: s-maxage=1\n", {NULL}},
+      {"Expires: 0\nCache-Control: s-maxage\n", {NULL}},
+      {"Expires: 0\nCache-Control: must-understand\n", {NULL}},
+      {"Expires: 0\nT: x\n", {NULL}},
+      {"Expires: 0\nT: \nCache-Control: no-transform, must-revalidate\n",
+       {"line 1, place 9: Expires: expected an HTTP-date, such as Sun, 06 Nov 1994 08:49:37 "
+        "GMT\nExpires: 0\n         ^"}},
+      {"Expires: 0\nCache-Control: public\nDate: Sun, 06 Nov 1994 08:49:37 GMT\n",
+       {"line 1, place 9: Expires: expected an HTTP-date, such as Sun, 06 Nov 1994 08:49:37 "
+        "GMT\nExpires: 0\n         ^"}},
+      {"Cache-Control: a b\nExpires: 0\nDate: x\n",
+       {"line 1, place 17: Cache-Control: byte 0x62 'b', expected `,`, a tab, a space or the end\n"
+        "Cache-Control: a b\n                 ^"}},
       {"Cache-Control: a b\nCache-Control: c d\n",
        {"line 1, place 17: Cache-Control: byte 0x62 'b', expected `,`, a tab, a space or the end\n"
         "Cache-Control: a b\n                 ^"}},
@@ -1528,6 +1978,33 @@ static void faults_of_decisions(void) {
       CHECK((*byte < 64 ? refusal->expected_low >> *byte : refusal->expected_high >> (*byte - 64)) & 1);
     for (const char *byte = places[i].barred; *byte != 0; ++byte)
       CHECK(!((*byte < 64 ? refusal->expected_low >> *byte : refusal->expected_high >> (*byte - 64)) & 1));
+  }
+  /* s-maxage sets no lifetime in a private cache, and private does not forbid it to store; no-store
+   * does not forbid a cache that understands the status code, beside must-understand */
+  {
+    static const struct {
+      const char *line;
+      uint32_t cache, is_understood;
+      size_t faults;
+    } dated[] = {
+        {"Cache-Control: s-maxage=1", SF_PRIVATE_CACHE, 0, 1},
+        {"Cache-Control: s-maxage=1", SF_SHARED_CACHE, 0, 0},
+        {"Cache-Control: private", SF_PRIVATE_CACHE, 0, 1},
+        {"Cache-Control: no-store, must-understand", SF_SHARED_CACHE, 0, 0},
+        {"Cache-Control: no-store, must-understand", SF_SHARED_CACHE, 1, 1},
+        {"Cache-Control: no-cache, must-understand", SF_SHARED_CACHE, 1, 0},
+    };
+    for (size_t i = 0; i < sizeof dated / sizeof *dated; ++i) {
+      sf_head head = sf_head_in(SF_HEAD_LINES(lines), sf_buffer_of(NULL, 0));
+      sf_exchange now = sf_exchange_of((sf_cache)dated[i].cache, 784111777);
+      now.is_understood = dated[i].is_understood;
+      head.faults = SF_FAULTS(faults);
+      CHECK(sf_add_head_line(&head, sf_cstr("Expires: 0")) == SF_OK);
+      CHECK(sf_add_head_line(&head, sf_cstr(dated[i].line)) == SF_OK);
+      CHECK(sf_decide_response(&context, &head, NULL, 0, &now, &verdict) == SF_OK);
+      CHECK(head.faults.length == dated[i].faults && verdict.is_expires_malformed == 1);
+      CHECK(dated[i].faults == 0 || faults[0].reason == SF_FAULT_NOT_A_DATE);
+    }
   }
   /* the place in an Age whose value the program did not trim */
   {
@@ -1773,10 +2250,10 @@ static void lifetimes(void) {
  * "a status code that is defined as heuristically cacheable". Those of RFC 9110 section 15.1 are
  * "200, 203, 204, 206, 300, 301, 308, 404, 405, 410, 414, and 501". */
 static void storing(void) {
-  enum { HAS = 1, MAY_HAVE = 2 }; /* Authorization */
+  enum { HAS = 1, MAY_HAVE = 2, OTHER_METHOD = 4, NO_STORE = 8 }; /* the first two: Authorization */
   static const struct {
     const char *line;
-    uint32_t cache, status, is_understood, authorization, obstacle;
+    uint32_t cache, status, is_understood, request, obstacle;
   } rows[] = {
       {"Cache-Control: max-age=60", SF_SHARED_CACHE, 200, 0, 0, SF_NO_OBSTACLE},
       {"Cache-Control: max-age=60", SF_SHARED_CACHE, 500, 0, 0, SF_NO_OBSTACLE},
@@ -1816,6 +2293,20 @@ static void storing(void) {
       {"Cache-Control: a b", SF_PRIVATE_CACHE, 103, 1, HAS | MAY_HAVE, SF_BARRED_MALFORMED},
       {"Cache-Control: no-store, a b", SF_SHARED_CACHE, 200, 0, 0, SF_BARRED_MALFORMED},
       {"T: a b", SF_SHARED_CACHE, 200, 0, 0, SF_NO_OBSTACLE}, /* a target that is ignored */
+      {"T: max-age=60, s-maxage=1", SF_PRIVATE_CACHE, 200, 0, OTHER_METHOD, SF_BARRED_METHOD},
+      {"Cache-Control: public", SF_SHARED_CACHE, 200, 1, OTHER_METHOD, SF_BARRED_METHOD},
+      {"T: max-age=60", SF_PRIVATE_CACHE, 200, 0, NO_STORE, SF_BARRED_REQUEST_NO_STORE},
+      {"Cache-Control: must-understand, public", SF_SHARED_CACHE, 200, 1, NO_STORE,
+       SF_BARRED_REQUEST_NO_STORE},
+      {"T: max-age=60", SF_SHARED_CACHE, 200, 0, OTHER_METHOD | NO_STORE, SF_BARRED_METHOD},
+      {"T: max-age=60", SF_SHARED_CACHE, 200, 0, HAS | MAY_HAVE | OTHER_METHOD | NO_STORE,
+       SF_BARRED_METHOD},
+      {"T: max-age=60", SF_SHARED_CACHE, 200, 0, HAS | MAY_HAVE | NO_STORE, SF_BARRED_REQUEST_NO_STORE},
+      {"T: max-age=60", SF_SHARED_CACHE, 103, 0, OTHER_METHOD, SF_BARRED_METHOD},
+      {"T: max-age=60", SF_SHARED_CACHE, 103, 0, NO_STORE, SF_BARRED_REQUEST_NO_STORE},
+      {"T: no-store", SF_SHARED_CACHE, 200, 0, OTHER_METHOD | NO_STORE, SF_BARRED_DIRECTIVE},
+      {"Cache-Control: a b", SF_SHARED_CACHE, 200, 0, OTHER_METHOD | NO_STORE, SF_BARRED_MALFORMED},
+      {"X: y", SF_SHARED_CACHE, 500, 0, NO_STORE, SF_BARRED_REQUEST_NO_STORE},
   };
   static const uint32_t heuristic[] = {200, 203, 204, 206, 300, 301, 308, 404, 405, 410, 414, 501};
   sf_context context = sf_context_of(seed, SF_RFC8941);
@@ -1827,8 +2318,10 @@ static void storing(void) {
     sf_exchange exchange = sf_exchange_of((sf_cache)rows[i].cache, 0);
     exchange.status = rows[i].status;
     exchange.is_understood = rows[i].is_understood;
-    exchange.is_authorized = rows[i].authorization & HAS;
-    exchange.is_request_incomplete = rows[i].authorization & MAY_HAVE;
+    exchange.is_authorized = rows[i].request & HAS;
+    exchange.is_request_incomplete = rows[i].request & MAY_HAVE;
+    exchange.is_other_method = rows[i].request & OTHER_METHOD;
+    exchange.is_request_no_store = rows[i].request & NO_STORE;
     CHECK(sf_add_head_line(&head, sf_cstr(rows[i].line)) == SF_OK);
     CHECK(sf_decide_response(&context, &head, &target, 1, &exchange, &verdict) == SF_OK);
     CHECK(verdict.obstacle == rows[i].obstacle);
@@ -1836,9 +2329,10 @@ static void storing(void) {
     /* a line that is no field line may have had a directive */
     head.is_incomplete = 1;
     CHECK(sf_decide_response(&context, &head, &target, 1, &exchange, &verdict) == SF_OK);
-    int is_directive =
-        rows[i].obstacle == SF_BARRED_DIRECTIVE || rows[i].obstacle == SF_BARRED_MALFORMED;
-    CHECK(verdict.obstacle == (is_directive ? rows[i].obstacle : (uint32_t)SF_BARRED_HEAD));
+    int is_before =
+        rows[i].obstacle == SF_BARRED_DIRECTIVE || rows[i].obstacle == SF_BARRED_MALFORMED ||
+        rows[i].obstacle == SF_BARRED_METHOD || rows[i].obstacle == SF_BARRED_REQUEST_NO_STORE;
+    CHECK(verdict.obstacle == (is_before ? rows[i].obstacle : (uint32_t)SF_BARRED_HEAD));
     CHECK(verdict.may_store == 0);
   }
   /* a target that decides before a Cache-Control that is malformed, which is not read */
@@ -1895,7 +2389,11 @@ static void storing(void) {
   CHECK(strcmp(sf_obstacle_name(SF_BARRED_MALFORMED), "Cache-Control is malformed") == 0);
   CHECK(strcmp(sf_obstacle_name(SF_BARRED_REQUEST_HEAD),
                "the request may have had Authorization, as its head is incomplete") == 0);
+  CHECK(strcmp(sf_obstacle_name(SF_BARRED_METHOD),
+               "the method of the request is neither GET nor HEAD") == 0);
+  CHECK(strcmp(sf_obstacle_name(SF_BARRED_REQUEST_NO_STORE), "the request has no-store") == 0);
   CHECK(strcmp(sf_obstacle_name(SF_NO_OBSTACLE), "") == 0 && strcmp(sf_obstacle_name(0), "") == 0);
+  CHECK(strcmp(sf_obstacle_name(91), "") == 0 && strcmp(sf_obstacle_name(104), "") == 0);
 }
 
 /* The Age field (RFC 9111 sections 5.1 and 1.2.2). */
@@ -2113,7 +2611,9 @@ int main(void) {
   heads();
   whole_heads();
   messages_of_faults();
+  kinds_of_heads();
   heads_in_memory();
+  values_in_memory();
   verdicts_in_words();
   parts_of_trees();
   fields_of_a_head();
