@@ -1348,7 +1348,7 @@ static inline const char *sf_start_fault(sf_text line, uint64_t *place) {
     return "no status code of three digits";
   }
   if (line.length < 5 || memcmp(line.at, "HTTP/", 5) != 0)
-    return "no HTTP version at the end";
+    return "no method, target and version";
   *place = 5;
   return "no version";
 }

@@ -1014,51 +1014,51 @@ static void whole_heads(void) {
   } whys[] = {
       {" x: y", 5,
        "line 2, place 0: not a field line: it continues the line before\n x: y\n^",
-       "line 2, place 0: neither a start line (no HTTP version at the end) nor a field line (it "
+       "line 2, place 0: neither a start line (no method, target and version) nor a field line (it "
        "begins with white space)\n x: y\n^"},
       {"\t", 1,
        "line 2, place 0: not a field line: it continues the line before\n?\n^",
-       "line 2, place 0: neither a start line (no HTTP version at the end) nor a field line (it "
+       "line 2, place 0: neither a start line (no method, target and version) nor a field line (it "
        "begins with white space)\n?\n^"},
       {": y", 3,
        "line 2, place 0: not a field line: no name\n: y\n^",
-       "line 2, place 0: neither a start line (no HTTP version at the end) nor a field line (no "
+       "line 2, place 0: neither a start line (no method, target and version) nor a field line (no "
        "name)\n: y\n^"},
       {"\xe9", 1,
        "line 2, place 0: not a field line: no name\n?\n^",
-       "line 2, place 0: neither a start line (no HTTP version at the end) nor a field line (no "
+       "line 2, place 0: neither a start line (no method, target and version) nor a field line (no "
        "name)\n?\n^"},
       {"a b: c", 6,
        "line 2, place 2: not a field line: no colon after the name\na b: c\n  ^",
-       "line 2, place 2: neither a start line (no HTTP version at the end) nor a field line (no "
+       "line 2, place 2: neither a start line (no method, target and version) nor a field line (no "
        "colon after the name)\na b: c\n  ^"},
       {"a", 1,
        "line 2, place 1: not a field line: no colon after the name\na\n ^",
-       "line 2, place 1: neither a start line (no HTTP version at the end) nor a field line (no "
+       "line 2, place 1: neither a start line (no method, target and version) nor a field line (no "
        "colon after the name)\na\n ^"},
       {"GET /", 5,
        "line 2, place 4: not a field line: no colon after the name\nGET /\n    ^",
-       "line 2, place 4: neither a start line (no HTTP version at the end) nor a field line (no "
+       "line 2, place 4: neither a start line (no method, target and version) nor a field line (no "
        "colon after the name)\nGET /\n    ^"},
       {"GET / HTTP/1.1x", 15,
        "line 2, place 4: not a field line: no colon after the name\nGET / HTTP/1.1x\n    ^",
-       "line 2, place 4: neither a start line (no HTTP version at the end) nor a field line (no "
+       "line 2, place 4: neither a start line (no method, target and version) nor a field line (no "
        "colon after the name)\nGET / HTTP/1.1x\n    ^"},
       {"ICY 200 OK", 10,
        "line 2, place 4: not a field line: no colon after the name\nICY 200 OK\n    ^",
-       "line 2, place 4: neither a start line (no HTTP version at the end) nor a field line (no "
+       "line 2, place 4: neither a start line (no method, target and version) nor a field line (no "
        "colon after the name)\nICY 200 OK\n    ^"},
       {"HTTP", 4,
        "line 2, place 4: not a field line: no colon after the name\nHTTP\n    ^",
-       "line 2, place 4: neither a start line (no HTTP version at the end) nor a field line (no "
+       "line 2, place 4: neither a start line (no method, target and version) nor a field line (no "
        "colon after the name)\nHTTP\n    ^"},
       {"HTTP 1.1", 8,
        "line 2, place 5: not a field line: no colon after the name\nHTTP 1.1\n     ^",
-       "line 2, place 5: neither a start line (no HTTP version at the end) nor a field line (no "
+       "line 2, place 5: neither a start line (no method, target and version) nor a field line (no "
        "colon after the name)\nHTTP 1.1\n     ^"},
       {"http/1.1 200", 12,
        "line 2, place 4: not a field line: no colon after the name\nhttp/1.1 200\n    ^",
-       "line 2, place 4: neither a start line (no HTTP version at the end) nor a field line (no "
+       "line 2, place 4: neither a start line (no method, target and version) nor a field line (no "
        "colon after the name)\nhttp/1.1 200\n    ^"},
       {"a: \0", 4,
        "line 2, place 3: not a field line: a CR, LF or NUL in the value\na: ?\n   ^",
@@ -1300,7 +1300,7 @@ static void kinds_of_heads(void) {
       {"a: b\nGET / HTTP/1.1\n\n", 1, 1, 0, 1, "a: b",
        "line 2, place 4: not a field line: no colon after the name\nGET / HTTP/1.1\n    ^", NULL},
       {"GET /\na: b\n\n", NONE, NONE, 1, 1, NULL,
-       "line 1, place 4: neither a start line (no HTTP version at the end) nor a field line (no colon "
+       "line 1, place 4: neither a start line (no method, target and version) nor a field line (no colon "
        "after the name)\nGET /\n    ^", NULL},
       {"HTTP/1.1 200\rx\na: b\n\n", NONE, NONE, 1, 1, NULL,
        "line 1, place 12: neither a start line (a CR, LF or NUL in it) nor a field line (no colon after "

@@ -106,7 +106,7 @@ impl StartFault {
             StartFault::BarredByte => "a CR, LF or NUL in it",
             StartFault::NoVersion => "no version",
             StartFault::NoStatusCode => "no status code of three digits",
-            StartFault::NoVersionAtEnd => "no HTTP version at the end",
+            StartFault::NoVersionAtEnd => "no method, target and version",
         }
     }
 }

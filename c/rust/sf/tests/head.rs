@@ -191,7 +191,7 @@ fn heads_of_a_kind() {
     let response = "the head of a response begins with a status line";
     let end = "the head does not end with an empty line";
     let no_colon = "not a field line: no colon after the name";
-    let neither = "neither a start line (no HTTP version at the end) nor a field line (no colon \
+    let neither = "neither a start line (no method, target and version) nor a field line (no colon \
                    after the name)";
     // Of each fault the number of the line, the place and the words, in a request and a response.
     type Faults<'a> = Vec<(usize, usize, &'a str)>;
@@ -538,7 +538,7 @@ fn words_of_lines() {
     let [begins, continues] = ["it begins with white space", "it continues the line before"];
     let within = "a CR, LF or NUL in it";
     let no_code = "no status code of three digits";
-    let at_end = "no HTTP version at the end";
+    let at_end = "no method, target and version";
     for (line, at, start, place, first, other) in [
         (" x", 0, at_end, 0, begins, continues),
         ("\t: x", 0, at_end, 0, begins, continues),
