@@ -673,7 +673,7 @@ fn start_fault(line: &[u8]) -> (StartFault, Option<usize>) {
             (StartFault::NoStatusCode, Some(length + usize::from(space)))
         }
         None if line.starts_with(b"HTTP/") => (StartFault::NoVersion, Some(5)),
-        None => (StartFault::NoVersionAtEnd, None),
+        None => (StartFault::NotARequestLine, None),
     }
 }
 

@@ -91,7 +91,7 @@ pub enum StartFault {
     /// (section 4).
     NoStatusCode,
     /// It is neither of the others, and no request line (section 3).
-    NoVersionAtEnd,
+    NotARequestLine,
 }
 
 impl StartFault {
@@ -106,7 +106,7 @@ impl StartFault {
             StartFault::BarredByte => "a CR, LF or NUL in it",
             StartFault::NoVersion => "no version",
             StartFault::NoStatusCode => "no status code of three digits",
-            StartFault::NoVersionAtEnd => "no method, target and version",
+            StartFault::NotARequestLine => "no method, target and version",
         }
     }
 }
