@@ -1229,10 +1229,10 @@ static void messages_of_faults(void) {
     fault.location.line = k == 0 ? sf_text_of(NULL, 0) : sf_cstr(k == 1 ? "a:" : "HTTP/1.1 200");
     fault.location.refusal.offset = 0;
     CHECK(says_in("f", &fault, 2,
-                  k == 0   ? "f, line " NUMBER ", place 0: neither a start line (no HTTP version at the "
-                             "end) nor a field line (no name)\n\n^"
-                  : k == 1 ? "f, line " NUMBER ", place 0: neither a start line (no HTTP version at the "
-                             "end) nor a field line (no name)\na:\n^"
+                  k == 0   ? "f, line " NUMBER ", place 0: neither a start line (no method, target and "
+                             "version) nor a field line (no name)\n\n^"
+                  : k == 1 ? "f, line " NUMBER ", place 0: neither a start line (no method, target and "
+                             "version) nor a field line (no name)\na:\n^"
                            : "f, line " NUMBER ", place 0: neither a start line (no status code of three "
                              "digits) nor a field line (no colon after the name)\nHT\n^"));
   }
