@@ -717,7 +717,7 @@ static inline sf_status sf_write_bare(sf_context *context, const sf_tree *tree, 
 
 /* Writes an Item or an Inner List of a tree with its parameters, without the key of a member:
  * ("a" "b");q=1. The results and the size are those of sf_write_bare, but a parameter is
- * SF_INVALID. While the call runs, the first node of the part is changed; after it the tree is as
+ * SF_INVALID. While the call runs, the nodes of the part are changed; after it the tree is as
  * before. */
 SF_USE_RESULT
 static inline sf_status sf_write_part(sf_context *context, sf_tree *tree, const sf_node *node,
@@ -1712,9 +1712,9 @@ typedef struct sf_exchange {
                              requirements, otherwise 0: counts for 206, 304 and must-understand.
                              Most caches understand 200; with 0, fewer responses are stored */
   uint32_t is_authorized; /* 1 if the request had Authorization, otherwise 0: see sf_set_request */
-  uint32_t is_request_incomplete; /* 1 if it may have had Authorization, since its head is
-                                     incomplete or did not end, or is that of a response; otherwise
-                                     0 */
+  uint32_t is_request_incomplete; /* 1 if the head of the request is incomplete or did not end, or
+                                     is that of a response: it may have had Authorization or
+                                     no-store; otherwise 0 */
   uint32_t is_other_method;       /* 1 if the method of the request is neither GET nor HEAD, for
                                      which caches mostly store no response (RFC 9110 section 9.2.3);
                                      otherwise 0 */
@@ -1749,9 +1749,8 @@ typedef enum sf_obstacle {
   SF_BARRED_NO_RESPONSE = 87, /* the head is that of a request (is_request) */
   SF_BARRED_MALFORMED = 88,   /* no target decides, and a line of Cache-Control is malformed, so
                                  that it counts as no-store */
-  SF_BARRED_REQUEST_HEAD = 89, /* the request may have had Authorization, as its head is
-                                  incomplete, the cache is shared, and no directive permits it
-                                  (3.5) */
+  SF_BARRED_REQUEST_HEAD = 89, /* the head of the request is incomplete, so that no-store or
+                                  Authorization may be missing (is_request_incomplete) */
   SF_BARRED_METHOD = 90,       /* the method of the request is neither GET nor HEAD (RFC 9110
                                   section 9.2.3) */
   SF_BARRED_REQUEST_NO_STORE = 103 /* the request has no-store (5.2.1.5), or a malformed

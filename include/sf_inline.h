@@ -627,11 +627,92 @@ static inline sf_status sf_set_text(sf_tree *tree, sf_node *node, sf_type type, 
   return SF_OK;
 }
 
+/* A part of the text of a tree and one of its bytes, which offsets of nodes count as one: for the
+ * functions below. */
+typedef struct sf_extent {
+  size_t text_at, text_length, bytes_at, bytes_length;
+} sf_extent;
+
+/* Returns an offset of one extent as an offset of another one. That of what is absent stays 0. */
+static inline uint32_t sf_moved(uint32_t at, uint32_t length, const sf_extent *from,
+                                const sf_extent *to) {
+  if (at == 0 && length == 0)
+    return 0;
+  if ((uint64_t)at + length <= from->text_length)
+    return (uint32_t)(at + from->text_at - to->text_at);
+  return (uint32_t)(at - from->text_length + from->bytes_at - to->bytes_at + to->text_length);
+}
+
+/* Moves the offsets of nodes from one extent to another one. */
+static inline void sf_move_nodes(sf_node *nodes, size_t count, const sf_extent *from,
+                                 const sf_extent *to) {
+  size_t i;
+  for (i = 0; i < count; ++i) {
+    nodes[i].key_at = sf_moved(nodes[i].key_at, nodes[i].key_length, from, to);
+    nodes[i].text_at = sf_moved(nodes[i].text_at, nodes[i].text_length, from, to);
+  }
+}
+
+/* Returns the extent of all of a tree. */
+static inline sf_extent sf_whole_of(const sf_tree *tree) {
+  sf_extent whole;
+  whole.text_at = 0;
+  whole.text_length = tree->text.length;
+  whole.bytes_at = 0;
+  whole.bytes_length = tree->bytes.length;
+  return whole;
+}
+
+/* Widens a range by another one, which is not empty at 0. */
+static inline void sf_widen(size_t *from, size_t *to, size_t at, size_t end) {
+  *from = at < *from ? at : *from;
+  *to = end > *to ? end : *to;
+}
+
+/* Returns the extent of what these nodes of a tree refer to; that of all of it if one of them refers
+ * to bytes that are not in one of the two. It begins a byte earlier, if there is one, so that only
+ * what is absent has the offset 0. */
+static inline sf_extent sf_extent_of(const sf_tree *tree, const sf_node *nodes, size_t count) {
+  size_t begin[2] = {SIZE_MAX, SIZE_MAX}, end[2] = {0, 0}, i;
+  uint64_t length = tree->text.length;
+  sf_extent part;
+  for (i = 0; i < 2 * count; ++i) {
+    const sf_node *node = &nodes[i / 2];
+    uint64_t at = i % 2 == 0 ? node->key_at : node->text_at;
+    uint64_t to = at + (i % 2 == 0 ? node->key_length : node->text_length);
+    if (to == 0)
+      continue;
+    if (to <= length)
+      sf_widen(&begin[0], &end[0], (size_t)at, (size_t)to);
+    else if (at >= length && to - length <= tree->bytes.length)
+      sf_widen(&begin[1], &end[1], (size_t)(at - length), (size_t)(to - length));
+    else
+      return sf_whole_of(tree);
+  }
+  part.text_at = end[0] == 0 || begin[0] == 0 ? 0 : begin[0] - 1;
+  part.text_length = end[0] - part.text_at;
+  part.bytes_at = end[1] == 0 || begin[1] == 0 ? 0 : begin[1] - 1;
+  part.bytes_length = end[1] - part.bytes_at;
+  return part;
+}
+
+/* Writes nodes whose offsets are those of an extent of a tree. */
+static inline sf_status sf_write_extent(sf_context *context, sf_kind kind, const sf_node *nodes,
+                                       size_t count, const sf_tree *tree, const sf_extent *part,
+                                       sf_buffer *out) {
+  const char *text = part->text_at == 0 ? tree->text.at : tree->text.at + part->text_at;
+  const char *bytes = part->bytes_at == 0 ? tree->bytes.at : tree->bytes.at + part->bytes_at;
+  size_t required = 0, invalid = 0;
+  uint32_t status = sf_write(&context->seed, context->dialect, kind, nodes, count, text,
+                             part->text_length, bytes, part->bytes_length, out->at, out->capacity,
+                             &required, &invalid);
+  return sf_wrote(out, status, required);
+}
+
 static inline sf_status sf_write_bare(sf_context *context, const sf_tree *tree, const sf_node *node,
                                      sf_buffer *out) {
+  sf_extent whole = sf_whole_of(tree), part;
   sf_node item;
-  size_t required = 0, invalid = 0;
-  uint32_t status;
   if (tree->kind == 0)
     return sf_wrote(out, SF_BAD_CALL, 0);
   item = *node;
@@ -639,31 +720,35 @@ static inline sf_status sf_write_bare(sf_context *context, const sf_tree *tree, 
   item.key_length = 0;
   item.size = 1;
   item.role = SF_MEMBER;
-  status = sf_write(&context->seed, context->dialect, SF_ITEM, &item, 1, tree->text.at,
-                    tree->text.length, tree->bytes.at, tree->bytes.length, out->at, out->capacity,
-                    &required, &invalid);
-  return sf_wrote(out, status, required);
+  part = sf_extent_of(tree, &item, 1);
+  sf_move_nodes(&item, 1, &whole, &part);
+  return sf_write_extent(context, SF_ITEM, &item, 1, tree, &part, out);
 }
 
 static inline sf_status sf_write_part(sf_context *context, sf_tree *tree, const sf_node *node,
                                      sf_buffer *out) {
+  sf_extent whole = sf_whole_of(tree), part;
   sf_node *first, before;
-  size_t required = 0, invalid = 0;
-  uint32_t status;
+  size_t index;
+  sf_status status;
   if (tree->kind == 0)
     return sf_wrote(out, SF_BAD_CALL, 0);
   if (node->role == SF_PARAMETER || node->role == SF_INNER_PARAMETER)
     return sf_wrote(out, SF_INVALID, 0);
-  first = tree->nodes.at + (node - tree->nodes.at);
+  index = (size_t)(node - tree->nodes.at);
+  if (index >= tree->nodes.length || node->size > tree->nodes.length - index)
+    return sf_wrote(out, SF_INVALID, 0);
+  first = tree->nodes.at + index;
   before = *first;
   first->key_at = 0;
   first->key_length = 0;
   first->role = SF_MEMBER;
-  status = sf_write(&context->seed, context->dialect, SF_LIST, first, before.size, tree->text.at,
-                    tree->text.length, tree->bytes.at, tree->bytes.length, out->at, out->capacity,
-                    &required, &invalid);
+  part = sf_extent_of(tree, first, before.size);
+  sf_move_nodes(first, before.size, &whole, &part);
+  status = sf_write_extent(context, SF_LIST, first, before.size, tree, &part, out);
+  sf_move_nodes(first, before.size, &part, &whole);
   *first = before;
-  return sf_wrote(out, status, required);
+  return status;
 }
 
 static inline sf_status sf_write_tree(sf_context *context, const sf_tree *tree, sf_buffer *out) {
@@ -1825,11 +1910,11 @@ static inline const char *sf_obstacle_name(uint32_t obstacle) {
   case SF_BARRED_MALFORMED:
     return "Cache-Control is malformed";
   case SF_BARRED_REQUEST_HEAD:
-    return "the request may have had Authorization, as its head is incomplete";
+    return "the head of the request is incomplete";
   case SF_BARRED_METHOD:
     return "the method of the request is neither GET nor HEAD";
   case SF_BARRED_REQUEST_NO_STORE:
-    return "the request has no-store";
+    return "the request has no-store or a malformed Cache-Control";
   default:
     return "";
   }
@@ -1839,13 +1924,14 @@ static inline const char *sf_obstacle_name(uint32_t obstacle) {
 static inline uint32_t sf_obstacle_of(const sf_decision *decision, const sf_exchange *exchange,
                                       const sf_head *head, int is_refused, int has_expires) {
   uint32_t status = exchange->status != 0 ? exchange->status : head->status;
-  int is_for_one = exchange->cache == SF_SHARED_CACHE && !decision->allows_authorized;
   if (decision->reuse == SF_REUSE_NOT_STORED)
     return is_refused ? SF_BARRED_MALFORMED : SF_BARRED_DIRECTIVE;
   if (exchange->is_other_method)
     return SF_BARRED_METHOD;
   if (exchange->is_request_no_store)
     return SF_BARRED_REQUEST_NO_STORE;
+  if (exchange->is_request_incomplete)
+    return SF_BARRED_REQUEST_HEAD;
   if (head->is_request)
     return SF_BARRED_NO_RESPONSE;
   if (head->is_incomplete || head->is_truncated)
@@ -1854,10 +1940,8 @@ static inline uint32_t sf_obstacle_of(const sf_decision *decision, const sf_exch
     return SF_BARRED_STATUS;
   if ((status == 206 || status == 304) && !exchange->is_understood)
     return SF_BARRED_STATUS;
-  if (is_for_one && exchange->is_authorized)
+  if (exchange->cache == SF_SHARED_CACHE && exchange->is_authorized && !decision->allows_authorized)
     return SF_BARRED_REQUEST;
-  if (is_for_one && exchange->is_request_incomplete)
-    return SF_BARRED_REQUEST_HEAD;
   if (decision->allows_storing || has_expires)
     return SF_NO_OBSTACLE;
   switch (status) {

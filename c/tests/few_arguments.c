@@ -1670,13 +1670,13 @@ static void verdicts_in_words(void) {
   verdict.decision.reuse = SF_REUSE_FRESH;
   verdict.decision.seconds = UINT64_MAX;
   verdict.decision.cause = SF_BY_INVALID_S_MAXAGE;
-  verdict.obstacle = SF_BARRED_REQUEST_HEAD;
+  verdict.obstacle = SF_BARRED_REQUEST_NO_STORE;
   verdict.field = "T";
   char text[SF_VERDICT_SIZE(1)];
   sf_buffer out = SF_BUFFER(text);
   CHECK(sf_write_verdict(&verdict, &out) == SF_OK);
   CHECK(is(sf_written(&out), "T: fresh for 18446744073709551615 s (invalid s-maxage); not stored: the "
-                             "request may have had Authorization, as its head is incomplete"));
+                             "request has no-store or a malformed Cache-Control"));
 }
 
 /* The Items of Inner Lists, and the texts of parts of a tree. */
@@ -2282,12 +2282,12 @@ static void storing(void) {
       {"T: x", SF_SHARED_CACHE, 500, 0, 0, SF_BARRED_UNPERMITTED},
       {"T: max-age=60", SF_SHARED_CACHE, 500, 0, 0, SF_NO_OBSTACLE},
       {"T: max-age=60", SF_SHARED_CACHE, 200, 0, MAY_HAVE, SF_BARRED_REQUEST_HEAD},
-      {"T: max-age=60", SF_SHARED_CACHE, 200, 0, HAS | MAY_HAVE, SF_BARRED_REQUEST},
-      {"T: max-age=60", SF_PRIVATE_CACHE, 200, 0, HAS | MAY_HAVE, SF_NO_OBSTACLE},
-      {"T: max-age=60, must-revalidate", SF_SHARED_CACHE, 200, 0, MAY_HAVE, SF_NO_OBSTACLE},
-      {"Cache-Control: public", SF_SHARED_CACHE, 500, 0, MAY_HAVE, SF_NO_OBSTACLE},
+      {"T: max-age=60", SF_SHARED_CACHE, 200, 0, HAS | MAY_HAVE, SF_BARRED_REQUEST_HEAD},
+      {"T: max-age=60", SF_PRIVATE_CACHE, 200, 0, HAS | MAY_HAVE, SF_BARRED_REQUEST_HEAD},
+      {"T: max-age=60, must-revalidate", SF_SHARED_CACHE, 200, 0, MAY_HAVE, SF_BARRED_REQUEST_HEAD},
+      {"Cache-Control: public", SF_SHARED_CACHE, 500, 0, MAY_HAVE, SF_BARRED_REQUEST_HEAD},
       {"Cache-Control: no-store", SF_SHARED_CACHE, 200, 0, MAY_HAVE, SF_BARRED_DIRECTIVE},
-      {"Cache-Control: max-age=60", SF_SHARED_CACHE, 103, 0, MAY_HAVE, SF_BARRED_STATUS},
+      {"Cache-Control: max-age=60", SF_SHARED_CACHE, 103, 0, MAY_HAVE, SF_BARRED_REQUEST_HEAD},
       {"X: y", SF_SHARED_CACHE, 500, 0, MAY_HAVE, SF_BARRED_REQUEST_HEAD},
       {"Cache-Control: a b", SF_SHARED_CACHE, 200, 0, 0, SF_BARRED_MALFORMED},
       {"Cache-Control: a b", SF_PRIVATE_CACHE, 103, 1, HAS | MAY_HAVE, SF_BARRED_MALFORMED},
@@ -2331,7 +2331,8 @@ static void storing(void) {
     CHECK(sf_decide_response(&context, &head, &target, 1, &exchange, &verdict) == SF_OK);
     int is_before =
         rows[i].obstacle == SF_BARRED_DIRECTIVE || rows[i].obstacle == SF_BARRED_MALFORMED ||
-        rows[i].obstacle == SF_BARRED_METHOD || rows[i].obstacle == SF_BARRED_REQUEST_NO_STORE;
+        rows[i].obstacle == SF_BARRED_METHOD || rows[i].obstacle == SF_BARRED_REQUEST_NO_STORE ||
+        rows[i].obstacle == SF_BARRED_REQUEST_HEAD;
     CHECK(verdict.obstacle == (is_before ? rows[i].obstacle : (uint32_t)SF_BARRED_HEAD));
     CHECK(verdict.may_store == 0);
   }
@@ -2388,10 +2389,10 @@ static void storing(void) {
   CHECK(strcmp(sf_obstacle_name(SF_BARRED_HEAD), "the head is incomplete") == 0);
   CHECK(strcmp(sf_obstacle_name(SF_BARRED_MALFORMED), "Cache-Control is malformed") == 0);
   CHECK(strcmp(sf_obstacle_name(SF_BARRED_REQUEST_HEAD),
-               "the request may have had Authorization, as its head is incomplete") == 0);
+               "the head of the request is incomplete") == 0);
   CHECK(strcmp(sf_obstacle_name(SF_BARRED_METHOD),
                "the method of the request is neither GET nor HEAD") == 0);
-  CHECK(strcmp(sf_obstacle_name(SF_BARRED_REQUEST_NO_STORE), "the request has no-store") == 0);
+  CHECK(strcmp(sf_obstacle_name(SF_BARRED_REQUEST_NO_STORE), "the request has no-store or a malformed Cache-Control") == 0);
   CHECK(strcmp(sf_obstacle_name(SF_NO_OBSTACLE), "") == 0 && strcmp(sf_obstacle_name(0), "") == 0);
   CHECK(strcmp(sf_obstacle_name(91), "") == 0 && strcmp(sf_obstacle_name(104), "") == 0);
 }

@@ -55,7 +55,7 @@ pub struct Exchange {
     /// Whether the request had `Authorization` (section 3.5).
     pub is_authorized: bool,
     /// Whether a line of the request's head is no field line, or that head did not end, or is that
-    /// of a response: the request may have had `Authorization`.
+    /// of a response: the request may have had `Authorization` or `no-store`.
     pub is_request_incomplete: bool,
     /// Whether a line of the head is no field line ([`crate::split_field_line`]), or the head did not
     /// end: a directive may be missing.
@@ -332,19 +332,17 @@ impl Exchange {
         if self.is_request_no_store {
             return Some(Obstacle::RequestNoStore);
         }
+        if self.is_request_incomplete {
+            return Some(Obstacle::RequestHead);
+        }
         if self.is_incomplete {
             return Some(Obstacle::Incomplete);
         }
         if !self.is_storable() {
             return Some(Obstacle::Status);
         }
-        if self.cache == Cache::Shared && !decision.allows_authorized {
-            if self.is_authorized {
-                return Some(Obstacle::Authorization);
-            }
-            if self.is_request_incomplete {
-                return Some(Obstacle::RequestHead);
-            }
+        if self.cache == Cache::Shared && self.is_authorized && !decision.allows_authorized {
+            return Some(Obstacle::Authorization);
         }
         let is_permitted =
             decision.allows_storing || has_expires || self.is_heuristically_cacheable();
@@ -464,8 +462,8 @@ pub enum Obstacle {
     /// The request had `Authorization`, the cache is shared, and no directive permits it (section
     /// 3.5).
     Authorization,
-    /// The head of the request is incomplete ([`Exchange::is_request_incomplete`]), so that it may
-    /// have had `Authorization`; the cache is shared, and no directive permits it (section 3.5).
+    /// The head of the request is incomplete ([`Exchange::is_request_incomplete`]), so that
+    /// `no-store` or `Authorization` may be missing.
     RequestHead,
     /// Nothing permits it: no directive, no `Expires` that counts, and the status code is not
     /// heuristically cacheable (RFC 9110 section 15.1).
@@ -489,12 +487,10 @@ impl Obstacle {
             Obstacle::Directive => "a directive forbids it",
             Obstacle::Malformed => "Cache-Control is malformed",
             Obstacle::Method => "the method of the request is neither GET nor HEAD",
-            Obstacle::RequestNoStore => "the request has no-store",
+            Obstacle::RequestNoStore => "the request has no-store or a malformed Cache-Control",
             Obstacle::Status => "the status code forbids it",
             Obstacle::Authorization => "the request had Authorization",
-            Obstacle::RequestHead => {
-                "the request may have had Authorization, as its head is incomplete"
-            }
+            Obstacle::RequestHead => "the head of the request is incomplete",
             Obstacle::Unpermitted => "nothing permits it",
             Obstacle::Incomplete => "the head is incomplete",
             Obstacle::NotAResponse => "the head is that of a request",

@@ -167,18 +167,22 @@ fn what_may_be_stored() {
     ] {
         let head = control(directives);
         assert_eq!(obstacle(authorized, &head), expected, "{directives}");
-        assert_eq!(obstacle(both, &head), expected, "{directives}");
-        let of_cut_off = match expected {
-            Some(Obstacle::Authorization) => Some(Obstacle::RequestHead),
-            expected => expected,
-        };
-        assert_eq!(obstacle(cut_off, &head), of_cut_off, "{directives}");
+        let directive = expected.filter(|obstacle| *obstacle == Obstacle::Directive);
         let private = Exchange {
             cache: Cache::Private,
-            ..both
+            ..authorized
         };
-        let expected = expected.filter(|obstacle| *obstacle == Obstacle::Directive);
-        assert_eq!(obstacle(private, &head), expected, "{directives}");
+        assert_eq!(obstacle(private, &head), directive, "{directives}");
+        // no-store may be missing, too
+        let of_cut_off = directive.or(Some(Obstacle::RequestHead));
+        for exchange in [cut_off, both] {
+            let private = Exchange {
+                cache: Cache::Private,
+                ..exchange
+            };
+            assert_eq!(obstacle(exchange, &head), of_cut_off, "{directives}");
+            assert_eq!(obstacle(private, &head), of_cut_off, "{directives}");
+        }
     }
     // Section 4.2.2: public permits a heuristic, but not if a field sets a lifetime.
     let allows_heuristic =

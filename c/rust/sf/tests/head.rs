@@ -405,7 +405,7 @@ fn what_requests_say_of_storing() {
         words,
         [
             "the method of the request is neither GET nor HEAD",
-            "the request has no-store"
+            "the request has no-store or a malformed Cache-Control"
         ]
     );
 }
@@ -940,7 +940,7 @@ fn obstacles_of_requests_and_directives() {
     let authorized = "GET / HTTP/1.1\nAge 1\nauthorization: a\n";
     let had = "; not stored: the request had Authorization";
     let may_have_had =
-        "; not stored: the request may have had Authorization, as its head is incomplete";
+        "; not stored: the head of the request is incomplete";
     let fresh = "Cache-Control: fresh for 60 s (max-age)";
     let malformed = "Cache-Control: not stored (malformed)";
     for (request, response, shared, private) in [
@@ -1043,7 +1043,7 @@ fn obstacles_of_requests_and_directives() {
     );
     assert_eq!(
         Obstacle::RequestHead.to_string(),
-        "the request may have had Authorization, as its head is incomplete"
+        "the head of the request is incomplete"
     );
 }
 
