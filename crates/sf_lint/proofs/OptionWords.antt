@@ -21,7 +21,8 @@ use Rattle.sf_lint.specs.declared.options.Options.{Options}
 use Rattle.sf_lint.specs.declared.options.OptionsFault.{OptionsFault}
 use Rattle.sf_lint.specs.declared.options.OptionsFault.TheVariants.{Usage, Help, Version}
 use Rattle.sf_lint.specs.declared.options.OptionsFault.TheVariants.{OutOfMemory}
-use Rattle.sf_lint.specs.Options.{custom_of, field_with, kind_named, AreFields, AreGiven}
+use Rattle.sf_tool.specs.CommandLine.{kind_named}
+use Rattle.sf_lint.specs.Options.{custom_of, field_with, AreFields, AreGiven}
 use Rattle.sf_lint.specs.Options.{AreOptionsOf, AreGivenOptions, IsFaultOf, IsGivenFault}
 use Rattle.sf_lint.specs.Options.{IsFieldsFault, IsOptionsFault}
 use Rattle.sf_lint.specs.Options.{command_line, field_words}

@@ -1,16 +1,12 @@
 -- A report with the decisions of caches, if there are any.
 use Rattle.std.proofs.Common.{◌≡◌, ℕ, suc, ◌+◌, ◌++◌, Bool, false, ◌||◌, List, [], length, get_or}
-use Rattle.std.proofs.Common.{Option, Some, None, refl, ap, ◌∙◌, append_assoc, append-nil}
+use Rattle.std.proofs.Common.{Option, Some, None, refl, ap, ◌∙◌, append-nil}
 use Rattle.std.specs.Str.Lines.{lines}
 use Rattle.sf_lint.specs.declared.settings.CacheSettings.{CacheSettings}
 use Rattle.sf_lint.specs.declared.settings.Settings.{Settings}
 use Rattle.sf_lint.specs.Head.{line_of}
 use Rattle.sf_lint.specs.Heads.{MayDecide, ReportsLinesWith, ReportsWith}
 use Rattle.sf_lint.specs.Report.{ReportsLine, others_text, shown}
-
--- four texts one after the other
-pub four : (a b c d : List ℕ) → ((a ++ b) ++ c) ++ d ≡ a ++ (b ++ (c ++ d))
-four a b c d = simp append_assoc
 
 pub reports-none : (caches : Option CacheSettings) (s : Settings) (ls : List (List ℕ))
     (text : List ℕ) (refused : Bool) (others : ℕ)

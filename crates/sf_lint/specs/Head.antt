@@ -1,5 +1,5 @@
 -- The lines of heads, and the messages that they belong to.
-use Rattle.std.specs.Prelude.{◌≡◌, ℕ, ◌<◌, ◌≤◌, Bool, true, false, ◌&&◌, ◌||◌, not, ◌==◌, nat_lt}
+use Rattle.std.specs.Prelude.{◌≡◌, ℕ, ◌<◌, ◌≤◌, Bool, true, false, ◌&&◌, ◌||◌, ◌==◌, nat_lt}
 use Rattle.std.specs.Prelude.{List, [], ◌∷◌, length, map, drop, get_or, codes, if◌then◌else◌}
 use Rattle.std.specs.List.{list_all, list_any, filter, starts_with, before_first, after_first}
 use Rattle.std.specs.Str.{str_eq_ignore_ascii_case}

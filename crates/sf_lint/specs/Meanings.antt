@@ -25,6 +25,8 @@ use Rattle.sf_tool.specs.ChoiceLines.{policy_lines}
 use Rattle.sf_tool.specs.PathLines.{path_lines}
 use Rattle.sf_tool.specs.PriorityLine.{priority_line}
 use Rattle.sf_lint.specs.declared.colours.Verdict.TheVariants.{Ignored, Invalid}
+use Rattle.sf_lint.specs.declared.ignored.ParamType.{ParamType}
+use Rattle.sf_lint.specs.declared.ignored.ParamType.TheVariants as type
 use Rattle.sf_lint.specs.declared.settings.Settings.{Settings}
 use Rattle.sf_lint.specs.Colours.{verdict_text}
 use Rattle.sf_lint.specs.Settings.{is_targeted}
@@ -52,6 +54,19 @@ ignored_at s n params meant key =
 -- a status code, if the parameter is an Integer that is one
 abbrev pub status_at : Seq ℕ → Pairs Bare → Option ℕ
 status_at key params = status_of (integer_at key params)
+
+-- no parameter of this type has the key
+abbrev pub is_unread : ParamType → Seq ℕ → Pairs Bare → Bool
+is_unread type.Boolean key params = is_none (boolean_at key params)
+is_unread type.Integer key params = is_none (integer_at key params)
+is_unread type.Status key params = is_none (status_at key params)
+is_unread type.Token key params = is_none (token_at key params)
+is_unread type.Text key params = is_none (text_at key params)
+is_unread type.Name key params = is_none (name_at key params)
+
+-- the parameter is present, but is not of this type
+abbrev pub is_other : ParamType → Seq ℕ → Pairs Bare → Bool
+is_other expected key params = is_some (value_at key params) && is_unread expected key params
 
 -- the lines for the ignored parameters of the n-th member, among the eight that RFC 9211 defines
 -- (sections 2.1 to 2.8)

@@ -12,8 +12,7 @@ use Rattle.clap.specs.Walk.{Row, Rule, Text, all_of, first_of}
 use Rattle.clap.specs.declared.builder.action.ArgAction.TheVariants.{Append, SetTrue}
 use Rattle.clap.specs.declared.error.kind.ErrorKind.TheVariants.{DisplayHelp, DisplayVersion}
 use Rattle.sf_value.specs.declared.value.Kind.{Kind}
-use Rattle.sf_value.specs.declared.value.Kind.TheVariants as kind
-use Rattle.sf_tool.specs.CommandLine.{AreNames, IsGivenAge, option_of}
+use Rattle.sf_tool.specs.CommandLine.{AreNames, IsGivenAge, kind_named, option_of}
 use Rattle.sf_tool.specs.Fields.{is_colon, has_name, name_of}
 use Rattle.sf_tool.specs.declared.status.Status.{Status}
 use Rattle.sf_tool.specs.declared.status.Status.TheVariants as status
@@ -55,14 +54,6 @@ command_line = record {
   };
   subs = [];
 }
-
--- the kind that a word names
-abbrev pub kind_named : Text → Option Kind
-kind_named word =
-    if bytes_eq word (codes "item") then Some kind.Item
-    else if bytes_eq word (codes "list") then Some kind.List
-    else if bytes_eq word (codes "dict") then Some kind.Dict
-    else None
 
 abbrev pub field_with : Text → Kind → CustomField
 field_with name kind = record { name = name; kind = kind }

@@ -1,5 +1,5 @@
 -- Status codes (RFC 9110 section 15), by which a cache may store a response (RFC 9111 section 3).
-use Rattle.std.specs.Prelude.{ℕ, Bool, true, false, ◌&&◌, ◌||◌, ◌==◌, nat_le, List, length}
+use Rattle.std.specs.Prelude.{ℕ, Bool, true, ◌&&◌, ◌||◌, ◌==◌, nat_le, List, length}
 use Rattle.std.specs.Prelude.{Option, Some, None, is_some, if◌then◌else◌}
 use Rattle.std.specs.List.{before_first}
 use Rattle.sf_value.specs.Grammar.Classes.{is_sp}

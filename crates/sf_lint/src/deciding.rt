@@ -1,5 +1,5 @@
 //! What caches decide about the response of a head.
-ghost use Rattle.std.specs.Prelude.{◌≡◌, ◌||◌, ◌++◌, ◌+◌, ◌<◌, ◌^◌, length, map, codes, IfOk};
+ghost use Rattle.std.specs.Prelude.{◌≡◌, ◌||◌, ◌+◌, ◌<◌, ◌^◌, length, map, IfOk};
 ghost use Rattle.sf_write.specs.Writing.{Follows};
 ghost use Rattle.sf_tool.specs.Deciding.{IsRulesPlaceOf};
 ghost use Rattle.sf_lint.specs.Deciding.{IsChoiceText, IsDecisionText, IsDecisionTextIn, IsHeadText};
@@ -10,8 +10,8 @@ ghost use Rattle.sf_lint.specs.StatusCodes.{is_storable as is_storable_in};
 use crate::ages::age_of;
 use crate::settings::CacheSettings;
 use crate::status_codes::{is_storable, rules_for};
-use http_header::{AGE, CACHE_CONTROL, DATE, EXPIRES, HeaderMap, HeaderName};
-use sf_tool::{InputFault, put_decision, read_field_lines};
+use http_header::{AGE, DATE, EXPIRES, HeaderMap, HeaderName};
+use sf_tool::{InputFault, by_each_dialect, put_decision, read_field_lines, with_cache_control};
 use sf_use::{
     CacheKind, CacheRules, Decision, Reuse, RulesChoice, expires_of, fallback_rules,
     select_rules_in,
@@ -129,7 +129,7 @@ fn decided_text(
 
 /// Returns the lines of a choice among these targets: by the field that is chosen, or by
 /// `Cache-Control` and `Expires`.
-fn choice_text(
+fn choice_lines(
     alloc: Global,
     targets: &[HeaderName],
     headers: &HeaderMap,
@@ -154,7 +154,7 @@ fn choice_text(
 }
 
 /// Returns the lines of what caches decide that parse targeted fields in this dialect.
-fn decision_text_in(
+fn decision_lines_in(
     alloc: Global,
     seed: &RandomState,
     dialect: Dialect,
@@ -166,24 +166,12 @@ fn decision_text_in(
         (λ text. IsDecisionTextIn dialect targets.now headers.now response text.items) }
 {
     let choice = select_rules_in(alloc, seed, dialect, targets, headers)?;
-    choice_text(alloc, targets, headers, response, choice)
-}
-
-/// Returns the answers of both dialects.
-fn different(alloc: Global, older: &[u8], newer: &[u8]) -> Result<Vec<u8>, OutOfMemory>
-    ensures { IfOk result (λ text. text.items ≡ ((codes "by RFC 8941:\n" ++ older.now)
-        ++ codes "by RFC 9651:\n") ++ newer.now) }
-{
-    let mut text = Vec::from_slice(alloc, b"by RFC 8941:\n")?;
-    text.extend_from_slice(older)?;
-    text.extend_from_slice(b"by RFC 9651:\n")?;
-    text.extend_from_slice(newer)?;
-    Ok(text)
+    choice_lines(alloc, targets, headers, response, choice)
 }
 
 /// Returns the lines of what caches decide: once if both dialects give the same, and otherwise by
 /// each.
-fn decision_text(
+fn decision_lines(
     alloc: Global,
     seed: &RandomState,
     targets: &[HeaderName],
@@ -193,12 +181,12 @@ fn decision_text(
     ensures { IfOk result
         (λ text. IsDecisionText targets.now headers.now response text.items) }
 {
-    let older = decision_text_in(alloc, seed, Dialect::Rfc8941, targets, headers, response)?;
-    let newer = decision_text_in(alloc, seed, Dialect::Rfc9651, targets, headers, response)?;
+    let older = decision_lines_in(alloc, seed, Dialect::Rfc8941, targets, headers, response)?;
+    let newer = decision_lines_in(alloc, seed, Dialect::Rfc9651, targets, headers, response)?;
     if older.as_slice() == newer.as_slice() {
         return Ok(older);
     }
-    different(alloc, older.as_slice(), newer.as_slice())
+    by_each_dialect(alloc, older.as_slice(), newer.as_slice())
 }
 
 /// Returns the names of the fields that are read: the targets, and those that decide or count
@@ -206,11 +194,7 @@ fn decision_text(
 fn read_names(alloc: Global, targets: &[HeaderName]) -> Result<Vec<HeaderName>, OutOfMemory>
     ensures { IfOk result (λ all. all.items ≡ field_names targets.now) }
 {
-    let mut all = Vec::new(alloc);
-    for name in targets {
-        all.push(name.clone()?)?;
-    }
-    all.push(CACHE_CONTROL)?;
+    let mut all = with_cache_control(alloc, targets)?;
     all.push(EXPIRES)?;
     all.push(DATE)?;
     all.push(AGE)?;
@@ -255,7 +239,7 @@ pub(crate) fn head_text(
         Ok(headers) => {
             let age = response_age(caches, &headers);
             let response = Response { status, age };
-            return decision_text(alloc, seed, targets, &headers, response);
+            return decision_lines(alloc, seed, targets, &headers, response);
         }
         Err(InputFault::Line(index)) => return unread_text(alloc, number as u64 + index),
         Err(InputFault::OutOfMemory) => return Err(OutOfMemory),

@@ -1,12 +1,9 @@
 //! The parameters of Cache-Status (RFC 9211) that are ignored, since they have another type or
 //! range than the RFC states, and those that are not ignored, but invalid.
 ghost use Rattle.std.specs.Prelude.{◌≡◌, ◌++◌, IfOk};
-ghost use Rattle.sf_value.specs.Grammar.Pairs.{value_at};
 ghost use Rattle.sf_value.specs.Lookups.{as_integer as integer_of};
 ghost use Rattle.sf_use.specs.CacheStatus.Hops.{status_of as status_in};
-ghost use Rattle.sf_use.specs.CacheStatus.Parameters.{boolean_at, integer_at, name_at};
-ghost use Rattle.sf_use.specs.CacheStatus.Parameters.{text_at, token_at};
-ghost use Rattle.sf_lint.specs.Meanings.{hop_key, ignored_line, is_ignored, status_at};
+ghost use Rattle.sf_lint.specs.Meanings.{hop_key, ignored_line, is_other as is_other_in};
 ghost use Rattle.sf_lint.specs.Meanings.{has_both, has_invalid_status, invalid_line};
 ghost use Rattle.sf_lint.specs.Meanings.{ignored_params as params_in};
 ghost use Rattle.sf_lint.specs.Meanings.{invalid_params as invalid_params_in};
@@ -19,63 +16,37 @@ use sf_use::HopStatus;
 use sf_value::{Bare, Entries, Member, OutOfMemory};
 use std::alloc::Global;
 
-/// Returns whether the parameter at the key is present, and not a Boolean.
-fn is_no_boolean(params: &Entries<Bare>, key: &[u8]) -> bool
-    ensures { result ≡ is_ignored (value_at key.now params.now) (boolean_at key.now params.now) }
-{
-    match params.get(key) {
-        Some(bare) => bare.as_boolean().is_none(),
-        None => false,
-    }
+/// The type and range of a parameter that RFC 9211 states.
+#[derive(Clone, Copy)]
+enum ParamType {
+    /// A Boolean.
+    Boolean,
+    /// An Integer.
+    Integer,
+    /// An Integer from 100 to 999.
+    Status,
+    /// A Token.
+    Token,
+    /// A String.
+    Text,
+    /// A String or a Token.
+    Name,
 }
 
-/// Returns whether the parameter at the key is present, and not an Integer.
-fn is_no_integer(params: &Entries<Bare>, key: &[u8]) -> bool
-    ensures { result ≡ is_ignored (value_at key.now params.now) (integer_at key.now params.now) }
+/// Returns whether the parameter at the key is present, and not of this type.
+fn is_other(params: &Entries<Bare>, key: &[u8], expected: ParamType) -> bool
+    ensures { result ≡ is_other_in expected key.now params.now }
 {
-    match params.get(key) {
-        Some(bare) => bare.as_integer().is_none(),
-        None => false,
-    }
-}
-
-/// Returns whether the parameter at the key is present, and not an Integer from 100 to 999.
-fn is_no_status(params: &Entries<Bare>, key: &[u8]) -> bool
-    ensures { result ≡ is_ignored (value_at key.now params.now) (status_at key.now params.now) }
-{
-    match params.get(key) {
-        Some(bare) => status_of(bare).is_none(),
-        None => false,
-    }
-}
-
-/// Returns whether the parameter at the key is present, and not a Token.
-fn is_no_token(params: &Entries<Bare>, key: &[u8]) -> bool
-    ensures { result ≡ is_ignored (value_at key.now params.now) (token_at key.now params.now) }
-{
-    match params.get(key) {
-        Some(bare) => bare.as_token().is_none(),
-        None => false,
-    }
-}
-
-/// Returns whether the parameter at the key is present, and not a String.
-fn is_no_text(params: &Entries<Bare>, key: &[u8]) -> bool
-    ensures { result ≡ is_ignored (value_at key.now params.now) (text_at key.now params.now) }
-{
-    match params.get(key) {
-        Some(bare) => bare.as_text().is_none(),
-        None => false,
-    }
-}
-
-/// Returns whether the parameter at the key is present, and neither a String nor a Token.
-fn is_no_name(params: &Entries<Bare>, key: &[u8]) -> bool
-    ensures { result ≡ is_ignored (value_at key.now params.now) (name_at key.now params.now) }
-{
-    match params.get(key) {
-        Some(bare) => !matches!(bare, Bare::Text(_) | Bare::Token(_)),
-        None => false,
+    let Some(bare) = params.get(key) else {
+        return false;
+    };
+    match expected {
+        ParamType::Boolean => return bare.as_boolean().is_none(),
+        ParamType::Integer => return bare.as_integer().is_none(),
+        ParamType::Status => return status_of(bare).is_none(),
+        ParamType::Token => return bare.as_token().is_none(),
+        ParamType::Text => return bare.as_text().is_none(),
+        ParamType::Name => return !matches!(bare, Bare::Text(_) | Bare::Token(_)),
     }
 }
 
@@ -87,20 +58,21 @@ fn status_of(bare: &Bare) -> Option<HopStatus>
     HopStatus::new(code).ok()
 }
 
-/// Returns the text, followed by the line for a parameter of the member of this number, if it is
-/// ignored.
+/// Returns the text, followed by the line for the parameter at this key of the member of this
+/// number, if it is ignored: it is not of this type.
 fn with_ignored(
     alloc: Global,
     settings: &Settings,
     text: Vec<u8>,
     number: usize,
+    params: &Entries<Bare>,
     key: &str,
-    is_ignored: bool,
+    expected: ParamType,
 ) -> Result<Vec<u8>, OutOfMemory>
-    ensures { IfOk result (λ longer. longer.items
-        ≡ text.items ++ ignored_line settings.now (hop_key number key.now) is_ignored) }
+    ensures { IfOk result (λ longer. longer.items ≡ text.items ++ ignored_line settings.now
+        (hop_key number key.now) (is_other_in expected key.now params.now)) }
 {
-    if !is_ignored {
+    if !is_other(params, key.as_bytes(), expected) {
         return Ok(text);
     }
     let mut text = text;
@@ -120,22 +92,20 @@ fn ignored_params(
     ensures { IfOk result (λ text. text.items ≡ params_in settings.now number params.now) }
 {
     let text = Vec::new(alloc);
-    let is_ignored = is_no_boolean(params, b"hit");
-    let text = with_ignored(alloc, settings, text, number, "hit", is_ignored)?;
-    let is_ignored = is_no_token(params, b"fwd");
-    let text = with_ignored(alloc, settings, text, number, "fwd", is_ignored)?;
-    let is_ignored = is_no_status(params, b"fwd-status");
-    let text = with_ignored(alloc, settings, text, number, "fwd-status", is_ignored)?;
-    let is_ignored = is_no_integer(params, b"ttl");
-    let text = with_ignored(alloc, settings, text, number, "ttl", is_ignored)?;
-    let is_ignored = is_no_boolean(params, b"stored");
-    let text = with_ignored(alloc, settings, text, number, "stored", is_ignored)?;
-    let is_ignored = is_no_boolean(params, b"collapsed");
-    let text = with_ignored(alloc, settings, text, number, "collapsed", is_ignored)?;
-    let is_ignored = is_no_text(params, b"key");
-    let text = with_ignored(alloc, settings, text, number, "key", is_ignored)?;
-    let is_ignored = is_no_name(params, b"detail");
-    with_ignored(alloc, settings, text, number, "detail", is_ignored)
+    let boolean = ParamType::Boolean;
+    let text = with_ignored(alloc, settings, text, number, params, "hit", boolean)?;
+    let token = ParamType::Token;
+    let text = with_ignored(alloc, settings, text, number, params, "fwd", token)?;
+    let status = ParamType::Status;
+    let text = with_ignored(alloc, settings, text, number, params, "fwd-status", status)?;
+    let integer = ParamType::Integer;
+    let text = with_ignored(alloc, settings, text, number, params, "ttl", integer)?;
+    let text = with_ignored(alloc, settings, text, number, params, "stored", boolean)?;
+    let text = with_ignored(alloc, settings, text, number, params, "collapsed", boolean)?;
+    let string = ParamType::Text;
+    let text = with_ignored(alloc, settings, text, number, params, "key", string)?;
+    let name = ParamType::Name;
+    with_ignored(alloc, settings, text, number, params, "detail", name)
 }
 
 /// Returns whether `hit` and `fwd` are both read, while "only one of them should appear on each

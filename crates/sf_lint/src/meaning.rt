@@ -8,7 +8,8 @@ ghost use Rattle.sf_tool.specs.PriorityLine.{priority_line};
 ghost use Rattle.sf_lint.specs.Meanings.{IsMeaning, meaning_of, path_meaning};
 ghost use Rattle.sf_lint.specs.Meanings.{priority_meaning, policy_meaning, ignored_line};
 ghost use Rattle.sf_lint.specs.Meanings.{ignored_members as ignored_members_in};
-ghost use Rattle.sf_lint.specs.Meanings.{priority_lines, targeted_lines, is_ignored};
+ghost use Rattle.sf_lint.specs.Meanings.{priority_lines, targeted_lines};
+ghost use Rattle.sf_lint.specs.Meanings.{is_ignored as is_ignored_in};
 ghost use Rattle.std.specs.Option.{option_copied};
 
 use crate::colours::Verdict;
@@ -71,14 +72,14 @@ fn ignored_text(
 }
 
 /// Returns whether a member is present but ignored.
-fn is_silent<T: Copy>(member: Option<&Member>, said: Option<T>) -> bool
-    ensures { result ≡ is_ignored (option_copied member.entry) said }
+fn is_ignored<T: Copy>(member: Option<&Member>, said: Option<T>) -> bool
+    ensures { result ≡ is_ignored_in (option_copied member.entry) said }
 {
     member.is_some() && said.is_none()
 }
 
 /// Returns three texts as one.
-pub(crate) fn joined(
+pub(crate) fn concatenated(
     first: Vec<u8>,
     second: Vec<u8>,
     third: Vec<u8>,
@@ -114,11 +115,11 @@ fn priority_texts(alloc: Global, settings: &Settings, dict: &Dict) -> Result<Vec
         ≡ priority_lines settings.now dict.now.members (params_of_dict dict.now)) }
 {
     let asked = Priority::from_dict(dict);
-    let urgency = is_silent(dict.get(b"u"), asked.urgency);
+    let urgency = is_ignored(dict.get(b"u"), asked.urgency);
     let urgency = ignored_text(alloc, settings, "u", urgency)?;
-    let flag = is_silent(dict.get(b"i"), asked.incremental);
+    let flag = is_ignored(dict.get(b"i"), asked.incremental);
     let flag = ignored_text(alloc, settings, "i", flag)?;
-    joined(urgency, flag, priority_text(alloc, asked.with_defaults())?)
+    concatenated(urgency, flag, priority_text(alloc, asked.with_defaults())?)
 }
 
 /// Returns the lines for the ignored members of a targeted field, and its policy.
@@ -127,11 +128,11 @@ fn targeted_texts(alloc: Global, settings: &Settings, dict: &Dict) -> Result<Vec
         ≡ targeted_lines settings.now dict.now.members (policy dict.now)) }
 {
     let policy = Policy::from_dict(dict);
-    let age = is_silent(dict.get(b"max-age"), policy.max_age);
+    let age = is_ignored(dict.get(b"max-age"), policy.max_age);
     let age = ignored_text(alloc, settings, "max-age", age)?;
-    let shared = is_silent(dict.get(b"s-maxage"), policy.s_maxage);
+    let shared = is_ignored(dict.get(b"s-maxage"), policy.s_maxage);
     let shared = ignored_text(alloc, settings, "s-maxage", shared)?;
-    joined(age, shared, policy_text(alloc, &policy)?)
+    concatenated(age, shared, policy_text(alloc, &policy)?)
 }
 
 /// Returns the lines for the ignored and the invalid parameters of a Cache-Status field (RFC 9211),

@@ -11,7 +11,7 @@ ghost use Rattle.sf_lint.specs.Options.{command_line, AreOptionsOf, AreGiven, Is
 ghost use Rattle.sf_lint.specs.Options.{AreGivenOptions, IsOptionsFault, AreGivenCaches};
 ghost use Rattle.sf_lint.specs.Options.{IsCachesFault, AreTargets, IsTargetsFault, target_words};
 ghost use Rattle.sf_lint.specs.Options.{IsGivenFault, AreFields, IsFieldsFault, is_true};
-ghost use Rattle.sf_lint.specs.Options.{custom_of, kind_named as kind_named_in, fault_status, fault_line};
+ghost use Rattle.sf_lint.specs.Options.{custom_of, fault_status, fault_line};
 ghost use Rattle.sf_lint.specs.Options.{fault_text};
 ghost use Rattle.sf_lint.specs.declared.options.OptionsFault.TheVariants as fault_is;
 
@@ -19,8 +19,7 @@ use crate::settings::{CacheSettings, CustomField, Settings};
 use clap::error::ErrorKind;
 use clap::{Arg, ArgAction, ArgMatches, Command};
 use http_header::{CDN_CACHE_CONTROL, HeaderName};
-use sf_tool::{RequestFault, Status, age_of, header_name, names_in, split_at_first};
-use sf_value::Kind;
+use sf_tool::{RequestFault, Status, age_of, header_name, kind_named, names_in, split_at_first};
 use std::alloc::{AllocError, Global};
 
 /// What the arguments ask for.
@@ -296,22 +295,6 @@ fn given_age(given: &ArgMatches<'_>) -> Result<Option<u64>, OptionsFault>
         Ok(age) => Ok(age),
         Err(_) => Err(OptionsFault::Usage),
     }
-}
-
-/// Returns the kind of this name.
-fn kind_named(word: &[u8]) -> Option<Kind>
-    ensures { result ≡ kind_named_in word.now }
-{
-    if word == b"item".as_slice() {
-        return Some(Kind::Item);
-    }
-    if word == b"list".as_slice() {
-        return Some(Kind::List);
-    }
-    if word == b"dict".as_slice() {
-        return Some(Kind::Dict);
-    }
-    None
 }
 
 /// Returns the field of a word `NAME:KIND`.

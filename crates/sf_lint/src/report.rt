@@ -23,7 +23,7 @@ use crate::colours::Verdict;
 use crate::head::{Line, is_named, is_start, read_line, split_lines, value_of};
 use crate::heads::decisions_if;
 use crate::marking::find_mark;
-use crate::meaning::{joined, meaning};
+use crate::meaning::{concatenated, meaning};
 use crate::settings::{CacheSettings, FieldType, Settings, type_of};
 use http_header::HeaderName;
 use sf_field::{UseFault, parse_from};
@@ -247,11 +247,11 @@ fn by_the_newer(
     match meaning(alloc, settings, name, field) {
         Ok(lines) => {
             let text = accepted(alloc, settings, name, field)?;
-            return joined(heading, text, lines);
+            return concatenated(heading, text, lines);
         }
         Err(UseFault::NotACache { index }) => {
             let text = without_cache(alloc, settings, name, index)?;
-            return joined(heading, text, Vec::new(alloc));
+            return concatenated(heading, text, Vec::new(alloc));
         }
         Err(UseFault::OutOfMemory) => return Err(OutOfMemory),
     }
@@ -406,7 +406,7 @@ fn bad_line(
     let words = bad_line_words(alloc, settings, spot.line, why, spot.place)?;
     let shown = line_text(alloc, spot.text)?;
     let caret = caret_text(alloc, spot.place)?;
-    joined(words, shown, caret)
+    concatenated(words, shown, caret)
 }
 
 /// Reports a line that is no line of a head, which is refused at the spot.

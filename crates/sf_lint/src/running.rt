@@ -106,7 +106,8 @@ fn run_in<R: Source, W: Sink>(
     }
 }
 
-/// Returns the line for an input that is longer than the limit. Does not allocate.
+/// Returns the line for an input that is longer than [`INPUT_LIMIT`], with this limit in decimal.
+/// Does not allocate, since the line is written whatever memory is left.
 fn too_long_text(settings: &Settings) -> &'static [u8]
     ensures { result.now ≡ too_long_in settings.now }
 {

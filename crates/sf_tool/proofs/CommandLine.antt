@@ -3,7 +3,7 @@ use Rattle.std.proofs.Common.{◌≡◌, ◌↔◌, inl, inr, ℕ, ◌+◌, ◌<
 use Rattle.std.proofs.Common.{length}
 use Rattle.std.proofs.Common.{Option, Some, None, refl, ap, ap₂, sym, ◌∙◌, map, codes, arith, take}
 use Rattle.std.proofs.Common.{subst, bytes_eq, get_or, suc}
-use Rattle.std.specs.Prelude.{◌≢◌, option_map, Result, Ok, Err, IfOk, IfErr, MatchResult, IsErrAnd}
+use Rattle.std.specs.Prelude.{◌≢◌, Bool, if◌then◌else◌, option_map, Result, Ok, Err, IfOk, IfErr, MatchResult, IsErrAnd}
 use Rattle.std.proofs.Math.Seq.{take-suc}
 use Rattle.std.proofs.lemmas.List.{get_or-map, length-map, map-append}
 use Rattle.std.proofs.lemmas.List.Folds.{list_all_more, list_all_at}
@@ -39,7 +39,7 @@ use Rattle.sf_tool.specs.declared.request.RequestFault.{RequestFault}
 use Rattle.sf_tool.specs.declared.request.RequestFault.TheVariants.{Usage, OutOfMemory}
 use Rattle.sf_tool.specs.Fields.{is_header_name}
 use Rattle.sf_tool.specs.Request.{AreFewNames, HasFewNames}
-use Rattle.sf_tool.specs.CommandLine.{command_line, kind_word, dialect_word, NamesKind}
+use Rattle.sf_tool.specs.CommandLine.{command_line, kind_named, kind_word, dialect_word, NamesKind}
 use Rattle.sf_tool.specs.CommandLine.{NamesDialect, NamesAll, NamesFallback}
 use Rattle.sf_tool.specs.CommandLine.{IsGivenAge, IsSeconds}
 use Rattle.sf_tool.specs.CommandLine.{AreNames, AsksFor, IsRequestOf, IsUsageOf}
@@ -98,16 +98,37 @@ no-dialect f r e is d given =
     let both : None ≡ Some (dialect_word d) = sym none ∙ given in
     cc
 
+named-by : (P : Kind → Type 0) (item list dict : Bool) (k : Kind)
+    → (if item then Some kind.Item else if list then Some kind.List
+    else if dict then Some kind.Dict else None) ≡ Some k
+    → (item ≡ true → P kind.Item) → (list ≡ true → P kind.List) → (dict ≡ true → P kind.Dict)
+    → P k
+named-by P true list dict k e p q r = subst P (some-same _ _ e) (p refl)
+named-by P false true dict k e p q r = subst P (some-same _ _ e) (q refl)
+named-by P false false true k e p q r = subst P (some-same _ _ e) (r refl)
+named-by P false false false k e p q r = let both : None ≡ Some k = e in cc
+
+-- the word that names a kind
+pub named-kind : (word : Text) (k : Kind) → kind_named word ≡ Some k → word ≡ kind_word k
+named-kind word k e =
+    named-by (λ k. word ≡ kind_word k) _ _ _ k e
+    (λ h. (bytes_eq-Decides word (codes "item")).0 h)
+    (λ h. (bytes_eq-Decides word (codes "list")).0 h)
+    (λ h. (bytes_eq-Decides word (codes "dict")).0 h)
+
+unnamed-kind : (word : Text) → kind_named word ≡ None → (k : Kind) → ¬ (word ≡ kind_word k)
+unnamed-kind word none kind.Item e =
+    let both : Some kind.Item ≡ None = ap kind_named (sym e) ∙ none in cc
+unnamed-kind word none kind.List e =
+    let both : Some kind.List ≡ None = ap kind_named (sym e) ∙ none in cc
+unnamed-kind word none kind.Dict e =
+    let both : Some kind.Dict ≡ None = ap kind_named (sym e) ∙ none in cc
+
 pub other-kind : (f : Found) (r : Option (Bor Text)) (s : Bor Text)
     → option_map (λ s. s.now) r ≡ first_value f (codes "kind") → r ≡ Some s
-    → ¬ (s.now ≡ codes "item") → ¬ (s.now ≡ codes "list") → ¬ (s.now ≡ codes "dict")
-    → (k : Kind) → ¬ (NamesKind (rows_of f) k)
-other-kind f r s e is item list dict kind.Item given =
-    item (some-same _ _ (sym (value-some f (codes "kind") r s e is) ∙ given))
-other-kind f r s e is item list dict kind.List given =
-    list (some-same _ _ (sym (value-some f (codes "kind") r s e is) ∙ given))
-other-kind f r s e is item list dict kind.Dict given =
-    dict (some-same _ _ (sym (value-some f (codes "kind") r s e is) ∙ given))
+    → kind_named s.now ≡ None → (k : Kind) → ¬ (NamesKind (rows_of f) k)
+other-kind f r s e is none k given =
+    unnamed-kind s.now none k (some-same _ _ (sym (value-some f (codes "kind") r s e is) ∙ given))
 
 pub no-kind : (f : Found) (r : Option (Bor Text))
     → option_map (λ s. s.now) r ≡ first_value f (codes "kind") → r ≡ None

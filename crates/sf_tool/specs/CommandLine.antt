@@ -1,7 +1,8 @@
 -- The arguments of the command line, as clap parses them.
 use Rattle.std.specs.Prelude.{◌≡◌, ◌<◌, ◌≤◌, ◌⊎◌, ◌^◌, ℕ, true, false, List, [], ◌∷◌, map, length}
-use Rattle.std.specs.Prelude.{codes, slice_get, Option, Some, None, unwrap_or, ⊤}
+use Rattle.std.specs.Prelude.{codes, slice_get, Option, Some, None, unwrap_or, if◌then◌else◌, ⊤}
 use Rattle.std.specs.List.{list_all}
+use Rattle.std.specs.Str.{bytes_eq}
 use Rattle.std.specs.Str.Parse.{IsNumeral, digits_value, without_leading_plus}
 use Rattle.clap.specs.Lexer.{usize_max}
 use Rattle.clap.specs.Faults.{fault_of}
@@ -71,6 +72,14 @@ abbrev pub kind_word : Kind → Text
 kind_word kind.Item = codes "item"
 kind_word kind.List = codes "list"
 kind_word kind.Dict = codes "dict"
+
+-- the kind that a word names
+abbrev pub kind_named : Text → Option Kind
+kind_named word =
+    if bytes_eq word (codes "item") then Some kind.Item
+    else if bytes_eq word (codes "list") then Some kind.List
+    else if bytes_eq word (codes "dict") then Some kind.Dict
+    else None
 
 abbrev pub dialect_word : Dialect → Text
 dialect_word Rfc8941 = codes "rfc8941"

@@ -201,8 +201,8 @@ pub(crate) fn answer_refusal<W: Sink>(refusal: Refusal, sink: &mut W) -> Status
     }
 }
 
-/// Writes the line for an input that is longer than this limit, in bytes. Does not allocate.
-pub fn answer_too_long<W: Sink>(limit: u64, sink: &mut W) -> Status
+/// Writes the line for an input that is longer than this limit, in bytes.
+pub(crate) fn answer_too_long<W: Sink>(limit: u64, sink: &mut W) -> Status
     // Refused if the whole line was written; Stopped if a write failed after a prefix of it.
     ensures { ReportsText (too_long_line limit) status_is.Refused
         (W.state sink.old) (W.state sink.new) result }

@@ -1,6 +1,6 @@
 //! The lines of the choice of a targeted field. Nothing here allocates. Each function writes after
 //! what was sent before.
-ghost use Rattle.std.specs.Prelude.{◌≡◌};
+ghost use Rattle.std.specs.Prelude.{◌≡◌, ◌++◌, codes, decimal};
 ghost use Rattle.sf_write.specs.Writing.{Follows};
 ghost use Rattle.sf_tool.specs.ChoiceLines.{lifetime_text, flag_line, flag_lines, policy_lines};
 ghost use Rattle.sf_tool.specs.ChoiceLines.{field_lines};
@@ -55,6 +55,18 @@ pub fn put_policy<W: Sink>(policy: &Policy, before: Sent, out: &mut W) -> Sent
     put_flags(policy, sent, out)
 }
 
+/// Writes the line of the chosen field, which has this name.
+pub(crate) fn put_field_line<W: Sink>(index: usize, name: &[u8], before: Sent, out: &mut W) -> Sent
+    ensures { Follows W.state W.send_gives out.old out.new before result
+        (codes "field " ++ (decimal index ++ (codes " " ++ (name.now ++ codes "\n")))) }
+{
+    let sent = put(b"field ", before, out);
+    let sent = put_number(index as u64, sent, out);
+    let sent = put(b" ", sent, out);
+    let sent = put(name, sent, out);
+    put(b"\n", sent, out)
+}
+
 /// Writes the lines of the chosen field, which has this name.
 pub(crate) fn put_chosen<W: Sink>(
     index: usize,
@@ -66,10 +78,6 @@ pub(crate) fn put_chosen<W: Sink>(
     ensures { Follows W.state W.send_gives out.old out.new before result
         (field_lines index name.now policy.now) }
 {
-    let sent = put(b"field ", before, out);
-    let sent = put_number(index as u64, sent, out);
-    let sent = put(b" ", sent, out);
-    let sent = put(name, sent, out);
-    let sent = put(b"\n", sent, out);
+    let sent = put_field_line(index, name, before, out);
     put_policy(policy, sent, out)
 }

@@ -8,7 +8,7 @@ ghost use Rattle.sf_tool.specs.Deciding.{dialects_text, different_text, fallback
 ghost use Rattle.sf_tool.specs.Deciding.{obeyed_lines, reuse_text, rules_lines, same_text};
 ghost use Rattle.sf_tool.specs.Deciding.{with_cache_control as names_with};
 
-use crate::choice::put_policy;
+use crate::choice::{put_field_line, put_policy};
 use crate::refusing::put_number;
 use http_header::{CACHE_CONTROL, HeaderMap, HeaderName};
 use sf_use::{
@@ -20,7 +20,7 @@ use std::alloc::Global;
 use std::hash::RandomState;
 
 /// Returns the names of the fields that are read: these, and `Cache-Control`.
-pub(crate) fn with_cache_control(
+pub fn with_cache_control(
     alloc: Global,
     names: &[HeaderName],
 ) -> Result<Vec<HeaderName>, OutOfMemory>
@@ -117,8 +117,8 @@ fn put_rules<W: Sink>(rules: &CacheRules, age: u64, before: Sent, out: &mut W) -
     put_decision(CacheKind::Private, private, sent, out)
 }
 
-/// Returns the lines of the field that is obeyed, which has this name.
-fn obeyed_text(
+/// Returns the lines of the chosen field, which has this name.
+fn chosen_text(
     alloc: Global,
     index: usize,
     name: &[u8],
@@ -128,11 +128,7 @@ fn obeyed_text(
     ensures { IfOk result (λ text. text.items ≡ obeyed_lines index name.now age rules.now) }
 {
     let mut out = Writing::new(Vec::new(alloc));
-    let sent = put(b"field ", Ok(0), &mut out);
-    let sent = put_number(index as u64, sent, &mut out);
-    let sent = put(b" ", sent, &mut out);
-    let sent = put(name, sent, &mut out);
-    let sent = put(b"\n", sent, &mut out);
+    let sent = put_field_line(index, name, Ok(0), &mut out);
     match put_rules(rules, age, sent, &mut out) {
         Ok(_) => Ok(out.into_inner()),
         Err(_) => Err(OutOfMemory),
@@ -166,7 +162,7 @@ fn choice_text(
 {
     match choice {
         RulesChoice::Field { index, rules } => {
-            return obeyed_text(alloc, index, names[index].as_str().as_bytes(), &rules, age);
+            return chosen_text(alloc, index, names[index].as_str().as_bytes(), &rules, age);
         }
         RulesChoice::Fallback => {
             let rules = fallback_rules(headers);
@@ -206,8 +202,8 @@ fn same(alloc: Global, text: &[u8]) -> Result<Vec<u8>, OutOfMemory>
     after(alloc, b"by RFC 8941 and RFC 9651:\n", text)
 }
 
-/// Returns the answers of both dialects.
-fn different(alloc: Global, older: &[u8], newer: &[u8]) -> Result<Vec<u8>, OutOfMemory>
+/// Returns the answers by RFC 8941 and by RFC 9651, which differ.
+pub fn by_each_dialect(alloc: Global, older: &[u8], newer: &[u8]) -> Result<Vec<u8>, OutOfMemory>
     ensures { IfOk result (λ all. all.items ≡ different_text older.now newer.now) }
 {
     let newer = after(alloc, b"by RFC 9651:\n", newer)?;
@@ -232,5 +228,5 @@ pub(crate) fn decision_text(
     if older.as_slice() == newer.as_slice() {
         return same(alloc, older.as_slice());
     }
-    different(alloc, older.as_slice(), newer.as_slice())
+    by_each_dialect(alloc, older.as_slice(), newer.as_slice())
 }

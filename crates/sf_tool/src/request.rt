@@ -10,7 +10,7 @@ ghost use Rattle.sf_tool.specs.declared.request.RequestFault.TheVariants.{Usage}
 ghost use Rattle.sf_tool.specs.Request.{HasFewNames};
 ghost use Rattle.sf_tool.specs.Status.{fault_line, status_of};
 ghost use Rattle.sf_tool.specs.CommandLine.{command_line, kind_command, names_command};
-ghost use Rattle.sf_tool.specs.CommandLine.{name_list, option_of};
+ghost use Rattle.sf_tool.specs.CommandLine.{kind_named as kind_named_in, name_list, option_of};
 ghost use Rattle.clap.specs.Simple.{new_app, with_rule};
 ghost use Rattle.sf_tool.specs.CommandLine.{NamesKind, NamesDialect, AsksFor, IsRequestOf};
 ghost use Rattle.sf_tool.specs.CommandLine.{AreNames, IsGivenAge, NamesFallback};
@@ -86,14 +86,9 @@ impl fmt::Display for RequestFault {
     ghost output = { λ fault. Some (fault_line fault) };
 
     fn fmt<W: fmt::Write>(&self, f: &mut fmt::Formatter<W>) -> fmt::Result {
-        match self {
-            RequestFault::Usage => write!(
-                f,
-                "sf: usage: sf show, check or normalise --kind item, list or dict \
-                 [--dialect rfc8941 or rfc9651]; sf cache-status; \
-                 sf targeted [--fallback cache-control [--age SECONDS]] NAME..; sf priority"
-            ),
-            RequestFault::OutOfMemory => write!(f, "sf: out of memory or a device failed"),
+        match self.status().line() {
+            Some(line) => f.write_str(line),
+            None => Ok(()),
         }
     }
 }
@@ -307,12 +302,27 @@ fn kind_of(given: &ArgMatches<'_>) -> Result<Kind, RequestFault>
     let Some(word) = given.get_str("kind") else {
         return Err(RequestFault::Usage);
     };
-    match word {
-        "item" => Ok(Kind::Item),
-        "list" => Ok(Kind::List),
-        "dict" => Ok(Kind::Dict),
-        _ => Err(RequestFault::Usage),
+    match kind_named(word.as_bytes()) {
+        Some(kind) => return Ok(kind),
+        None => return Err(RequestFault::Usage),
     }
+}
+
+/// Returns the kind of the name `item`, `list` or `dict`; `None` for any other word. Does not
+/// allocate.
+pub fn kind_named(word: &[u8]) -> Option<Kind>
+    ensures { result ≡ kind_named_in word.now }
+{
+    if word == b"item".as_slice() {
+        return Some(Kind::Item);
+    }
+    if word == b"list".as_slice() {
+        return Some(Kind::List);
+    }
+    if word == b"dict".as_slice() {
+        return Some(Kind::Dict);
+    }
+    None
 }
 
 /// Returns the request of `targeted` and its arguments.

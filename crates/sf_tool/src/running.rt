@@ -41,6 +41,7 @@ use std::alloc::Global;
 use std::hash::RandomState;
 
 /// The length in bytes of the longest input that is accepted; a longer one is refused.
+// `too_long_text` of `sf_lint` spells this number out; its clause fails if they differ.
 pub const INPUT_LIMIT: u64 = 1_048_576;
 
 /// Answers a request: reads the whole input from the source, and then writes the answer to the

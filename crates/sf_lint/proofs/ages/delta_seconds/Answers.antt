@@ -1,4 +1,4 @@
-use Rattle.std.proofs.Common.{rules, ◌≡◌, ◌∙◌, ◌+◌, ◌-◌, ◌*◌, true, min, sym, ap, drop, get_or, ◌∷◌, arith}
+use Rattle.std.proofs.Common.{rules, ◌≡◌, ◌∙◌, ◌+◌, ◌-◌, ◌*◌, true, min, sym, ap, drop, get_or, arith}
 use Rattle.std.proofs.lemmas.List.{drop_more}
 use Rattle.sf_value.specs.Grammar.Classes.{is_digit}
 use Rattle.sf_lint.proofs.Seconds.{more_seconds, seconds-digit}

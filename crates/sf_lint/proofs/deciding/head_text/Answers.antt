@@ -1,4 +1,4 @@
-use Rattle.std.proofs.Common.{◌≡◌, ◌∙◌, List, ℕ, map, inl, inr, subst}
+use Rattle.std.proofs.Common.{◌∙◌, map, inl, inr, subst}
 use Rattle.std.proofs.lemmas.Result.{IfOk-weaker}
 use Rattle.sf_tool.specs.declared.fields.InputFault.{InputFault}
 use Rattle.sf_tool.specs.Fields.{IsFaultOfLines}
@@ -8,13 +8,13 @@ pub returns-in-Ok : goal.returns-in-Ok
 returns-in-Ok c =
     let names = c.as_slice.ensures.value ∙ c.in_ok-names.ensures in
     let targets = c.as_slice-targets.ensures.value in
-    IfOk-weaker c.decision_text.result _ _
+    IfOk-weaker c.decision_lines.result _ _
     (λ text h. inl (
       c.in-Ok.headers,
       rw (names, targets) at c.in-Ok.ensures,
       rw (targets, c.response_age-age.ensures) at h,
     ))
-    c.decision_text.ensures
+    c.decision_lines.ensures
 
 pub returns-in-Err-Line : goal.returns-in-Err-Line
 returns-in-Err-Line c =

@@ -16,14 +16,6 @@ returns c =
     let s = c.args.settings.now in
     let n = c.args.number in
     let p = c.args.params.now in
-    let hit = rw c.is_no_boolean-is_ignored.ensures at c.in_ok-text.ensures in
-    let fwd = rw c.is_no_token-is_ignored.ensures at c.in_ok-text-2.ensures in
-    let status = rw c.is_no_status-is_ignored.ensures at c.in_ok-text-3.ensures in
-    let ttl = rw c.is_no_integer-is_ignored.ensures at c.in_ok-text-4.ensures in
-    let stored = rw c.is_no_boolean-is_ignored-2.ensures at c.in_ok-text-5.ensures in
-    let collapsed = rw c.is_no_boolean-is_ignored-3.ensures at c.in_ok-text-6.ensures in
-    let key = rw c.is_no_text-is_ignored.ensures at c.in_ok-text-7.ensures in
-    let detail = rw c.is_no_name-is_ignored.ensures at c.with_ignored-8.ensures in
     IfOk-weaker c.with_ignored-8.result _ _
     (λ text last. in_order c.new-text.result.items c.in_ok-text.text.items
     c.in_ok-text-2.text.items c.in_ok-text-3.text.items c.in_ok-text-4.text.items
@@ -36,5 +28,6 @@ returns c =
     (ignored_at s n p boolean_at (codes "collapsed"))
     (ignored_at s n p text_at (codes "key"))
     (ignored_at s n p name_at (codes "detail"))
-    c.new-text.ensures.items hit fwd status ttl stored collapsed key last)
-    detail
+    c.new-text.ensures.items c.in_ok-text.ensures c.in_ok-text-2.ensures c.in_ok-text-3.ensures
+    c.in_ok-text-4.ensures c.in_ok-text-5.ensures c.in_ok-text-6.ensures c.in_ok-text-7.ensures last)
+    c.with_ignored-8.ensures

@@ -1,8 +1,6 @@
-use Rattle.std.proofs.Common.{◌≡◌, List, Some, None, ap, codes, ◌∙◌, sym, map}
-use Rattle.std.specs.Prelude.{option_map}
-use Rattle.std.specs.Borrow.{Bor}
+use Rattle.std.proofs.Common.{◌≡◌, codes, ◌∙◌, sym}
 use Rattle.clap.specs.Words.{found_of, rows_of}
-use Rattle.clap.specs.Walk.{Text, all_of}
+use Rattle.clap.specs.Walk.{all_of}
 use Rattle.clap.proofs.WalkLemmas.{raw_values-rows}
 use Rattle.sf_lint.specs.Options.{target_words}
 use Rattle.sf_lint.proofs.CacheWords.{no-age, not-asked, some-caches, targets-fault}

@@ -2,7 +2,7 @@ use Rattle.std.proofs.Common.{◌≡◌, Some, true, false, sym, subst, ap, ◌�
 use Rattle.std.specs.List.{after_first}
 use Rattle.http_header.specs.Token.{lowercase}
 use Rattle.sf_tool.specs.Fields.{is_colon, is_header_name}
-use Rattle.sf_lint.specs.Options.{kind_named}
+use Rattle.sf_tool.specs.CommandLine.{kind_named}
 use Rattle.sf_lint.proofs.OptionWords.{names, without_name}
 use Rattle.sf_lint.proofs.options.custom_field.Goals as goal
 

@@ -1,10 +1,6 @@
+use Rattle.std.proofs.Common.{append_assoc}
 use Rattle.sf_write.proofs.Following.{then}
 use Rattle.sf_tool.proofs.choice.put_chosen.Goals as goal
 
 pub returns : goal.returns
-returns g c =
-    then c.put-sent.ensures
-    (then c.put_number-sent.ensures
-    (then c.put-sent-2.ensures
-    (then c.put-sent-3.ensures
-    (then c.put-sent-4.ensures c.put_policy.ensures))))
+returns g c = simp append_assoc at (then c.put_field_line-sent.ensures c.put_policy.ensures)

@@ -11,7 +11,7 @@ returns-in-Field c =
     c.index-names-index.is within refl in
     let name : c.as_bytes.result.now ≡ get_or c.args.names.now c.in-Field.index [] =
     c.as_bytes.ensures.value ∙ c.as_str.ensures.value ∙ read in
-    rw (c.in-Field.is, ← name) c.obeyed_text.ensures
+    rw (c.in-Field.is, ← name) c.chosen_text.ensures
 
 pub returns-in-Fallback : goal.returns-in-Fallback
 returns-in-Fallback c =

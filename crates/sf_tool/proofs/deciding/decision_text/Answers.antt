@@ -10,11 +10,11 @@ returns c =
     = first_of (search rules, grind arith) in
     let differ : bytes_eq c.in_ok-older.older.items c.in_ok-newer.newer.items ≡ false =
     rw (c.as_slice.ensures.value, c.as_slice-2.ensures.value) at read in
-    IfOk-weaker c.different.result _ _
+    IfOk-weaker c.by_each_dialect.result _ _
     (λ text h. (
       c.in_ok-older.older.items,
       c.in_ok-newer.newer.items,
       c.in_ok-older.ensures,
       c.in_ok-newer.ensures,
       rw differ (h ∙ ap₂ different_text c.as_slice-3.ensures.value c.as_slice-4.ensures.value),
-    )) c.different.ensures
+    )) c.by_each_dialect.ensures

@@ -1,9 +1,8 @@
-use Rattle.std.proofs.Common.{◌≡◌, ℕ, ◌+◌, ◌<◌, ◌≤◌, ◌^◌, List, [], ◌∷◌, map, ap, sym, subst, ◌∙◌}
+use Rattle.std.proofs.Common.{◌≡◌, ℕ, ◌+◌, ◌<◌, ◌≤◌, ◌^◌, List, [], ◌∷◌, map, ap, subst, ◌∙◌}
 use Rattle.std.proofs.Common.{drop, get_or, length, take, arith}
 use Rattle.std.proofs.Math.Seq.{take-length}
 use Rattle.std.specs.Borrow.{Bor}
 use Rattle.std.proofs.lemmas.List.{drop_more, get_or-map, length-map}
-use Rattle.http_header.specs.FieldValue.{FieldValue}
 use Rattle.sf_field.specs.Headers.{Headers}
 use Rattle.sf_tool.specs.declared.fields.LineFault.{LineFault}
 use Rattle.sf_tool.specs.Fields.{NoneIsRefused, Targets, headers_of}

@@ -1,31 +1,24 @@
-use Rattle.std.proofs.Common.{ap, codes, ◌∙◌, Some, refl}
+use Rattle.std.proofs.Common.{ap, codes, sym, ◌∙◌, Some, refl}
 use Rattle.clap.specs.Words.{found_of}
-use Rattle.sf_tool.proofs.CommandLine.{value-some, other-kind, no-kind}
+use Rattle.sf_tool.specs.CommandLine.{kind_named}
+use Rattle.sf_tool.proofs.CommandLine.{value-some, named-kind, other-kind, no-kind}
 use Rattle.sf_tool.proofs.request.kind_of.Goals as goal
 
-pub returns-in-item : goal.returns-in-item
-returns-in-item c =
+pub returns-in-Some-kind_named : goal.returns-in-Some-kind_named
+returns-in-Some-kind_named c =
     value-some (found_of c.args.given.now) (codes "kind") c.get_str.result c.in-Some.word
     c.get_str.ensures c.in-Some.is
-    ∙ ap Some c.in-item.is
+    ∙ ap Some
+    (named-kind c.in-Some.word.now c.in-Some-kind_named.kind
+    (sym (ap kind_named c.as_bytes.ensures.value) ∙ sym c.kind_named.ensures
+    ∙ c.in-Some-kind_named.is))
 
-pub returns-in-list : goal.returns-in-list
-returns-in-list c =
-    value-some (found_of c.args.given.now) (codes "kind") c.get_str.result c.in-Some.word
-    c.get_str.ensures c.in-Some.is
-    ∙ ap Some c.in-list.is
-
-pub returns-in-dict : goal.returns-in-dict
-returns-in-dict c =
-    value-some (found_of c.args.given.now) (codes "kind") c.get_str.result c.in-Some.word
-    c.get_str.ensures c.in-Some.is
-    ∙ ap Some c.in-dict.is
-
-pub returns-in_default-word : goal.returns-in_default-word
-returns-in_default-word c = (
+pub returns-in-None : goal.returns-in-None
+returns-in-None c = (
   refl,
   other-kind (found_of c.args.given.now) c.get_str.result c.in-Some.word c.get_str.ensures
-      c.in-Some.is c.in_default-word.not-item c.in_default-word.not-list c.in_default-word.not-dict,
+      c.in-Some.is
+      (sym (ap kind_named c.as_bytes.ensures.value) ∙ sym c.kind_named.ensures ∙ c.in-None.is),
 )
 
 pub returns-in_default : goal.returns-in_default

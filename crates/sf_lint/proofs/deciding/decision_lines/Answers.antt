@@ -1,8 +1,7 @@
-use Rattle.std.proofs.Common.{◌≡◌, ◌∙◌, ap₂, bytes_eq, codes, false, arith, rules}
+use Rattle.std.proofs.Common.{◌≡◌, ◌∙◌, ap₂, bytes_eq, false, arith, rules}
 use Rattle.std.proofs.lemmas.Result.{IfOk-weaker}
 use Rattle.sf_tool.specs.Deciding.{different_text}
-use Rattle.sf_lint.proofs.WithDecisions.{four}
-use Rattle.sf_lint.proofs.deciding.decision_text.Goals as goal
+use Rattle.sf_lint.proofs.deciding.decision_lines.Goals as goal
 
 pub returns : goal.returns
 returns c =
@@ -11,15 +10,11 @@ returns c =
     = first_of (search rules, grind arith) in
     let differ : bytes_eq c.in_ok-older.older.items c.in_ok-newer.newer.items ≡ false =
     rw (c.as_slice.ensures.value, c.as_slice-2.ensures.value) at read in
-    IfOk-weaker c.different.result _ _
+    IfOk-weaker c.by_each_dialect.result _ _
     (λ text h. (
       c.in_ok-older.older.items,
       c.in_ok-newer.newer.items,
       c.in_ok-older.ensures,
       c.in_ok-newer.ensures,
-      rw differ
-          (h
-          ∙ four (codes "by RFC 8941:\n") c.as_slice-3.result.now (codes "by RFC 9651:\n")
-          c.as_slice-4.result.now
-          ∙ ap₂ different_text c.as_slice-3.ensures.value c.as_slice-4.ensures.value),
-    )) c.different.ensures
+      rw differ (h ∙ ap₂ different_text c.as_slice-3.ensures.value c.as_slice-4.ensures.value),
+    )) c.by_each_dialect.ensures

@@ -1,7 +1,7 @@
 use Rattle.std.proofs.Common.{◌≡◌, ◌<◌, [], get_or, length, ◌∙◌, refl}
 use Rattle.std.proofs.lemmas.List.{get_or_read_under}
 use Rattle.std.proofs.lemmas.Result.{IfOk-weaker}
-use Rattle.sf_lint.proofs.deciding.choice_text.Goals as goal
+use Rattle.sf_lint.proofs.deciding.choice_lines.Goals as goal
 
 pub returns-in-Field : goal.returns-in-Field
 returns-in-Field c =
