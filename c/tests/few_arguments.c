@@ -1719,6 +1719,58 @@ static void parts_of_trees(void) {
   CHECK(sf_next_item(&nodes[7], NULL) == NULL && sf_next_item(&nodes[9], NULL) == NULL);
 }
 
+/* Parts of trees are written as by all of the text and the bytes, and no node is changed, also with
+ * offsets that are wrong. */
+static void parts_by_their_ranges(void) {
+  static const char *const texts[] = {
+      "(\"\" \"\\\"\" :YQ==:;k=\"\\\\\";k2 t;u=\"\"), \"\", a;b=\"\\\"x\";c;d=\"\"",
+      "\"x\";a;a=1, b;c=\"y\", (\"\" \"z\";q=\"\\\"\");e", /* a repeated key: all is in the bytes */
+      "(), \"\\\"\", :YQ==:, 1;a=?0, %\"f%c3%bc\";b=@1, t",
+  };
+  static const uint32_t wrong[] = {0, 1, 2, 40, 41, 60, 80, 100, 4711, UINT32_MAX};
+  sf_context context = sf_context_of(seed, SF_RFC9651);
+  sf_node nodes[32], before[32], copy[32];
+  char bytes[256], text[256], expected[256];
+  for (size_t i = 0; i < sizeof texts / sizeof *texts; ++i) {
+    sf_tree tree = sf_tree_in(SF_NODES(nodes), SF_BUFFER(bytes));
+    CHECK(sf_read_tree(&context, SF_LIST, sf_cstr(texts[i]), &tree) == SF_OK);
+    for (size_t part = 0; part < tree.nodes.length; ++part) {
+      sf_node *node = &nodes[part], kept = *node;
+      if (node->role == SF_PARAMETER || node->role == SF_INNER_PARAMETER)
+        continue;
+      for (size_t k = 0; k <= 4 * sizeof wrong / sizeof *wrong; ++k) {
+        sf_buffer out = SF_BUFFER(text);
+        size_t length = 0, invalid = 0;
+        uint32_t at = k == 0 ? 0 : wrong[(k - 1) / 4], last = node->size - 1;
+        if (k > 0 && k % 4 == 0)
+          node->text_at = at;
+        if (k > 0 && k % 4 == 1)
+          node->text_length = at;
+        if (k > 0 && k % 4 == 2)
+          node[last].key_at = at;
+        if (k > 0 && k % 4 == 3)
+          node[last].text_at = at;
+        memcpy(before, nodes, sizeof nodes);
+        memcpy(copy, node, node->size * sizeof *node);
+        copy[0].key_at = copy[0].key_length = 0;
+        copy[0].role = SF_MEMBER;
+        uint32_t status = sf_write(&seed, SF_RFC9651, SF_LIST, copy, copy[0].size, tree.text.at,
+                                   tree.text.length, tree.bytes.at, tree.bytes.length, expected,
+                                   sizeof expected, &length, &invalid);
+        CHECK(sf_write_part(&context, &tree, node, &out) == status);
+        CHECK(status != SF_OK || (out.length == length && memcmp(text, expected, length) == 0));
+        CHECK(k > 0 || status == SF_OK);
+        CHECK(memcmp(before, nodes, tree.nodes.length * sizeof *nodes) == 0);
+        CHECK(sf_read_tree(&context, SF_LIST, sf_cstr(texts[i]), &tree) == SF_OK);
+      }
+      node->size = (uint32_t)(tree.nodes.length - part + 1); /* more nodes than there are */
+      sf_buffer out = SF_BUFFER(text);
+      CHECK(sf_write_part(&context, &tree, node, &out) == SF_INVALID && out.length == 0);
+      node->size = kept.size;
+    }
+  }
+}
+
 /* What the fields of a head say, and what is malformed in it. */
 static void fields_of_a_head(void) {
   static const char received[] = "GET / HTTP/1.1\r\n" /* line 7 */
@@ -2617,6 +2669,7 @@ int main(void) {
   values_in_memory();
   verdicts_in_words();
   parts_of_trees();
+  parts_by_their_ranges();
   fields_of_a_head();
   faults_of_decisions();
   responses();
