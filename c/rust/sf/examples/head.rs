@@ -17,7 +17,7 @@ fn read(name: &str) -> Result<Vec<u8>, String> {
 fn write_signature(out: &mut impl Write, label: &Key, covered: &InnerList) -> io::Result<()> {
     write!(out, "{label} covers")?;
     for component in &covered.items {
-        write!(out, " {component}")?;
+        write!(out, " {}", component.serialize()?)?;
     }
     if let Some(created) = covered.params.integer("created") {
         write!(out, ", created {created}")?;
@@ -51,7 +51,7 @@ fn main() -> Result<(), Box<dyn Error>> {
     // The caches that the response came through, the one nearest the origin first (RFC 9211).
     let path = response.path()?;
     for hop in path.hops() {
-        writeln!(out, "came through {hop}")?;
+        writeln!(out, "came through {}", hop.serialize()?)?;
     }
     if let Some(hop) = path.served_hop() {
         writeln!(out, "served by {}", hop.name)?;

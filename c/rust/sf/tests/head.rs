@@ -191,7 +191,8 @@ fn heads_of_a_kind() {
     let response = "the head of a response begins with a status line";
     let end = "the head does not end with an empty line";
     let no_colon = "not a field line: no colon after the name";
-    let neither = "neither a start line (no method, target and version) nor a field line (no colon \
+    let neither =
+        "neither a start line (no method, target and version) nor a field line (no colon \
                    after the name)";
     // Of each fault the number of the line, the place and the words, in a request and a response.
     type Faults<'a> = Vec<(usize, usize, &'a str)>;
@@ -299,8 +300,13 @@ fn what_requests_say_of_storing() {
         ("GETS / HTTP/1.1\n\n", method, method),
         ("HEA / HTTP/1.1\n\n", method, method),
         ("Age: 1\n\n", None, None), // its method is not known
-        ("POST /\n\n", request_head, None),
-        ("HTTP/1.1 200 OK\n\n", request_head, None),
+        ("POST /\n\n", request_head, request_head),
+        ("HTTP/1.1 200 OK\n\n", request_head, request_head),
+        (
+            "GET / HTTP/1.1\nAuthorization: a\n",
+            request_head,
+            request_head,
+        ),
         ("POST / HTTP/1.1\nCache-Control: no-store\n", method, method),
         ("POST / HTTP/1.1\nAuthorization: a\n", method, method),
     ];
@@ -331,7 +337,7 @@ fn what_requests_say_of_storing() {
             no_store,
             no_store,
         ),
-        ("Authorization: a\n", authorization, None),
+        ("Authorization: a\n\n", authorization, None),
     ];
     let with_get =
         with_get.map(|(lines, shared, private)| ([get, lines].concat(), shared, private));
@@ -347,11 +353,11 @@ fn what_requests_say_of_storing() {
             let exchange = Exchange::at(cache, 784_111_777);
             let obstacle = decide(exchange, "HTTP/1.1 200 OK\n\n");
             assert_eq!(obstacle, *expected, "{text:?}");
-            // A directive comes before what the request says, and the method and no-store of the
-            // request before the rest.
+            // A directive comes before what the request says, and all of that but Authorization
+            // before the rest.
             let obstacle = decide(exchange, "HTTP/1.1 200 OK\nCache-Control: no-store\n");
             assert_eq!(obstacle, Some(Obstacle::Directive));
-            let of_request = expected.filter(|it| [method, no_store].contains(&Some(*it)));
+            let of_request = expected.filter(|it| Some(*it) != authorization);
             let rest = [
                 ("HTTP/1.1 100 Go\n\n", Obstacle::Status),
                 ("HTTP/1.1 200 OK\n", Obstacle::Incomplete),
@@ -939,8 +945,7 @@ fn obstacles_of_requests_and_directives() {
     let not_a_line = "GET / HTTP/1.1\nAuthorization : a\n\n";
     let authorized = "GET / HTTP/1.1\nAge 1\nauthorization: a\n";
     let had = "; not stored: the request had Authorization";
-    let may_have_had =
-        "; not stored: the head of the request is incomplete";
+    let barred = "; not stored: the head of the request is incomplete";
     let fresh = "Cache-Control: fresh for 60 s (max-age)";
     let malformed = "Cache-Control: not stored (malformed)";
     for (request, response, shared, private) in [
@@ -953,32 +958,38 @@ fn obstacles_of_requests_and_directives() {
         (
             cut_off,
             "Cache-Control: max-age=60\n",
-            [fresh, may_have_had],
-            [fresh, ""],
+            [fresh, barred],
+            [fresh, barred],
         ),
         (
             not_a_line,
             "Cache-Control: max-age=60\n",
-            [fresh, may_have_had],
-            [fresh, ""],
+            [fresh, barred],
+            [fresh, barred],
         ),
         (
-            authorized,
+            "GET / HTTP/1.1\nAge: 1\nauthorization: a\n\n",
             "Cache-Control: max-age=60\n",
             [fresh, had],
             [fresh, ""],
         ),
         (
+            authorized,
+            "Cache-Control: max-age=60\n",
+            [fresh, barred],
+            [fresh, barred],
+        ),
+        (
             cut_off,
             "Cache-Control: max-age=60, public\n",
-            [fresh, ""],
-            [fresh, ""],
+            [fresh, barred],
+            [fresh, barred],
         ),
         (
             cut_off,
             "",
-            ["unspecified", may_have_had],
-            ["unspecified", ""],
+            ["unspecified", barred],
+            ["unspecified", barred],
         ),
         (
             cut_off,
@@ -989,8 +1000,8 @@ fn obstacles_of_requests_and_directives() {
         (
             cut_off,
             "Age 1\n",
-            ["unspecified", "; not stored: the head is incomplete"],
-            ["unspecified", "; not stored: the head is incomplete"],
+            ["unspecified", barred],
+            ["unspecified", barred],
         ),
     ] {
         assert_eq!(decide(Cache::Shared, request, response), shared.concat());
