@@ -1930,12 +1930,12 @@ static inline uint32_t sf_obstacle_of(const sf_decision *decision, const sf_exch
     return SF_BARRED_METHOD;
   if (exchange->is_request_no_store)
     return SF_BARRED_REQUEST_NO_STORE;
-  if (exchange->is_request_incomplete)
-    return SF_BARRED_REQUEST_HEAD;
   if (head->is_request)
     return SF_BARRED_NO_RESPONSE;
   if (head->is_incomplete || head->is_truncated)
     return SF_BARRED_HEAD;
+  if (exchange->is_request_incomplete)
+    return SF_BARRED_REQUEST_HEAD;
   if (status != 0 && status < 200)
     return SF_BARRED_STATUS;
   if ((status == 206 || status == 304) && !exchange->is_understood)

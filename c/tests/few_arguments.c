@@ -2383,8 +2383,7 @@ static void storing(void) {
     CHECK(sf_decide_response(&context, &head, &target, 1, &exchange, &verdict) == SF_OK);
     int is_before =
         rows[i].obstacle == SF_BARRED_DIRECTIVE || rows[i].obstacle == SF_BARRED_MALFORMED ||
-        rows[i].obstacle == SF_BARRED_METHOD || rows[i].obstacle == SF_BARRED_REQUEST_NO_STORE ||
-        rows[i].obstacle == SF_BARRED_REQUEST_HEAD;
+        rows[i].obstacle == SF_BARRED_METHOD || rows[i].obstacle == SF_BARRED_REQUEST_NO_STORE;
     CHECK(verdict.obstacle == (is_before ? rows[i].obstacle : (uint32_t)SF_BARRED_HEAD));
     CHECK(verdict.may_store == 0);
   }

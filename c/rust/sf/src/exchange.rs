@@ -332,11 +332,11 @@ impl Exchange {
         if self.is_request_no_store {
             return Some(Obstacle::RequestNoStore);
         }
-        if self.is_request_incomplete {
-            return Some(Obstacle::RequestHead);
-        }
         if self.is_incomplete {
             return Some(Obstacle::Incomplete);
+        }
+        if self.is_request_incomplete {
+            return Some(Obstacle::RequestHead);
         }
         if !self.is_storable() {
             return Some(Obstacle::Status);
