@@ -19,7 +19,8 @@ use sf_write::{Sent, put};
 use std::alloc::Global;
 use std::hash::RandomState;
 
-/// Returns the names of the fields that are read: these, and `Cache-Control`.
+/// Returns the names of the fields that are read: these, and `Cache-Control`. Fails only if an
+/// allocation fails.
 pub fn with_cache_control(
     alloc: Global,
     names: &[HeaderName],
@@ -202,7 +203,7 @@ fn same(alloc: Global, text: &[u8]) -> Result<Vec<u8>, OutOfMemory>
     after(alloc, b"by RFC 8941 and RFC 9651:\n", text)
 }
 
-/// Returns the answers by RFC 8941 and by RFC 9651, which differ.
+/// Returns the answers by RFC 8941 and by RFC 9651, which differ. Fails only if an allocation fails.
 pub fn by_each_dialect(alloc: Global, older: &[u8], newer: &[u8]) -> Result<Vec<u8>, OutOfMemory>
     ensures { IfOk result (λ all. all.items ≡ different_text older.now newer.now) }
 {
