@@ -203,7 +203,8 @@ fn same(alloc: Global, text: &[u8]) -> Result<Vec<u8>, OutOfMemory>
     after(alloc, b"by RFC 8941 and RFC 9651:\n", text)
 }
 
-/// Returns the answers by RFC 8941 and by RFC 9651, which differ. Fails only if an allocation fails.
+/// Returns the answers by RFC 8941 and by RFC 9651, which differ. Fails only if an allocation
+/// fails.
 pub fn by_each_dialect(alloc: Global, older: &[u8], newer: &[u8]) -> Result<Vec<u8>, OutOfMemory>
     ensures { IfOk result (λ all. all.items ≡ different_text older.now newer.now) }
 {
