@@ -7,8 +7,8 @@ use sf_parse::Refusal;
 use sf_value::{Blob, Dialect, Kind};
 use sf_view::normalise;
 
-/// Normalises so many fields: 5 % with a byte replaced, 3 % (Dictionaries) written twice, and 8 %
-/// cut into two lines if a comma is in their second half.
+/// Normalises so many fields: some 5 % of them malformed, 3 % with a repeated key, and a tenth on
+/// several lines.
 pub(crate) fn answer(bench: &mut Bench, count: u64) -> anyhow::Result<()> {
     let mut text = Vec::with_capacity(bench.alloc, 1024)?;
     for _ in 0..count {
