@@ -25,6 +25,14 @@ goes_more next s t u chunk rest more a b = record {
   leads = run_append next s t a.taken b.taken a.leads ∙ b.leads;
 }
 
+-- what is taken of the window of a chunk is taken of the chunk
+pub goes_window : {S : Type 0} (next : S → ℕ → Option S) (s t : S) (chunk window left rest : List ℕ)
+    → Goes next s window left t
+    → ((taken : List ℕ) → window ≡ taken ++ left → chunk ≡ taken ++ rest)
+    → Goes next s chunk rest t
+goes_window next s t chunk window left rest a same =
+    record { taken = a.taken; split = same a.taken a.split; leads = a.leads }
+
 -- no more is left than there was
 pub left_within : {S : Type 0} (next : S → ℕ → Option S) (s t : S) (chunk rest : List ℕ)
     → Goes next s chunk rest t → length rest ≤ length chunk

@@ -8,7 +8,7 @@ use Rattle.sf_value.specs.Grammar.Classes.{is_sp, is_ows}
 use Rattle.sf_parse.specs.AllocationFree.{SeriesFree}
 use Rattle.sf_parse.specs.StaysFree.{series_keeps}
 use Rattle.sf_parse.specs.Machine.Language.{Machine}
-use Rattle.sf_parse.specs.Machine.Series.{Series, SeriesState, InMember, Gap, Comma}
+use Rattle.sf_parse.specs.Machine.Series.{Series, SeriesState, Begin, InMember, Gap, Comma}
 use Rattle.sf_parse.specs.Prefixes.{Goes}
 use Rattle.std.proofs.Common.{◌≢◌}
 use Rattle.sf_parse.specs.SeriesView.{series_next, series_end, series_of}
@@ -19,7 +19,7 @@ use Rattle.sf_parse.specs.WholeMembers.{IsWholeMember, MayBegin, MayEnd, NoneOpe
 use Rattle.sf_parse.specs.WholeMembers.{TakesMembers, IsAfterMember}
 use Rattle.sf_parse.proofs.Machine.Language.{is_none}
 use Rattle.sf_parse.proofs.Machine.Series.{SeriesLaws, ows_after, sp_ows}
-use Rattle.sf_parse.proofs.Prefixes.{goes_one, goes_more, goes_above, free_goes}
+use Rattle.sf_parse.proofs.Prefixes.{goes_one, goes_more, goes_above, free_goes, every_split}
 use Rattle.sf_parse.proofs.ByteRuns.{stay_goes}
 use Rattle.sf_parse.proofs.SeriesSteps.{gap_stays, comma_stays, member_goes_on}
 use Rattle.sf_parse.proofs.WholeParts.{spells_run}
@@ -209,6 +209,15 @@ module _ {S X V : Type 0} (first : ℕ → Option S) (next : S → ℕ → Optio
     goes = goes_more Next old mid t.state chunk rest left a t.goes;
     reached = t.reached;
   }
+
+  -- what does not allocate in a chunk does not in its window
+  pub free_window : (old : SeriesState S V) (chunk window far : List ℕ) → chunk ≡ window ++ far
+      → SeriesFree old chunk → SeriesFree old window
+  free_window Begin chunk window far e h =
+      (every_split is_sp window far (subst (Every is_sp) e h)).0
+  free_window (InMember given s) chunk window far e h = h
+  free_window (Gap given) chunk window far e h = h
+  free_window (Comma given) chunk window far e h = h
 
   -- after a comma another member may begin
   pub comma_goes : (is_whole : Bool) (q : SeriesPhase) (given : V) (s : S) (old : SeriesState S V)

@@ -1,5 +1,5 @@
 -- What reading a whole part at the start of a text returns.
-use Rattle.std.specs.Prelude.{◌≡◌, ℕ, Bool, false, List, [], ◌∷◌, ◌++◌}
+use Rattle.std.specs.Prelude.{◌≡◌, ℕ, false, List, [], ◌∷◌, ◌++◌}
 use Rattle.sf_value.specs.Ascii.{space, semicolon, close_bracket}
 use Rattle.sf_value.specs.declared.dialect.Dialect.{Dialect}
 use Rattle.sf_value.specs.declared.value.Bare.{Bare}
@@ -7,7 +7,6 @@ use Rattle.sf_value.specs.declared.value.Item.{Item}
 use Rattle.sf_value.specs.declared.value.Member.{Member}
 use Rattle.sf_value.specs.declared.value.Member.TheVariants as member
 use Rattle.sf_value.specs.Grammar.Classes.{is_sp, is_ows}
-use Rattle.sf_value.specs.Grammar.Words.{Every}
 use Rattle.sf_value.specs.Grammar.Items.{SpellsItem, item}
 use Rattle.sf_value.specs.Grammar.Pairs.{Pairs}
 use Rattle.sf_value.specs.Grammar.Parameters.{SpellsParam}

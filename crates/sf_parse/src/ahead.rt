@@ -1,21 +1,47 @@
-//! Looking ahead near the beginning of a text, to decide whether a part is read directly or left to
-//! the levels. That only saves time, and no proof relies on it.
-ghost use Rattle.std.specs.Prelude.{◌≤◌, length};
+//! The beginning of a text: the part of a chunk in which whole parts are read directly, and looking
+//! ahead, to decide whether a part is read directly or left to the levels. Looking ahead only saves
+//! time, and no proof relies on it.
+ghost use Rattle.std.specs.Prelude.{◌≡◌, ◌≤◌, ◌++◌, ℕ, List, length};
 
 use memchr::{memchr, memchr2, memchr3};
 use sf_value::classes::strip_byte;
+
+/// At most this many bytes of a chunk are read directly at a time. A part that isn't whole in them is
+/// read again by the levels, so what is read twice is bounded.
+const DIRECT: usize = 8192;
 
 /// At most this many bytes of a text are searched, so that a long text that is refused early isn't
 /// first searched to its end.
 const NEAR: usize = 1024;
 
-/// The bytes of a text that are searched.
+/// The beginning of a chunk, in which parts are read directly.
 #[inline(always)]
-fn head(text: &[u8]) -> &[u8]
-    ensures { length result.now ≤ length text.now }
+pub fn window(chunk: &[u8]) -> &[u8]
+    ensures split { (far : List ℕ) × (chunk.now ≡ result.now ++ far) }
+    ensures within { length result.now ≤ length chunk.now }
 {
-    let (first, _) = text.split_at(text.len().min(NEAR));
+    head(chunk, DIRECT)
+}
+
+/// At most so many bytes of a text, from its beginning.
+#[inline(always)]
+fn head(text: &[u8], most: usize) -> &[u8]
+    ensures split { (far : List ℕ) × (text.now ≡ result.now ++ far) }
+    ensures within { length result.now ≤ length text.now }
+{
+    let (first, _) = text.split_at(text.len().min(most));
     first
+}
+
+/// The rest of a chunk after what was read of its window, of which this is left.
+#[inline(always)]
+pub fn after_window<'a>(chunk: &'a [u8], window: &[u8], left: &[u8]) -> &'a [u8]
+    requires { length window.now ≤ length chunk.now }
+    ensures { (taken far : List ℕ) → chunk.now ≡ window.now ++ far
+        → window.now ≡ taken ++ left.now → chunk.now ≡ taken ++ result.now }
+{
+    let (_, rest) = chunk.split_at(window.len().saturating_sub(left.len()));
+    rest
 }
 
 /// How many of the bytes that are searched for are looked at. If all of these are within Strings,
@@ -26,7 +52,7 @@ const STRINGS: usize = 4;
 /// or an Item with parameters is left to the levels if no comma follows it, since it would have to
 /// be read again.
 pub fn has_comma(text: &[u8]) -> bool {
-    let mut rest = head(text);
+    let mut rest = head(text, NEAR);
     for _ in 0..STRINGS {
         let Some(place) = memchr(b',', rest) else {
             return false;
@@ -47,7 +73,7 @@ pub fn has_comma(text: &[u8]) -> bool {
 /// bracket before it. An Item with parameters in an Inner List of a chunk is left to the levels if
 /// no such space follows it.
 pub fn has_space(text: &[u8]) -> bool {
-    let mut rest = head(text);
+    let mut rest = head(text, NEAR);
     for _ in 0..STRINGS {
         let Some(place) = memchr3(b' ', b',', b')', rest) else {
             return false;

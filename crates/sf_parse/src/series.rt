@@ -18,7 +18,7 @@ ghost use Rattle.sf_parse.specs.WholeMembers.{TakesMembers, IsAfterMember};
 ghost use Rattle.sf_parse.specs.declared.series.SeriesPhase.TheVariants as phase_is;
 ghost use Rattle.sf_parse.specs.declared.whole_parts.Begun.TheVariants as begun_is;
 
-use crate::ahead::has_comma;
+use crate::ahead::{after_window, has_comma, window};
 use crate::context::Context;
 use crate::leaf::make;
 use crate::level::Level;
@@ -157,7 +157,15 @@ impl<P: SeriesMember<G>, G: Drop> SeriesReader<P, G> {
             SeriesPhase::Begin => self.given = P::none(context),
             SeriesPhase::Comma => {}
         }
-        add_each_member::<P, G>(context, chunk, false, &mut self.phase, &mut self.given)
+        let begin = window(chunk);
+        let left = add_each_member::<P, G>(
+            context,
+            begin,
+            false,
+            &mut self.phase,
+            &mut self.given,
+        )?;
+        Ok(after_window(chunk, begin, left))
     }
 
     /// The value of the members, if the last one is complete. It is taken out of the reader.
@@ -357,7 +365,7 @@ fn may_add<P: SeriesMember<G>, G>(dialect: Dialect, chunk: &[u8]) -> bool {
 /// allowed there, so that a chunk that is refused there isn't searched. No proof relies on it.
 #[inline(always)]
 fn has_end<P: SeriesMember<G>, G>(dialect: Dialect, chunk: &[u8]) -> bool {
-    match P::begin(dialect, chunk) {
+    match P::begin(dialect, window(chunk)) {
         Some(Begun::Item(_, after)) => match split(after) {
             Some((b',' | b' ' | b'\t', _)) => true,
             Some((b';', _)) => begins_param(dialect, after) && has_comma(after),

@@ -22,7 +22,7 @@ ghost use Rattle.sf_parse.specs.WholeParts.{ReadsItems, IsAfterItem, AddsItem};
 ghost use Rattle.sf_parse.specs.WholeParts.{found_member};
 ghost use Rattle.sf_parse.specs.declared.whole_parts.Unread.TheVariants as unread_is;
 
-use crate::ahead::has_space;
+use crate::ahead::{after_window, has_space, window};
 use crate::context::Context;
 use crate::leaf::{find_leaf, make};
 use sf_scan::leaf::Leaf;
@@ -153,10 +153,12 @@ pub fn add_params<'a>(
     if text.len() < WHOLE_PARTS {
         return Ok(text);
     }
-    put_each_param(context, text, params)
+    let begin = window(text);
+    let left = put_each_param(context, begin, params)?;
+    Ok(after_window(text, begin, left))
 }
 
-/// As [`add_params`]: [`add_params`] itself only tests the length, since a call clears its stack.
+/// As [`add_params`], in its window. A call clears its stack, so [`add_params`] tests the length.
 #[inline(never)]
 fn put_each_param<'a>(
     context: &Context,
@@ -265,10 +267,12 @@ pub fn add_items<'a>(
     if text.len() < WHOLE_PARTS {
         return Ok(text);
     }
-    push_each_item(context, text, items)
+    let begin = window(text);
+    let left = push_each_item(context, begin, items)?;
+    Ok(after_window(text, begin, left))
 }
 
-/// As [`add_items`], which itself only tests the length, since a call clears its stack.
+/// As [`add_items`], in its window. A call clears its stack, so [`add_items`] tests the length.
 #[inline(never)]
 fn push_each_item<'a>(
     context: &Context,

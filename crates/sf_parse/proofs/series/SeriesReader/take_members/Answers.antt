@@ -1,9 +1,9 @@
 use Rattle.std.proofs.Common.{◌≡◌, refl, false}
 use Rattle.sf_parse.specs.Machine.Series.{InMember}
 use Rattle.sf_parse.specs.SeriesView.{series_next, series_of}
-use Rattle.sf_parse.proofs.Prefixes.{part_above, each_ok}
+use Rattle.sf_parse.proofs.Prefixes.{part_above, goes_window, never}
 use Rattle.sf_parse.proofs.SeriesSteps.{member_goes_on}
-use Rattle.sf_parse.proofs.WholeMembers.{none_taken}
+use Rattle.sf_parse.proofs.WholeMembers.{free_window, none_taken}
 use Rattle.sf_parse.proofs.series.SeriesReader.take_members.Goals.{in-Begin, in-Comma}
 use Rattle.sf_parse.proofs.series.SeriesReader.take_members.Goals as goal
 
@@ -34,6 +34,27 @@ returns-clause-goes g c =
       | in-Comma w ↦ rw w.self-inside-is c.self.view_is
     ] in
     rw (← view)
-    (each_ok (λ rest t. none_taken first next added none with false _ _ before.member _ _ refl
-    (series_of before.phase before.given before.member) (t before.member))
-    c.add_each_member.result c.add_each_member.ensures.goes)
+    (goes_window (series_next first next added none) _ _ _ _ _ _
+    (none_taken first next added none with false _ _ before.member _ _ refl
+    (series_of before.phase before.given before.member)
+    (c.in_ok-left.ensures.goes before.member))
+    (λ taken. c.after_window.ensures taken c.window-begin.ensures.split.0
+    c.window-begin.ensures.split.1))
+
+pub returns-in_err-left-clause-allocation_free : goal.returns-in_err-left-clause-allocation_free
+returns-in_err-left-clause-allocation_free g c =
+    let d = c.args.context.now.dialect in
+    let first = g.P.SeriesMember.first d in
+    let next = g.P.Level.next d in
+    let added = g.P.SeriesMember.added in
+    let none = g.P.SeriesMember.none in
+    let with = g.P.SeriesMember.with in
+    let before = c.match-self.self-inside in
+    let view : series_of before.phase before.given before.member ≡ c.args.self.now =
+    elim c.match-self.branch [
+      | in-Begin w ↦ rw (w.self-inside-is, w.in-Begin.is) (rw w.in-Begin.is at c.self.view_is)
+      | in-Comma w ↦ rw w.self-inside-is c.self.view_is
+    ] in
+    rw (← view)
+    (λ h. never (c.in_err-left.ensures.allocation_free before.member
+    (free_window first next added none with _ _ _ _ c.window-begin.ensures.split.1 h)))
