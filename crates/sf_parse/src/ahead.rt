@@ -8,7 +8,7 @@ use sf_value::classes::strip_byte;
 
 /// At most this many bytes of a chunk are read directly at a time. A part that isn't whole in them is
 /// read again by the levels, so what is read twice is bounded.
-const DIRECT: usize = 8192;
+const DIRECT: usize = 32_768;
 
 /// At most this many bytes of a text are searched, so that a long text that is refused early isn't
 /// first searched to its end.

@@ -14,7 +14,7 @@ use crate::context::Context;
 use crate::item::ItemReader;
 use crate::level::Level;
 use crate::sets::{SPACE, set_if};
-use sf_value::classes::{Space, short_prefix};
+use sf_value::classes::{Space, few_prefix};
 use sf_value::{Dialect, Item, OutOfMemory};
 use std::marker::Model;
 use std::mem;
@@ -102,11 +102,11 @@ impl Level for ItemFieldReader {
     ) -> Result<&'a [u8], OutOfMemory> {
         match self.phase {
             ItemFieldPhase::Before => {
-                let (_, rest) = short_prefix::<Space>(chunk);
+                let (_, rest) = few_prefix::<Space>(chunk);
                 return Ok(rest);
             }
             ItemFieldPhase::After => {
-                let (_, rest) = short_prefix::<Space>(chunk);
+                let (_, rest) = few_prefix::<Space>(chunk);
                 return Ok(rest);
             }
             ItemFieldPhase::Inside => return self.item.take(context, chunk),

@@ -23,7 +23,7 @@ use crate::item::ItemReader;
 use crate::level::Level;
 use crate::sets::{CLOSE, OPEN, SPACE, set_if};
 use crate::whole_parts::add_items;
-use sf_value::classes::{Space, short_prefix};
+use sf_value::classes::{Space, few_prefix};
 use sf_value::{Bare, Dialect, Inner, Item, Member, OutOfMemory, Sequence};
 use std::marker::Model;
 use std::mem;
@@ -239,7 +239,7 @@ impl Level for MemberReader {
     ) -> Result<&'a [u8], OutOfMemory> {
         match self.phase {
             MemberPhase::BetweenItems => {
-                let (_, items) = short_prefix::<Space>(chunk);
+                let (_, items) = few_prefix::<Space>(chunk);
                 // Taken apart: see `FieldState::take_run`.
                 let rest = add_items(context, items, &mut self.items)?;
                 return Ok(rest);

@@ -11,7 +11,7 @@ use crate::gathering::extend;
 use crate::level::Level;
 use crate::sets::{AFTER_KEY, KEY_START, SEMICOLON, SPACE, set_if};
 use crate::whole_parts::add_params;
-use sf_value::classes::{ByteClass, InKey, Space, any_prefix, short_prefix};
+use sf_value::classes::{ByteClass, InKey, Space, any_prefix, few_prefix};
 use sf_value::{Bare, Dialect, Entries, Key, OutOfMemory, ShortBytes, can_start_key};
 use std::marker::Model;
 use std::mem;
@@ -131,7 +131,7 @@ impl Level for ParamsReader {
     ) -> Result<&'a [u8], OutOfMemory> {
         match self.phase {
             ParamsPhase::Opened => {
-                let (_, params) = short_prefix::<Space>(chunk);
+                let (_, params) = few_prefix::<Space>(chunk);
                 // Taken apart: see `FieldState::take_run`.
                 let rest = add_params(context, params, &mut self.params)?;
                 return Ok(rest);

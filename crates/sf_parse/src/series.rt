@@ -26,7 +26,7 @@ use crate::sets::{COMMA, OWS, SPACE, set_if};
 use crate::whole_parts::{
     Begun, Found, Unread, WHOLE_PARTS, begins_param, may_begin_params, read_inner, read_params,
 };
-use sf_value::classes::{Ows, Space, ends, few_prefix, short_prefix, split, strip_byte};
+use sf_value::classes::{Ows, Space, ends, few_prefix, split, strip_byte};
 use sf_value::{Bare, Dialect, Entries, Item, Member, OutOfMemory, is_ows};
 use std::marker::Model;
 use std::mem;
@@ -210,18 +210,18 @@ impl<P: SeriesMember<G>, G: Drop> Level for SeriesReader<P, G> {
     ) -> Result<&'a [u8], OutOfMemory> {
         match self.phase {
             SeriesPhase::Begin => {
-                let (_, rest) = short_prefix::<Space>(chunk);
+                let (_, rest) = few_prefix::<Space>(chunk);
                 if !may_add::<P, G>(context.dialect, rest) {
                     return Ok(rest);
                 }
                 return self.take_members(context, rest);
             }
             SeriesPhase::Gap => {
-                let (_, rest) = short_prefix::<Ows>(chunk);
+                let (_, rest) = few_prefix::<Ows>(chunk);
                 return Ok(rest);
             }
             SeriesPhase::Comma => {
-                let (_, rest) = short_prefix::<Ows>(chunk);
+                let (_, rest) = few_prefix::<Ows>(chunk);
                 if !may_add::<P, G>(context.dialect, rest) {
                     return Ok(rest);
                 }

@@ -399,10 +399,10 @@ pub fn any_prefix<C: LaneClass>(text: &[u8]) -> (&[u8], &[u8])
     text.split_at(run)
 }
 
-/// As [`short_prefix`], for white space, of which there is mostly one byte or none. It does not
+/// As [`any_prefix`], for white space, of which there is mostly one byte or none. It does not
 /// allocate.
 #[inline(always)]
-pub fn few_prefix<C: ByteClass>(text: &[u8]) -> (&[u8], &[u8])
+pub fn few_prefix<C: LaneClass>(text: &[u8]) -> (&[u8], &[u8])
     // Together they are the text.
     ensures whole { text.now ≡ result.0.now ++ result.1.now }
     // All bytes of the first are of the class.
@@ -425,14 +425,14 @@ pub fn few_prefix<C: ByteClass>(text: &[u8]) -> (&[u8], &[u8])
 /// The number of bytes of the class that the text begins with. It is not inlined: after a loop, the
 /// compiler's code for the rest of the caller would be slower.
 #[inline(never)]
-fn many<C: ByteClass>(text: &[u8]) -> usize
+fn many<C: LaneClass>(text: &[u8]) -> usize
     ensures within { result ≤ length text.now }
     // All of these bytes are of the class.
     ensures every { Every C.test (take result text.now) }
     // The next byte, if there is one, is not.
     ensures longest { Lacks C.test (drop result text.now) }
 {
-    let (run, _) = short_prefix::<C>(text);
+    let (run, _) = any_prefix::<C>(text);
     run.len()
 }
 

@@ -3,7 +3,8 @@ ghost use Rattle.std.specs.Prelude.{◌≡◌, map, not};
 ghost use Rattle.std.specs.Simd.Lanes.{mask_l};
 
 use crate::classes::{
-    Base64, InKey, InToken, LaneClass, NoBackslash, NoPercent, UnencodedByte, Unescaped, Visible,
+    Base64, InKey, InToken, LaneClass, NoBackslash, NoPercent, Ows, Space, UnencodedByte, Unescaped,
+    Visible,
 };
 use std::simd::prelude::*;
 
@@ -78,5 +79,20 @@ impl LaneClass for Base64 {
         let from_slash = bytes.simd_ge(u8x16::splat(b'/')) & bytes.simd_le(u8x16::splat(b'9'));
         let plus = bytes.simd_eq(u8x16::splat(b'+'));
         (!(lower | upper | from_slash | plus)).to_bitmask()
+    }
+}
+
+impl LaneClass for Space {
+    #[inline(always)]
+    fn outside(bytes: u8x16) -> u64 {
+        (!bytes.simd_eq(u8x16::splat(b' '))).to_bitmask()
+    }
+}
+
+impl LaneClass for Ows {
+    #[inline(always)]
+    fn outside(bytes: u8x16) -> u64 {
+        let white = bytes.simd_eq(u8x16::splat(b' ')) | bytes.simd_eq(u8x16::splat(b'\t'));
+        (!white).to_bitmask()
     }
 }

@@ -14,7 +14,7 @@ returns-in-Before-clause-goes c =
     let d = c.args.context.now.dialect in
     rw (← c.self.view_is, c.in-Before.is)
     (stay_goes (step d) is_sp BeforeItem _ _ _ (space_before d)
-    c.short_prefix.ensures.whole c.short_prefix.ensures.every)
+    c.few_prefix.ensures.whole c.few_prefix.ensures.every)
 
 pub returns-in-After-clause-goes : goal.returns-in-After-clause-goes
 returns-in-After-clause-goes c =
@@ -23,7 +23,7 @@ returns-in-After-clause-goes c =
     rw (← c.self.view_is, c.in-After.is)
     (stay_goes (step d) is_sp (after_of c.self.inside.whole) _ _ _
     (space_after d c.self.inside.whole fits)
-    c.short_prefix-in-After.ensures.whole c.short_prefix-in-After.ensures.every)
+    c.few_prefix-in-After.ensures.whole c.few_prefix-in-After.ensures.every)
 
 pub returns-in-Inside-clause-goes : goal.returns-in-Inside-clause-goes
 returns-in-Inside-clause-goes c =

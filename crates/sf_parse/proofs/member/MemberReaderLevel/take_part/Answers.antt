@@ -16,7 +16,7 @@ returns-in-BetweenItems-clause-goes c =
     rw (← c.self.view_is, c.in-BetweenItems.is)
     (goes_more (member_step d) old old _ _ _ _
     (stay_goes (member_step d) is_sp old _ _ _ (space_in_member d is)
-    c.short_prefix.ensures.whole c.short_prefix.ensures.every) c.in_ok-rest-in-BetweenItems.ensures)
+    c.few_prefix.ensures.whole c.few_prefix.ensures.every) c.in_ok-rest-in-BetweenItems.ensures)
 
 pub returns-in-One-clause-goes : goal.returns-in-One-clause-goes
 returns-in-One-clause-goes c =

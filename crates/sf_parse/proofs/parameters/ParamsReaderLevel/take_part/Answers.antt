@@ -15,7 +15,7 @@ returns-in-Opened-clause-goes c =
     rw (← c.self.view_is, c.in-Opened.is)
     (goes_more (params_step d) (Opened ps) (Opened ps) _ _ _ _
     (stay_goes (params_step d) is_sp (Opened ps) _ _ _ (space_in_params d ps)
-    c.short_prefix.ensures.whole c.short_prefix.ensures.every) c.in_ok-rest-in-Opened.ensures)
+    c.few_prefix.ensures.whole c.few_prefix.ensures.every) c.in_ok-rest-in-Opened.ensures)
 
 pub invariant_of-self-in-InKey : goal.invariant_of-self-in-InKey
 invariant_of-self-in-InKey c =

@@ -17,7 +17,7 @@ returns-then-not-may_add-clause-goes g c =
     let none = g.P.SeriesMember.none in
     rw (← c.self.view_is, c.in-Begin.is)
     (stay_goes (series_next first next added none) is_sp Begin _ _ _
-    (space_stays first next added none) c.short_prefix.ensures.whole c.short_prefix.ensures.every)
+    (space_stays first next added none) c.few_prefix.ensures.whole c.few_prefix.ensures.every)
 
 pub returns-in-Gap-clause-goes : goal.returns-in-Gap-clause-goes
 returns-in-Gap-clause-goes g c =
@@ -29,8 +29,8 @@ returns-in-Gap-clause-goes g c =
     let given = c.self.inside.given in
     rw (← c.self.view_is, c.in-Gap.is)
     (stay_goes (series_next first next added none) is_ows (Gap given) _ _ _
-    (gap_stays first next added none given) c.short_prefix-in-Gap.ensures.whole
-    c.short_prefix-in-Gap.ensures.every)
+    (gap_stays first next added none given) c.few_prefix-in-Gap.ensures.whole
+    c.few_prefix-in-Gap.ensures.every)
 
 pub returns-in-InMember-clause-goes : goal.returns-in-InMember-clause-goes
 returns-in-InMember-clause-goes g c =
@@ -52,7 +52,7 @@ returns-in-Begin-clause-goes g c =
     let added = g.P.SeriesMember.added in
     let none = g.P.SeriesMember.none in
     let spaces = stay_goes (series_next first next added none) is_sp Begin _ _ _
-    (space_stays first next added none) c.short_prefix.ensures.whole c.short_prefix.ensures.every in
+    (space_stays first next added none) c.few_prefix.ensures.whole c.few_prefix.ensures.every in
     let members = rw (← c.self.view_is, c.in-Begin.is) at c.take_members.ensures.goes in
     rw (← c.self.view_is, c.in-Begin.is)
     (each_ok (λ rest a. goes_more (series_next first next added none) _ _ _ _ _ _ spaces a)
@@ -62,7 +62,7 @@ pub returns-in-Begin-clause-allocation_free : goal.returns-in-Begin-clause-alloc
 returns-in-Begin-clause-allocation_free g c = λ h.
     let spaces : Every is_sp c.args.chunk.now = rw (← c.self.view_is, c.in-Begin.is) at h in
     let free = rw (← c.self.view_is, c.in-Begin.is) at c.take_members.ensures.allocation_free in
-    free (every_split is_sp _ _ (subst (Every is_sp) c.short_prefix.ensures.whole spaces)).1
+    free (every_split is_sp _ _ (subst (Every is_sp) c.few_prefix.ensures.whole spaces)).1
 
 pub returns-then-not-may_add-2-clause-goes : goal.returns-then-not-may_add-2-clause-goes
 returns-then-not-may_add-2-clause-goes g c =
@@ -73,8 +73,8 @@ returns-then-not-may_add-2-clause-goes g c =
     let none = g.P.SeriesMember.none in
     let given = c.self.inside.given in
     let white = stay_goes (series_next first next added none) is_ows (Comma given) _ _ _
-    (comma_stays first next added none given) c.short_prefix-in-Comma.ensures.whole
-    c.short_prefix-in-Comma.ensures.every in
+    (comma_stays first next added none given) c.few_prefix-in-Comma.ensures.whole
+    c.few_prefix-in-Comma.ensures.every in
     rw (← c.self.view_is, c.in-Comma.is) white
 
 pub returns-in-Comma-clause-goes : goal.returns-in-Comma-clause-goes
@@ -86,8 +86,8 @@ returns-in-Comma-clause-goes g c =
     let none = g.P.SeriesMember.none in
     let given = c.self.inside.given in
     let white = stay_goes (series_next first next added none) is_ows (Comma given) _ _ _
-    (comma_stays first next added none given) c.short_prefix-in-Comma.ensures.whole
-    c.short_prefix-in-Comma.ensures.every in
+    (comma_stays first next added none given) c.few_prefix-in-Comma.ensures.whole
+    c.few_prefix-in-Comma.ensures.every in
     let members = rw (← c.self.view_is, c.in-Comma.is) at c.take_members-in-Comma.ensures.goes in
     rw (← c.self.view_is, c.in-Comma.is)
     (each_ok (λ rest a. goes_more (series_next first next added none) _ _ _ _ _ _ white a)
