@@ -13,7 +13,7 @@ use Rattle.sf_parse.specs.declared.refusal.Refusal.TheVariants.{Syntax, TooLong}
 use Rattle.sf_parse.specs.Machine.Fields.{Residual, step, finish, begin}
 use Rattle.sf_parse.specs.Machine.Tests.{takes, may_end}
 use Rattle.sf_parse.specs.Reaching.{IsReachedBy}
-use Rattle.sf_parse.specs.Expected.{Marks}
+use Rattle.sf_scan.specs.Sets.{Marks}
 use Rattle.sf_parse.specs.Parsers.{Progress, HasTaken, Sound, RefusedFor}
 use Rattle.sf_value.specs.Grammar.Refusals.{IsSyntax}
 use Rattle.sf_parse.specs.Parsers.{SameSettings, Feeds, FeedAnswer, Finishes, Refuses, StandsAt}

@@ -10,9 +10,9 @@ use Rattle.sf_parse.specs.Machine.Language.{run}
 use Rattle.sf_parse.specs.Machine.Showns.{Unencoded, push_byte, shown_step}
 use Rattle.sf_parse.specs.Machine.Bares.{InShown, bare_finish}
 use Rattle.sf_value.specs.Grammar.Classes.{is_visible}
-use Rattle.sf_value.specs.Utf8States.{utf8_of}
+use Rattle.sf_scan.specs.Characters.{utf8_of}
 use Rattle.sf_parse.specs.Views.{shown_of, FitsShown, Leads}
-use Rattle.sf_value.specs.declared.utf8.Utf8State.{Utf8State}
+use Rattle.sf_scan.specs.declared.char_place.CharPlace.{CharPlace}
 use Rattle.sf_parse.specs.declared.display_string.ShownPhase.{ShownPhase}
 use Rattle.sf_parse.specs.declared.display_string.ShownPhase.TheVariants as shown_phase
 use Rattle.sf_parse.proofs.Machine.Language.{and_then_cases}
@@ -102,7 +102,7 @@ leads_run bytes xs more l h f =
         (by (bytes ++ b ∷ []) xs (leads_push bytes b Start Start l (unencoded_after b h.0)) h.1)
 
 -- a closed display string is whole characters
-pub shown_whole : (p : ShownPhase) (bytes : List ℕ) (chars : Utf8State) → FitsShown p bytes chars
+pub shown_whole : (p : ShownPhase) (bytes : List ℕ) (chars : CharPlace) → FitsShown p bytes chars
     → is_some (bare_finish (InShown (shown_of p bytes chars))) ≡ true → WellFormed Start bytes
 shown_whole shown_phase.Done bytes chars f e =
     whole_when_led bytes (subst (λ c. Leads bytes (utf8_of c)) f.1 f.0)

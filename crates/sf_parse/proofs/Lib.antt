@@ -35,6 +35,7 @@ pub mod Quads
 pub mod HighDigits
 -- Bytes that may follow: masks, tables, runs and their names.
 pub mod Marks
+pub mod BarePlaces
 pub mod LevelMarks
 pub mod Classes
 pub mod Numerals

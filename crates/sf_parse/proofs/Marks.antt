@@ -1,54 +1,15 @@
--- Sets of bytes as the bits of a number: put together, and bit by bit.
-use Rattle.std.proofs.Common.{◌≡◌, ℕ, zero, ◌+◌, ◌*◌, ◌%◌, ◌^◌, ◌<◌, ◌≤◌, Bool, true, false, ◌==◌}
-use Rattle.std.proofs.Common.{nat_lt, ◌&&◌, ◌||◌, cond, refl, sym, ap, ap₂, ◌∙◌, ⊎_elim}
-use Rattle.std.proofs.Common.{arith, bit_or, ◌≢◌, eqb-true, max, Option, Some, None, is_some}
+-- Sets of bytes as the bits of a number: those that a step takes.
+use Rattle.std.proofs.Common.{◌≡◌, ℕ, ◌<◌, Bool, true, false, ◌==◌, nat_lt, ◌&&◌, ◌||◌, cond, refl, sym}
+use Rattle.std.proofs.Common.{ap, ◌∙◌, ⊎_elim, bit_or, eqb-true, Option, Some, None, is_some}
 use Rattle.std.specs.Option.{option_map, option_or}
-use Rattle.std.specs.Int.{bit_at, w128}
-use Rattle.std.proofs.lemmas.Nat.Bits.{bit_at_set_same, bit_at_set_other, bit_at_or, bit_at_above}
-use Rattle.std.proofs.lemmas.Nat.Bits.{bit_at-zero}
-use Rattle.std.proofs.lemmas.Bool.{and_parts, cases_eq, cases_lt}
+use Rattle.std.proofs.lemmas.Bool.{cases_lt}
 use Rattle.sf_value.specs.Grammar.Words.{allow}
-use Rattle.sf_parse.specs.Expected.{MarksBelow, Marks, MarksStep}
+use Rattle.sf_value.proofs.Tables.{all_below, each_below}
+use Rattle.sf_scan.specs.Sets.{Marks}
+use Rattle.sf_scan.proofs.Sets.{bit, marks_or, marks_none, marks_table, is_table, above}
+use Rattle.sf_parse.specs.Expected.{MarksStep}
 use Rattle.sf_parse.specs.Machine.Language.{onward}
 use Rattle.sf_parse.specs.MemberEnds.{some_map}
-use Rattle.sf_value.proofs.Tables.{all_below, each_below}
-
--- the bit of a test
-abbrev bit : Bool → ℕ
-bit c = cond c 1 0
-
--- either of two sets
-most : (c x y : Bool) → max (bit (c && x)) (bit (c && y)) ≡ bit (c && (x || y))
-most c x y = grind arith
-
-pub marks_or : (x y : ℕ) (p q : ℕ → Bool) → Marks x p → Marks y q
-    → Marks (bit_or x y) (λ b. p b || q b)
-marks_or x y p q h k b =
-    bit_at_or x y b ∙ ap₂ max (h b) (k b) ∙ most (nat_lt b 128) (p b) (q b)
-
-none : (c : Bool) → zero ≡ bit (c && false)
-none c = grind arith
-
-marks_none : Marks 0 (λ b. false)
-marks_none b = bit_at-zero b ∙ none (nat_lt b 128)
-
--- a set where a condition holds
-pub marks_if : (c : Bool) (x : ℕ) (p : ℕ → Bool) → Marks x p → Marks (cond c x 0) (λ b. c && p b)
-marks_if true x p h = h
-marks_if false x p h = marks_none
-
-pub marks_where : (c : Bool) (x : ℕ) (p : ℕ → Bool) → Marks x p
-    → Marks (cond c x 0) (λ b. p b && c)
-marks_where c x p h b = marks_if c x p h b ∙ ap (λ y. bit (nat_lt b 128 && y)) (swap c (p b))
-  where
-    swap : (a b : Bool) → (a && b) ≡ (b && a)
-    swap a b = grind arith
-
--- and where two hold
-pub marks_both : (c d : Bool) (x : ℕ) (p : ℕ → Bool) → Marks x p
-    → Marks (cond c (cond d x 0) 0) (λ b. p b && (c && d))
-marks_both true d x p h = marks_where d x p h
-marks_both false d x p h = marks_where false x p h
 
 -- the steps of a machine within another, of either of two, and of one and what comes after its end
 pub marks_same : (x : ℕ) (p q : ℕ → Bool) → ((b : ℕ) → q b ≡ p b) → Marks x p → Marks x q
@@ -58,15 +19,11 @@ pub marks_map : {S T : Type 0} (f : S → T) (x : ℕ) (o : ℕ → Option S) �
     → MarksStep x (λ b. option_map f (o b))
 marks_map f x o = marks_same x _ _ (λ b. some_map f (o b))
 
-some_allow : {S : Type 0} (c : Bool) (s : S) → is_some (allow c s) ≡ c
+pub some_allow : {S : Type 0} (c : Bool) (s : S) → is_some (allow c s) ≡ c
 some_allow true s = refl
 some_allow false s = refl
 
-pub marks_allow : {S : Type 0} (x : ℕ) (p : ℕ → Bool) (s : ℕ → S) → Marks x p
-    → MarksStep x (λ b. allow (p b) (s b))
-marks_allow x p s = marks_same x _ _ (λ b. some_allow (p b) (s b))
-
-some_or : {S : Type 0} (a c : Option S) → is_some (option_or a c) ≡ (is_some a || is_some c)
+pub some_or : {S : Type 0} (a c : Option S) → is_some (option_or a c) ≡ (is_some a || is_some c)
 some_or (Some s) c = refl
 some_or None c = refl
 
@@ -92,57 +49,26 @@ marks_onward into x y o (Some v) after h k =
 marks_onward into x y o None after h k =
     marks_same _ _ _ (λ b. some_off into (o b) (λ v. after v b)) (marks_or x 0 _ _ h marks_none)
 
+-- tests that are the same below 128, by their table
+abbrev pub is_same : (ℕ → Bool) → (ℕ → Bool) → Bool
+is_same p q = all_below 128 (λ b. bit (p b) == bit (q b))
+
+pub each_same : (p q : ℕ → Bool) → is_same p q ≡ true → (b : ℕ) → b < 128 → p b ≡ q b
+each_same p q h b l = same (p b) (q b)
+    (eqb-true (bit (p b)) (bit (q b)) (each_below 128 (λ b. bit (p b) == bit (q b)) h b l))
+  where
+    same : (c e : Bool) → bit c ≡ bit e → c ≡ e
+    same true true h = refl
+    same true false h = absurd cc
+    same false true h = absurd cc
+    same false false h = refl
+
+pub marks_below : (x : ℕ) (p q : ℕ → Bool) → ((b : ℕ) → b < 128 → q b ≡ p b) → Marks x p
+    → Marks x q
+marks_below x p q e k b = k b ∙ ⊎_elim (λ l. ap (λ y. bit (nat_lt b 128 && y)) (sym (e b l)))
+    (λ g. sym (above b (p b) g) ∙ above b (q b) g) (cases_lt b 128)
+
 -- a set that is known
-above : (b : ℕ) (c : Bool) → 128 ≤ b → zero ≡ bit (nat_lt b 128 && c)
-above b c h = grind arith
-
-below : (b : ℕ) (c : Bool) → b < 128 → bit c ≡ bit (nat_lt b 128 && c)
-below b c h = grind arith
-
-less : (x n : ℕ) → nat_lt x n ≡ true → x < n
-less x n h = grind arith
-
-abbrev pub is_table : ℕ → (ℕ → Bool) → Bool
-is_table x p = nat_lt x (2 ^ 128) && all_below 128 (λ b. bit_at x b == cond (p b) 1 0)
-
-pub marks_table : (x : ℕ) (p : ℕ → Bool) → is_table x p ≡ true → Marks x p
-marks_table x p h b =
-    let k = and_parts (nat_lt x (2 ^ 128)) (all_below 128 (λ b. bit_at x b == bit (p b))) h in
-    let small = less x (2 ^ 128) k.0 in
-    ⊎_elim (λ l. eqb-true (bit_at x b) (bit (p b))
-    (each_below 128 (λ b. bit_at x b == bit (p b)) k.1 b l) ∙ below b (p b) l)
-    (λ g. bit_at_above x 128 b small g ∙ above b (p b) g) (cases_lt b 128)
-
--- a bound one higher changes the test at that place alone
-other_test : (b k : ℕ) (x : Bool) → b ≢ k → (nat_lt b (k + 1) && x) ≡ (nat_lt b k && x)
-other_test b k x n = grind arith
-
-same_test : (k : ℕ) (x : Bool) → (nat_lt k (k + 1) && x) ≡ x
-same_test k x = grind arith
-
-below_test : (k : ℕ) (x : Bool) → (nat_lt k k && x) ≡ false
-below_test k x = grind arith
-
--- one byte more
-pub mark_set : (n k : ℕ) (p : ℕ → Bool) → k < 128 → MarksBelow k n p → p k ≡ true
-    → MarksBelow (k + 1) (bit_or n (1 * 2 ^ k % 2 ^ 128)) p
-mark_set n k p w m t b = ⊎_elim
-    (λ e. ap (bit_at (bit_or n (1 * 2 ^ k % 2 ^ 128))) e ∙ bit_at_set_same w128 n k w
-    ∙ sym (ap (λ y. bit (nat_lt y (k + 1) && p y)) e
-    ∙ ap (λ y. bit y) (same_test k (p k) ∙ t)))
-    (λ e. bit_at_set_other w128 n k w b e ∙ m b
-    ∙ sym (ap (λ y. bit y) (other_test b k (p b) e)))
-    (cases_eq b k)
-
-pub mark_clear : (n k : ℕ) (p : ℕ → Bool) → MarksBelow k n p → p k ≡ false
-    → MarksBelow (k + 1) n p
-mark_clear n k p m t b = ⊎_elim
-    (λ e. ap (bit_at n) e ∙ m k ∙ ap (λ y. bit y) (below_test k (p k))
-    ∙ sym (ap (λ y. bit (nat_lt y (k + 1) && p y)) e
-    ∙ ap (λ y. bit y) (same_test k (p k) ∙ t)))
-    (λ e. m b ∙ sym (ap (λ y. bit y) (other_test b k (p b) e)))
-    (cases_eq b k)
-
 pub marks_steps : {S : Type 0} (x : ℕ) (o : ℕ → Option S) → is_table x (λ b. is_some (o b)) ≡ true
     → MarksStep x o
 marks_steps x o h = marks_table x (λ b. is_some (o b)) h

@@ -16,7 +16,7 @@ use Rattle.sf_parse.specs.Machine.States.{State}
 use Rattle.sf_parse.specs.Machine.Fields.{step, finish}
 use Rattle.sf_parse.specs.Machine.Tests.{takes, may_end}
 use Rattle.sf_parse.specs.Reaching.{IsReachedBy}
-use Rattle.sf_parse.specs.Expected.{Marks}
+use Rattle.sf_scan.specs.Sets.{Marks}
 use Rattle.sf_parse.specs.Parsers.{IsOnly}
 use Rattle.sf_value.specs.Grammar.Refusals.{IsSyntax}
 use Rattle.sf_parse.proofs.GrammarLaws.{one_value}

@@ -30,7 +30,7 @@ use Rattle.sf_parse.proofs.WholeMembers.{taken_more, taken_value}
 use Rattle.sf_parse.specs.Machine.States.{State}
 use Rattle.sf_parse.specs.Machine.Fields.{step, finish, begin}
 use Rattle.sf_parse.specs.Machine.Tests.{takes, may_end}
-use Rattle.sf_parse.specs.Expected.{Marks}
+use Rattle.sf_scan.specs.Sets.{Marks}
 use Rattle.sf_parse.specs.Prefixes.{Goes, LongestPrefix}
 use Rattle.sf_parse.specs.Reaching.{IsReachedBy}
 use Rattle.sf_parse.specs.Parsers.{IsOnly, Parses, Refuses}

@@ -26,6 +26,7 @@ pub mod ItemView
 pub mod ParamsView
 pub mod StaysFree
 pub mod BareView
+pub mod BarePlaces
 pub mod Leaves
 pub mod WholeParts
 pub mod WholeMembers

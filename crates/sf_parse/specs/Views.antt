@@ -14,9 +14,9 @@ use Rattle.sf_parse.specs.declared.blob.Held.{Held}
 use Rattle.sf_parse.specs.declared.blob.Held.TheVariants as held
 use Rattle.sf_parse.specs.declared.blob.BlobPhase.{BlobPhase}
 use Rattle.sf_parse.specs.declared.blob.BlobPhase.TheVariants as blob_phase
-use Rattle.sf_value.specs.declared.utf8.Utf8State.{Utf8State}
-use Rattle.sf_value.specs.declared.utf8.Utf8State.TheVariants as utf8
-use Rattle.sf_value.specs.Utf8States.{utf8_of}
+use Rattle.sf_scan.specs.Characters.{utf8_of, can_begin}
+use Rattle.sf_scan.specs.declared.char_place.CharPlace.{CharPlace}
+use Rattle.sf_scan.specs.declared.char_place.CharPlace.TheVariants as chars_is
 use Rattle.sf_parse.specs.declared.display_string.ShownPhase.{ShownPhase}
 use Rattle.sf_parse.specs.declared.display_string.ShownPhase.TheVariants as shown_phase
 
@@ -82,7 +82,7 @@ FitsBlob (blob_phase.Padded more) = Unit {0}
 FitsBlob blob_phase.Ended = Unit {0}
 
 -- the state of a Display String
-abbrev pub shown_of : ShownPhase → List ℕ → Utf8State → ShownState
+abbrev pub shown_of : ShownPhase → List ℕ → CharPlace → ShownState
 shown_of shown_phase.Quote bytes chars = Quote
 shown_of shown_phase.Unencoded bytes chars = Unencoded bytes (utf8_of chars)
 shown_of shown_phase.Percent bytes chars = Percent bytes (utf8_of chars)
@@ -93,22 +93,15 @@ shown_of shown_phase.Done bytes chars = Done bytes
 abbrev pub Leads : List ℕ → Utf8 → Type 0
 Leads bytes x = run utf8_step Start bytes ≡ Some x
 
--- nothing is read before the quote; a digit of an escape is below 16; whole characters at the end
-abbrev pub FitsPhase : ShownPhase → List ℕ → Utf8State → Type 0
-FitsPhase shown_phase.Quote bytes chars = (bytes ≡ []) × (chars ≡ utf8.Start)
+-- nothing is read before the quote; a byte that begins with the first digit of an escape may come;
+-- whole characters at the end
+abbrev pub FitsPhase : ShownPhase → List ℕ → CharPlace → Type 0
+FitsPhase shown_phase.Quote bytes chars = (bytes ≡ []) × (chars ≡ chars_is.Start)
 FitsPhase shown_phase.Unencoded bytes chars = Unit {0}
 FitsPhase shown_phase.Percent bytes chars = Unit {0}
-FitsPhase (shown_phase.Hex high) bytes chars = high < 16
-FitsPhase shown_phase.Done bytes chars = chars ≡ utf8.Start
+FitsPhase (shown_phase.Hex high) bytes chars = (high < 16) × (can_begin chars high ≡ true)
+FitsPhase shown_phase.Done bytes chars = chars ≡ chars_is.Start
 
 -- the bytes lead to the state in a character, and fit the phase
-abbrev pub FitsShown : ShownPhase → List ℕ → Utf8State → Type 0
+abbrev pub FitsShown : ShownPhase → List ℕ → CharPlace → Type 0
 FitsShown phase bytes chars = Leads bytes (utf8_of chars) × FitsPhase phase bytes chars
-
--- the digit of an escape is below 16
-abbrev pub IsDigitPhase : ShownPhase → Type 0
-IsDigitPhase shown_phase.Quote = Unit {0}
-IsDigitPhase shown_phase.Unencoded = Unit {0}
-IsDigitPhase shown_phase.Percent = Unit {0}
-IsDigitPhase (shown_phase.Hex high) = high < 16
-IsDigitPhase shown_phase.Done = Unit {0}

@@ -1,6 +1,7 @@
 //! A bare item that is being read (RFC 9651 section 4.2.3.1).
 ghost use Rattle.std.specs.Prelude.{◌≡◌, is_some, true, ⊤, IfNone, IfOk, IsOk};
 ghost use Rattle.sf_parse.specs.AllocationFree.{BareFree};
+ghost use Rattle.sf_parse.specs.BarePlaces.{IsPlace};
 ghost use Rattle.sf_parse.specs.Expected.{MarksStep};
 ghost use Rattle.sf_parse.specs.Prefixes.{Starts};
 ghost use Rattle.sf_parse.specs.BareView.{bare_stuck};
@@ -16,8 +17,8 @@ use crate::display_string::ShownPlace;
 use crate::gathering::extend;
 use crate::level::Level;
 use crate::number::NumberReader;
-use crate::sets::{BARE_8941, BARE_9651, TOKEN};
 use crate::text::TextPhase;
+use sf_scan::place::BarePlace;
 use sf_value::classes::{ByteClass, InToken, long_prefix};
 use sf_value::{Bare, Blob, Dialect, OutOfMemory, ShortBytes, Shown, Text, Token, can_start_token};
 use std::marker::Model;
@@ -138,9 +139,23 @@ impl BareReader {
     pub fn first_bytes(dialect: Dialect) -> u128
         ensures { MarksStep result (bare_start dialect) }
     {
-        match dialect {
-            Dialect::Rfc8941 => return BARE_8941,
-            Dialect::Rfc9651 => return BARE_9651,
+        BarePlace::Start.expected(dialect)
+    }
+
+    /// The place in the grammar after what was read.
+    #[inline(always)]
+    fn place(&self) -> BarePlace
+        // The machine takes what may come there, and has a value if it may be the end.
+        ensures { IsPlace result (bare_step self.now) (bare_finish self.now) }
+    {
+        match self.kind {
+            BareKind::Number => return self.number.place(),
+            BareKind::Text => return self.text.place(),
+            BareKind::Token => return BarePlace::InToken,
+            BareKind::Boolean => return self.boolean.place(),
+            BareKind::Date => return self.date.place(),
+            BareKind::Blob => return self.blob.place(),
+            BareKind::Shown => return self.shown.place(),
         }
     }
 
@@ -243,27 +258,11 @@ impl Level for BareReader {
         }
     }
 
-    fn expected(&self, _dialect: Dialect) -> u128 {
-        match self.kind {
-            BareKind::Number => return self.number.expected(),
-            BareKind::Text => return self.text.expected(),
-            BareKind::Token => return TOKEN,
-            BareKind::Boolean => return self.boolean.expected(),
-            BareKind::Date => return self.date.expected(),
-            BareKind::Blob => return self.blob.expected(),
-            BareKind::Shown => return self.shown.expected(),
-        }
+    fn expected(&self, dialect: Dialect) -> u128 {
+        self.place().expected(dialect)
     }
 
     fn may_end(&self) -> bool {
-        match self.kind {
-            BareKind::Number => self.number.may_end(),
-            BareKind::Text => self.text.may_end(),
-            BareKind::Token => true,
-            BareKind::Boolean => self.boolean.may_end(),
-            BareKind::Date => self.date.may_end(),
-            BareKind::Blob => self.blob.may_end(),
-            BareKind::Shown => self.shown.may_end(),
-        }
+        self.place().may_end()
     }
 }

@@ -1,17 +1,18 @@
 //! A Byte Sequence that is being read (RFC 9651 section 4.2.7).
-ghost use Rattle.std.specs.Prelude.{◌≡◌, is_some, ℕ, ◌<◌, ◌≤◌, List, [], ◌∷◌, ◌++◌, Some, IfOk};
+ghost use Rattle.std.specs.Prelude.{◌≡◌, ℕ, ◌<◌, ◌≤◌, List, [], ◌∷◌, ◌++◌, Some, IfOk};
 ghost use Rattle.std.specs.Prelude.{IfSome, MatchOption, take};
 ghost use Rattle.sf_scan.specs.Blobs.{blob_bytes, values};
-ghost use Rattle.sf_parse.specs.Expected.{MarksStep};
+ghost use Rattle.sf_parse.specs.BarePlaces.{blob_place};
 ghost use Rattle.sf_parse.specs.Leaves.{BeginsCharacter};
 ghost use Rattle.sf_parse.specs.Prefixes.{Goes};
 ghost use Rattle.sf_parse.specs.Views.{held_of, blob_of, FitsHeld, FitsBlob};
 ghost use Rattle.sf_parse.specs.Machine.Language.{Steps, run};
 ghost use Rattle.sf_parse.specs.Machine.Blobs.{H0, Group, Padded, grown, last_bytes};
-ghost use Rattle.sf_parse.specs.Machine.Blobs.{pad_step, end_step, blob_step, blob_finish};
+ghost use Rattle.sf_parse.specs.Machine.Blobs.{pad_step, end_step, blob_step};
 
 use crate::context::Context;
-use crate::sets::{BASE64, COLON, EQUALS, set_if};
+use sf_scan::blob_place::BlobPlace;
+use sf_scan::place::BarePlace;
 use sf_value::classes::split;
 use sf_value::{OutOfMemory, ShortBytes, sextet};
 
@@ -161,24 +162,20 @@ impl BlobPhase {
         }
     }
 
-    /// The bytes that the byte sequence can continue with.
-    pub fn expected(self) -> u128
-        // The bits are those of the bytes that may come, whatever was read before.
-        ensures { (bytes : List ℕ) → MarksStep result (blob_step (blob_of self bytes)) }
+    /// The place in the grammar after what was read.
+    pub fn place(self) -> BarePlace
+        ensures { result ≡ blob_place self }
     {
-        match self {
-            BlobPhase::Group(held) => return BASE64 | expected_end(held),
-            BlobPhase::Padded(more) => return expected_pad(more),
-            BlobPhase::Ended => return 0,
-        }
-    }
-
-    /// Whether the byte sequence is closed.
-    pub fn may_end(self) -> bool
-        // The byte sequence may end exactly then, whatever was read before.
-        ensures { (bytes : List ℕ) → result ≡ is_some (blob_finish (blob_of self bytes)) }
-    {
-        matches!(self, BlobPhase::Ended)
+        let place = match self {
+            BlobPhase::Group(Held::H0) => BlobPlace::Whole,
+            BlobPhase::Group(Held::H1(_)) => BlobPlace::One,
+            BlobPhase::Group(Held::H2(_, _)) => BlobPlace::Two,
+            BlobPhase::Group(Held::H3(_, _, _)) => BlobPlace::Three,
+            BlobPhase::Padded(0) => BlobPlace::Padded,
+            BlobPhase::Padded(_) => BlobPlace::Pad,
+            BlobPhase::Ended => return BarePlace::Complete,
+        };
+        BarePlace::Blob(place)
     }
 }
 
@@ -305,26 +302,5 @@ fn grow(held: Held, bytes: &mut ShortBytes, value: u8) -> Result<Held, OutOfMemo
             bytes.extend(&[x * 4 + y / 16, y % 16 * 16 + z / 4, z % 4 * 64 + value])?;
             Ok(Held::H0)
         }
-    }
-}
-
-/// The bytes that may follow at the end, where at most this many `=` may follow.
-fn expected_pad(more: u8) -> u128
-    // The bits are those of the bytes that may come.
-    ensures { (bytes : List ℕ) → MarksStep result (pad_step bytes more) }
-{
-    COLON | set_if(more > 0, EQUALS)
-}
-
-/// The bytes that may follow an open group, other than characters of base64.
-fn expected_end(held: Held) -> u128
-    // The bits are those of the bytes that may come if this group is the last one.
-    ensures { (bytes : List ℕ) → MarksStep result (end_step bytes (held_of held)) }
-{
-    match held {
-        Held::H0 => return COLON,
-        Held::H1(_) => return 0,
-        Held::H2(_, _) => return COLON | EQUALS,
-        Held::H3(_, _, _) => return COLON | EQUALS,
     }
 }

@@ -1,10 +1,10 @@
 //! A Boolean that is being read (RFC 9651 section 4.2.8).
-ghost use Rattle.std.specs.Prelude.{◌≡◌, is_some};
-ghost use Rattle.sf_parse.specs.Expected.{MarksStep};
+ghost use Rattle.std.specs.Prelude.{◌≡◌};
+ghost use Rattle.sf_parse.specs.BarePlaces.{boolean_place};
 ghost use Rattle.sf_parse.specs.Machine.Language.{Steps};
 ghost use Rattle.sf_parse.specs.Machine.Texts.{boolean_step, boolean_finish};
 
-use crate::sets::BITS;
+use sf_scan::place::BarePlace;
 
 /// What was read of a boolean.
 #[derive(Clone, Copy)]
@@ -29,22 +29,14 @@ impl BooleanState {
         true
     }
 
-    /// The bytes that the boolean can continue with.
-    pub fn expected(self) -> u128
-        // The bits are those of the bytes that may come.
-        ensures { MarksStep result (boolean_step self) }
+    /// The place in the grammar after what was read.
+    pub fn place(self) -> BarePlace
+        ensures { result ≡ boolean_place self }
     {
         match self {
-            BooleanState::QuestionMark => return BITS,
-            BooleanState::WithValue(_) => return 0,
+            BooleanState::QuestionMark => BarePlace::QuestionMark,
+            BooleanState::WithValue(_) => BarePlace::Complete,
         }
-    }
-
-    /// Whether it is a boolean already.
-    pub fn may_end(self) -> bool
-        ensures { result ≡ is_some (boolean_finish self) }
-    {
-        matches!(self, BooleanState::WithValue(_))
     }
 
     /// The boolean, if it is complete.

@@ -1,12 +1,13 @@
 //! A Date that is being read (RFC 9651 section 4.2.9).
-ghost use Rattle.std.specs.Prelude.{◌≡◌, is_some};
-ghost use Rattle.sf_parse.specs.Expected.{MarksStep};
+ghost use Rattle.std.specs.Prelude.{◌≡◌};
+ghost use Rattle.sf_parse.specs.BarePlaces.{date_place};
 ghost use Rattle.sf_parse.specs.Prefixes.{Goes};
 ghost use Rattle.sf_parse.specs.Machine.Language.{Steps};
 ghost use Rattle.sf_parse.specs.Machine.Numbers.{Sign, date_step, date_finish};
 
 use crate::number::with_sign;
-use crate::sets::{DIGITS, MINUS, set_if};
+use sf_scan::number_place::NumberPlace;
+use sf_scan::place::BarePlace;
 use sf_value::Int;
 use std::marker::Model;
 
@@ -80,22 +81,15 @@ impl DateReader {
         rest
     }
 
-    /// The bytes that the date can continue with.
-    pub fn expected(&self) -> u128
-        // The bits are those of the bytes that may come.
-        ensures { MarksStep result (date_step self.now) }
+    /// The place in the grammar after what was read.
+    pub fn place(&self) -> BarePlace
+        ensures { result ≡ date_place self.now }
     {
-        if !self.begun {
-            return MINUS | DIGITS;
+        if self.begun {
+            BarePlace::Number(NumberPlace::DateDigits(self.digits))
+        } else {
+            BarePlace::Number(NumberPlace::At)
         }
-        set_if(self.digits < 15, DIGITS)
-    }
-
-    /// Whether it is a date already.
-    pub fn may_end(&self) -> bool
-        ensures { result ≡ is_some (date_finish self.now) }
-    {
-        self.digits >= 1
     }
 
     /// The date, if it is one already.

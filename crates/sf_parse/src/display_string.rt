@@ -1,23 +1,24 @@
 //! A Display String that is being read (RFC 9651 section 4.2.10).
 ghost use Rattle.std.specs.Prelude.{◌≡◌, ℕ, ◌<◌, ◌≤◌, List, [], ◌∷◌, ◌++◌, Some, IfOk, IfSome};
-ghost use Rattle.std.specs.Prelude.{is_some, take, length, MatchOption};
+ghost use Rattle.std.specs.Prelude.{take, length, MatchOption};
 ghost use Rattle.sf_scan.specs.DisplayStrings.{shown_bytes, digit_or_zero};
 ghost use Rattle.sf_value.specs.Digits.{unhex as unhex_of};
 ghost use Rattle.sf_value.specs.Ascii.{percent as percent_sign};
 ghost use Rattle.sf_value.specs.Grammar.Utf8.{Utf8, utf8_step};
 ghost use Rattle.sf_parse.specs.Prefixes.{Goes};
-ghost use Rattle.sf_value.specs.Utf8States.{utf8_of};
-ghost use Rattle.sf_parse.specs.Views.{shown_of, Leads, FitsShown, IsDigitPhase};
+ghost use Rattle.sf_scan.specs.Characters.{utf8_of};
+ghost use Rattle.sf_parse.specs.BarePlaces.{shown_place};
+ghost use Rattle.sf_parse.specs.Views.{shown_of, Leads, FitsShown};
 ghost use Rattle.sf_parse.specs.Machine.Language.{Steps, run};
 ghost use Rattle.sf_parse.specs.Machine.Showns.{Unencoded, push_byte};
-ghost use Rattle.sf_parse.specs.Machine.Showns.{can_begin as can_begin_at, shown_step};
-ghost use Rattle.sf_parse.specs.Machine.Showns.{GoodUtf8, shown_finish};
-ghost use Rattle.sf_parse.specs.Expected.{MarksStep, digit_step};
+ghost use Rattle.sf_parse.specs.Machine.Showns.{shown_step};
 
 use crate::context::Context;
-use crate::sets::{FIRST_DIGITS, PERCENT, QUOTE, VISIBLE};
+use sf_scan::char_place::CharPlace;
+use sf_scan::place::BarePlace;
+use sf_scan::shown_place::ShownPlace as Place;
 use sf_value::classes::{NoPercent, UnencodedByte, long_prefix, split};
-use sf_value::{OutOfMemory, ShortBytes, Utf8State, is_visible, unhex};
+use sf_value::{OutOfMemory, ShortBytes, is_visible, unhex};
 
 /// The part of a Display String that is being read.
 #[derive(Clone, Copy)]
@@ -38,19 +39,19 @@ pub enum ShownPhase {
 #[derive(Clone, Copy)]
 pub struct ShownPlace {
     pub phase: ShownPhase,
-    pub chars: Utf8State,
+    pub chars: CharPlace,
 }
 
 impl ShownPlace {
     /// After the first `%`.
     pub const OPEN: ShownPlace = ShownPlace {
         phase: ShownPhase::Quote,
-        chars: Utf8State::Start,
+        chars: CharPlace::Start,
     };
 
     /// Takes one more byte of the characters, unescaped or decoded from an escape, or reports that
     /// it can't come next in UTF-8.
-    #[tactic(auto, using(crate::proofs::Leading::leads_push))]
+    #[tactic(auto, using(crate::proofs::Leading::leads_push, sf_scan::proofs::Characters::steps))]
     fn push(&mut self, bytes: &mut ShortBytes, byte: u8) -> Result<bool, OutOfMemory>
         // The bytes so far lead to the state in a character, and fit the phase.
         requires { FitsShown self.old.phase bytes.old self.old.chars }
@@ -98,7 +99,7 @@ impl ShownPlace {
             }
             ShownPhase::Unencoded => {
                 if byte == b'"' {
-                    if !matches!(self.chars, Utf8State::Start) {
+                    if !matches!(self.chars, CharPlace::Start) {
                         return Ok(false);
                     }
                     self.phase = ShownPhase::Done;
@@ -117,7 +118,7 @@ impl ShownPlace {
                 let Some(high) = unhex(byte) else {
                     return Ok(false);
                 };
-                if !can_begin(self.chars, high) {
+                if !self.chars.can_begin(high) {
                     return Ok(false);
                 }
                 self.phase = ShownPhase::Hex(high);
@@ -155,84 +156,18 @@ impl ShownPlace {
         }
     }
 
-    /// Whether an escape can continue with this byte.
-    fn takes_digit(self, byte: u8) -> bool
-        // The first digit of an escape that is open is below 16.
-        requires { IsDigitPhase self.phase }
-        // It can if and only if the machine can, whatever was read before.
-        ensures { (bytes : List ℕ) → result ≡ is_some (digit_step
-            (shown_of self.phase bytes self.chars) byte) }
+    /// The place in the grammar after what was read.
+    pub fn place(self) -> BarePlace
+        ensures { result ≡ shown_place self.phase self.chars }
     {
-        let Some(digit) = unhex(byte) else {
-            return false;
+        let place = match self.phase {
+            ShownPhase::Quote => Place::Quote,
+            ShownPhase::Unencoded => Place::Between(self.chars),
+            ShownPhase::Percent => Place::Percent(self.chars),
+            ShownPhase::Hex(high) => Place::Digit(self.chars.low_digits(high)),
+            ShownPhase::Done => return BarePlace::Complete,
         };
-        match self.phase {
-            ShownPhase::Percent => can_begin(self.chars, digit),
-            ShownPhase::Hex(high) => self.chars.after(high * 16 + digit).is_some(),
-            ShownPhase::Quote | ShownPhase::Unencoded | ShownPhase::Done => false,
-        }
-    }
-
-    /// The digits that an escape can continue with.
-    fn expected_digits(self) -> u128
-        // The first digit of an escape that is open is below 16.
-        requires { IsDigitPhase self.phase }
-        // The bits are those of the digits that may come, whatever was read before.
-        ensures { (bytes : List ℕ) → MarksStep result (digit_step (shown_of self.phase bytes
-            self.chars)) }
-    {
-        let mut expected = 0;
-        for byte in b'0'..=b'9' {
-            if self.takes_digit(byte) {
-                expected |= 1u128 << byte;
-            }
-        }
-        for byte in b'a'..=b'f' {
-            if self.takes_digit(byte) {
-                expected |= 1u128 << byte;
-            }
-        }
-        expected
-    }
-
-    /// The bytes that the display string can continue with.
-    pub fn expected(self) -> u128
-        // The first digit of an escape that is open is below 16.
-        requires digit { IsDigitPhase self.phase }
-        // The next byte of a character that is open is from 0x80 to 0xbf.
-        requires good { GoodUtf8 (utf8_of self.chars) }
-        // The bits are those of the bytes that may come, whatever was read before.
-        ensures { (bytes : List ℕ) → MarksStep result (shown_step (shown_of self.phase bytes
-            self.chars)) }
-    {
-        match (self.phase, self.chars) {
-            (ShownPhase::Quote, _) => return QUOTE,
-            (ShownPhase::Unencoded, Utf8State::Start) => return VISIBLE,
-            (ShownPhase::Unencoded, Utf8State::Within { .. }) => return PERCENT,
-            (ShownPhase::Percent, Utf8State::Start) => return FIRST_DIGITS,
-            (ShownPhase::Percent, Utf8State::Within { .. }) => return self.expected_digits(),
-            (ShownPhase::Hex(_), _) => return self.expected_digits(),
-            (ShownPhase::Done, _) => return 0,
-        }
-    }
-
-    /// Whether the display string is closed.
-    pub fn may_end(self) -> bool
-        // The display string may end exactly then, whatever was read before.
-        ensures { (bytes : List ℕ) → result ≡ is_some (shown_finish
-            (shown_of self.phase bytes self.chars)) }
-    {
-        matches!(self.phase, ShownPhase::Done)
-    }
-}
-
-/// Whether a byte with this high digit may come.
-fn can_begin(chars: Utf8State, digit: u8) -> bool
-    ensures { result ≡ can_begin_at (utf8_of chars) digit }
-{
-    match chars {
-        Utf8State::Start => digit < 8 || digit >= 12,
-        Utf8State::Within { low, high, .. } => low / 16 <= digit && digit <= high / 16,
+        BarePlace::Shown(place)
     }
 }
 
@@ -256,10 +191,10 @@ fn escaped(high: u8, low: u8) -> Option<u8>
 /// Decodes whole escapes into the block until it is full. Returns their number, the state in a
 /// character after them, and the rest.
 fn read_escapes<'a>(
-    from: Utf8State,
+    from: CharPlace,
     chunk: &'a [u8],
     block: &mut [u8; BLOCK],
-) -> (usize, Utf8State, &'a [u8])
+) -> (usize, CharPlace, &'a [u8])
     ensures within { result.0 ≤ 64 }
     // The escapes before the rest lead to a state that also has the bytes of the block.
     ensures goes { (bs : List ℕ)
@@ -297,7 +232,7 @@ fn read_escapes<'a>(
 /// Takes whole escapes, at most a block of them, letting the buffer grow once, and returns the
 /// rest.
 fn take_escapes<'a>(
-    chars: &mut Utf8State,
+    chars: &mut CharPlace,
     bytes: &mut ShortBytes,
     chunk: &'a [u8],
 ) -> Result<&'a [u8], OutOfMemory>
@@ -318,7 +253,7 @@ fn take_escapes<'a>(
 
 /// If no character is open, takes unescaped bytes, and returns the rest.
 fn take_unencoded<'a>(
-    chars: Utf8State,
+    chars: CharPlace,
     bytes: &mut ShortBytes,
     chunk: &'a [u8],
 ) -> Result<&'a [u8], OutOfMemory>
@@ -331,18 +266,18 @@ fn take_unencoded<'a>(
     ensures leads { Leads bytes.new (utf8_of chars) }
 {
     match chars {
-        Utf8State::Start => {
+        CharPlace::Start => {
             let (run, rest) = long_prefix::<UnencodedByte>(chunk);
             bytes.extend(run)?;
             return Ok(rest);
         }
-        Utf8State::Within { .. } => return Ok(chunk),
+        _ => return Ok(chunk),
     }
 }
 
 /// Takes unescaped bytes and whole escapes, and returns the rest.
 fn take_chars<'a>(
-    chars: &mut Utf8State,
+    chars: &mut CharPlace,
     bytes: &mut ShortBytes,
     chunk: &'a [u8],
 ) -> Result<&'a [u8], OutOfMemory>

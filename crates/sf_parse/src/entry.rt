@@ -15,7 +15,7 @@ use crate::context::Context;
 use crate::gathering::extend;
 use crate::level::Level;
 use crate::member::MemberReader;
-use crate::sets::AFTER_KEY;
+use sf_scan::byte_sets::AFTER_KEY;
 use sf_value::classes::{ByteClass, InKey, any_prefix};
 use sf_value::{Bare, Dialect, Entries, Item, Key, Member, OutOfMemory, ShortBytes, can_start_key};
 use std::marker::Model;

@@ -18,7 +18,7 @@ use crate::context::Context;
 use crate::gathering::Gather;
 use crate::level::Level;
 use crate::parameters::ParamsReader;
-use crate::sets::{SEMICOLON, set_if};
+use sf_scan::byte_sets::{SEMICOLON, set_if};
 use sf_value::{Bare, Dialect, Entries, Item, OutOfMemory};
 use std::marker::Model;
 

@@ -13,7 +13,7 @@ use crate::bare::BareReader;
 use crate::context::Context;
 use crate::item::ItemReader;
 use crate::level::Level;
-use crate::sets::{SPACE, set_if};
+use sf_scan::byte_sets::{SPACE, set_if};
 use sf_value::classes::{Space, few_prefix};
 use sf_value::{Dialect, Item, OutOfMemory};
 use std::marker::Model;

@@ -45,7 +45,6 @@ mod refusal;
 mod refusing;
 mod series;
 mod series_members;
-mod sets;
 mod spots;
 mod state;
 mod text;

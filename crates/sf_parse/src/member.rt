@@ -21,8 +21,8 @@ use crate::bare::BareReader;
 use crate::context::Context;
 use crate::item::ItemReader;
 use crate::level::Level;
-use crate::sets::{CLOSE, OPEN, SPACE, set_if};
 use crate::whole_parts::add_items;
+use sf_scan::byte_sets::{AFTER_ITEM, CLOSE_BRACKET, OPEN_BRACKET, SPACE, set_if};
 use sf_value::classes::{Space, few_prefix};
 use sf_value::{Bare, Dialect, Inner, Item, Member, OutOfMemory, Sequence};
 use std::marker::Model;
@@ -111,7 +111,7 @@ impl MemberReader {
     pub fn first_bytes(dialect: Dialect) -> u128
         ensures { MarksStep result (member_start dialect) }
     {
-        BareReader::first_bytes(dialect) | OPEN
+        BareReader::first_bytes(dialect) | OPEN_BRACKET
     }
 
     /// The inner list whose closing bracket was read, if its last parameter is complete.
@@ -313,9 +313,11 @@ impl Level for MemberReader {
         match self.phase {
             MemberPhase::One => return self.item.expected(dialect),
             MemberPhase::Closing => return self.item.expected(dialect),
-            MemberPhase::BetweenItems => return SPACE | (CLOSE | BareReader::first_bytes(dialect)),
+            MemberPhase::BetweenItems => {
+                return SPACE | (CLOSE_BRACKET | BareReader::first_bytes(dialect));
+            }
             MemberPhase::InItem => {
-                return self.item.expected(dialect) | set_if(self.item.may_end(), SPACE | CLOSE);
+                return self.item.expected(dialect) | set_if(self.item.may_end(), AFTER_ITEM);
             }
         }
     }

@@ -6,7 +6,7 @@ ghost use Rattle.sf_parse.specs.Names.{name_at as nth_name, set_of, names_left, 
 ghost use Rattle.sf_parse.specs.Names.{byte_text, name_text, joint, listed};
 
 use crate::byte_runs::{Hex, first_from};
-use crate::sets::{BASE64, DIGITS, KEY, LETTERS, LOWER, LOWER_HEX, TOKEN, UPPER, VISIBLE};
+use sf_scan::byte_sets::{BASE64, DIGITS, KEY, LETTERS, LOWER, LOWER_HEX, TOKEN, UPPER, VISIBLE};
 use std::fmt;
 
 /// What a refusal expects: a byte of one of these classes, one byte, or the end.

@@ -1,12 +1,13 @@
 //! A number that is being read (RFC 9651 section 4.2.4).
-ghost use Rattle.std.specs.Prelude.{◌≡◌, is_some, ◌≤◌, ◌<◌, ◌^◌, false, nat_abs};
+ghost use Rattle.std.specs.Prelude.{◌≡◌, ◌≤◌, ◌<◌, ◌^◌, false, nat_abs};
 ghost use Rattle.sf_value.specs.Grammar.Numbers.{signed};
-ghost use Rattle.sf_parse.specs.Expected.{MarksStep};
+ghost use Rattle.sf_parse.specs.BarePlaces.{number_place};
 ghost use Rattle.sf_parse.specs.Prefixes.{Goes, FirstIs, Halts, Starts};
 ghost use Rattle.sf_parse.specs.Machine.Language.{Steps};
 ghost use Rattle.sf_parse.specs.Machine.Numbers.{number_start, number_step, number_finish};
 
-use crate::sets::{DIGITS, POINT, set_if};
+use sf_scan::number_place::NumberPlace;
+use sf_scan::place::BarePlace;
 use sf_value::{Bare, Int, Thousandths};
 use std::marker::Model;
 
@@ -138,25 +139,14 @@ impl NumberReader {
         rest
     }
 
-    /// The bytes that the number can continue with.
-    pub fn expected(&self) -> u128
-        // The bits are those of the bytes that may come.
-        ensures { MarksStep result (number_step self.now) }
+    /// The place in the grammar after what was read.
+    pub fn place(&self) -> BarePlace
+        ensures { result ≡ number_place self.now }
     {
         match self.whole {
-            None => {
-                let point = set_if(self.digits >= 1, set_if(self.digits <= 12, POINT));
-                return set_if(self.digits < 15, DIGITS) | point;
-            }
-            Some(_) => return set_if(self.digits < 3, DIGITS),
+            None => BarePlace::Number(NumberPlace::Whole(self.digits)),
+            Some(_) => BarePlace::Number(NumberPlace::Fraction(self.digits)),
         }
-    }
-
-    /// Whether it is a number already.
-    pub fn may_end(&self) -> bool
-        ensures { result ≡ is_some (number_finish self.now) }
-    {
-        self.digits >= 1
     }
 
     /// The number as a bare item, if it is one already.

@@ -22,10 +22,10 @@ use crate::ahead::{after_window, has_comma, window};
 use crate::context::Context;
 use crate::leaf::make;
 use crate::level::Level;
-use crate::sets::{COMMA, OWS, SPACE, set_if};
 use crate::whole_parts::{
     Begun, Found, Unread, WHOLE_PARTS, begins_param, may_begin_params, read_inner, read_params,
 };
+use sf_scan::byte_sets::{AFTER_MEMBER, OWS, SPACE, set_if};
 use sf_value::classes::{Ows, Space, ends, few_prefix, split, strip_byte};
 use sf_value::{Bare, Dialect, Entries, Item, Member, OutOfMemory, is_ows};
 use std::marker::Model;
@@ -297,9 +297,9 @@ impl<P: SeriesMember<G>, G: Drop> Level for SeriesReader<P, G> {
         match self.phase {
             SeriesPhase::Begin => return SPACE | P::first_bytes(dialect),
             SeriesPhase::InMember => {
-                return self.member.expected(dialect) | set_if(self.member.may_end(), OWS | COMMA);
+                return self.member.expected(dialect) | set_if(self.member.may_end(), AFTER_MEMBER);
             }
-            SeriesPhase::Gap => return OWS | COMMA,
+            SeriesPhase::Gap => return AFTER_MEMBER,
             SeriesPhase::Comma => return OWS | P::first_bytes(dialect),
         }
     }

@@ -1,18 +1,18 @@
 //! A String that is being read (RFC 9651 section 4.2.5).
-ghost use Rattle.std.specs.Prelude.{◌≡◌, ◌<◌, is_some, ℕ, List, [], ◌∷◌, ◌++◌, length};
+ghost use Rattle.std.specs.Prelude.{◌≡◌, ◌<◌, [], ◌∷◌, ◌++◌, length};
 ghost use Rattle.std.specs.Prelude.{IfOk, IfSome, IsOk, MatchOption};
 ghost use Rattle.sf_value.specs.Grammar.Words.{Every};
 ghost use Rattle.sf_value.specs.InPlace.{FitsInPlace};
 ghost use Rattle.sf_value.specs.Grammar.Classes.{is_visible as is_visible_byte};
-ghost use Rattle.sf_parse.specs.Expected.{MarksStep};
+ghost use Rattle.sf_parse.specs.BarePlaces.{text_place};
 ghost use Rattle.sf_scan.specs.Leaves.{unescaped};
 ghost use Rattle.sf_parse.specs.Prefixes.{Goes};
 ghost use Rattle.sf_parse.specs.Views.{text_of};
 ghost use Rattle.sf_parse.specs.Machine.Language.{Steps};
-ghost use Rattle.sf_parse.specs.Machine.Texts.{text_step, text_finish};
+ghost use Rattle.sf_parse.specs.Machine.Texts.{text_step};
 
 use crate::context::Context;
-use crate::sets::{ESCAPED, VISIBLE};
+use sf_scan::place::BarePlace;
 use sf_value::classes::{NoBackslash, Unescaped, long_prefix, split};
 use sf_value::{OutOfMemory, ShortBytes, is_visible};
 
@@ -94,24 +94,15 @@ impl TextPhase {
         }
     }
 
-    /// The bytes that the string can continue with.
-    pub fn expected(self) -> u128
-        // The bits are those of the bytes that may come, whatever was read before.
-        ensures { (bytes : List ℕ) → MarksStep result (text_step (text_of self bytes)) }
+    /// The place in the grammar after what was read.
+    pub fn place(self) -> BarePlace
+        ensures { result ≡ text_place self }
     {
         match self {
-            TextPhase::Inside => return VISIBLE,
-            TextPhase::Escaped => return ESCAPED,
-            TextPhase::Closed => return 0,
+            TextPhase::Inside => BarePlace::InString,
+            TextPhase::Escaped => BarePlace::Backslash,
+            TextPhase::Closed => BarePlace::Complete,
         }
-    }
-
-    /// Whether the string is closed.
-    pub fn may_end(self) -> bool
-        // The string may end exactly then, whatever was read before.
-        ensures { (bytes : List ℕ) → result ≡ is_some (text_finish (text_of self bytes)) }
-    {
-        matches!(self, TextPhase::Closed)
     }
 }
 

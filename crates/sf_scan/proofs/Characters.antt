@@ -38,7 +38,7 @@ first_steps b =
     (row (within 244 244 b) chars.AfterF4 None None refl))))))))
 
 -- a step is that of the grammar
-steps : (c : CharPlace) (b : ℕ) → option_map utf8_of (char_step c b) ≡ utf8_step (utf8_of c) b
+pub steps : (c : CharPlace) (b : ℕ) → option_map utf8_of (char_step c b) ≡ utf8_step (utf8_of c) b
 steps chars.Start b = first_steps b
 steps chars.Last b = allowed (within 128 191 b) chars.Start
 steps chars.LastTwo b = allowed (within 128 191 b) chars.Last

@@ -9,7 +9,7 @@ use Rattle.sf_value.proofs.Tables.{all_below, each_below}
 use Rattle.sf_scan.specs.Sets.{Marks}
 
 -- the bit of a test
-abbrev bit : Bool → ℕ
+abbrev pub bit : Bool → ℕ
 bit c = cond c 1 0
 
 -- either of two sets
@@ -33,7 +33,7 @@ marks_if true x p h = h
 marks_if false x p h = marks_none
 
 -- a set that is known
-above : (b : ℕ) (c : Bool) → 128 ≤ b → zero ≡ bit (nat_lt b 128 && c)
+pub above : (b : ℕ) (c : Bool) → 128 ≤ b → zero ≡ bit (nat_lt b 128 && c)
 above b c h = grind arith
 
 below : (b : ℕ) (c : Bool) → b < 128 → bit c ≡ bit (nat_lt b 128 && c)

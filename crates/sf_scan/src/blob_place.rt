@@ -4,7 +4,7 @@ ghost use Rattle.sf_value.specs.Ascii.{colon};
 ghost use Rattle.sf_scan.specs.Blobs.{in_blob, padded as padded_place};
 ghost use Rattle.sf_scan.specs.Sets.{Marks};
 
-use crate::byte_sets::{DIGITS, EQUALS, LETTERS};
+use crate::byte_sets::{BASE64, COLON, EQUALS};
 
 /// A place in a Byte Sequence, after its opening colon. Four characters of base64 are a group; `=`
 /// may complete the last one.
@@ -23,10 +23,6 @@ pub enum BlobPlace {
     /// After the last `=` that the group may have.
     Padded,
 }
-
-const BASE64: u128 = LETTERS | DIGITS | 1 << b'+' | 1 << b'/';
-
-const COLON: u128 = 1 << b':';
 
 impl BlobPlace {
     /// The bytes below 128 that may come, a bit for each.

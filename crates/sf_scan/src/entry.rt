@@ -7,7 +7,7 @@ ghost use Rattle.sf_scan.specs.declared.entry.EntryPlace.TheVariants as place;
 
 use crate::allowed::Allowed;
 use crate::builder::Builder;
-use crate::byte_sets::{EQUALS, KEY, KEY_START, SEMICOLON};
+use crate::byte_sets::{AFTER_KEY, KEY_START};
 use crate::leaf::Leaf;
 use crate::member::MemberPlace;
 use crate::param::{find_key, params};
@@ -44,7 +44,7 @@ impl ElementPlace for EntryPlace {
     fn allowed(self, dialect: Dialect) -> Allowed {
         match self {
             EntryPlace::Start => Allowed::new(KEY_START, false),
-            EntryPlace::InKey => Allowed::new(KEY | EQUALS | SEMICOLON, true),
+            EntryPlace::InKey => Allowed::new(AFTER_KEY, true),
             EntryPlace::InValue(place) => place.allowed(dialect),
             EntryPlace::InParams(place) => place.allowed(dialect),
         }

@@ -10,7 +10,7 @@ ghost use Rattle.sf_scan.specs.Stops.{Past};
 
 use crate::allowed::Allowed;
 use crate::builder::Builder;
-use crate::byte_sets::SPACE;
+use crate::byte_sets::AFTER_ITEM;
 use crate::item::{ItemPlace, item};
 use crate::param::params;
 use crate::place::{BarePlace, Halt, ParamPlace, Stop};
@@ -27,8 +27,6 @@ pub enum InnerPlace {
     /// After the closing bracket, in the parameters.
     InParams(ParamPlace),
 }
-
-const AFTER_ITEM: u128 = SPACE | 1 << b')';
 
 impl InnerPlace {
     /// What may come here.

@@ -17,7 +17,7 @@ pub mod bare;
 pub mod blob_place;
 pub mod builder;
 mod byte_sequence;
-mod byte_sets;
+pub mod byte_sets;
 pub mod char_place;
 pub mod dict;
 mod display_string;

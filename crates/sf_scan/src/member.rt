@@ -6,6 +6,7 @@ ghost use Rattle.sf_scan.specs.declared.member.MemberPlace.TheVariants as place;
 
 use crate::allowed::Allowed;
 use crate::builder::Builder;
+use crate::byte_sets::OPEN_BRACKET;
 use crate::inner::{InnerPlace, inner_list};
 use crate::item::{ItemPlace, item};
 use crate::place::{BarePlace, Halt, Stop};
@@ -40,7 +41,7 @@ impl ElementPlace for MemberPlace {
         match self {
             MemberPlace::Start => {
                 Allowed::new(
-                    BarePlace::Start.allowed(dialect).expected | 1 << b'(',
+                    BarePlace::Start.allowed(dialect).expected | OPEN_BRACKET,
                     false,
                 )
             }

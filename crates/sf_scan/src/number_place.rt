@@ -6,7 +6,7 @@ ghost use Rattle.sf_scan.specs.NumberPlaces.{in_number, ends_number};
 ghost use Rattle.sf_scan.specs.Sets.{Marks};
 
 use crate::allowed::Allowed;
-use crate::byte_sets::{DIGITS, MINUS, set_if};
+use crate::byte_sets::{DIGITS, MINUS, POINT, set_if};
 use sf_value::Dialect;
 
 /// A place in an Integer, a Decimal or a Date, after its first byte.
@@ -22,8 +22,6 @@ pub enum NumberPlace {
     /// After this many digits of a Date. If there are none, after its minus sign.
     DateDigits(u8),
 }
-
-const POINT: u128 = 1 << b'.';
 
 /// Whether a Date begins with this byte: RFC 8941 has none.
 pub fn can_start_date(dialect: Dialect, byte: u8) -> bool

@@ -8,7 +8,8 @@ ghost use Rattle.sf_scan.specs.Sets.{Marks};
 use crate::allowed::Allowed;
 use crate::blob_place::BlobPlace;
 use crate::byte_sets::{
-    DIGITS, EQUALS, KEY, KEY_START, LETTERS, MINUS, QUOTE, SEMICOLON, SPACE, VISIBLE,
+    AFTER_KEY, COLON, DIGITS, KEY_START, MINUS, PERCENT, QUOTE, SEMICOLON, SPACE, TOKEN,
+    TOKEN_START, VISIBLE,
 };
 use crate::number_place::NumberPlace;
 use crate::shown_place::ShownPlace;
@@ -37,21 +38,8 @@ pub enum BarePlace {
     Complete,
 }
 
-const TOKEN_START: u128 = LETTERS | 1 << b'*';
-
-const TOKEN: u128 = TOKEN_START
-    | DIGITS
-    | 1 << b'!'
-    | 0x1f << b'#'
-    | 1 << b'+'
-    | 7 << b'-'
-    | 1 << b':'
-    | 7 << b'^'
-    | 1 << b'|'
-    | 1 << b'~';
-
 /// The first bytes of bare items by RFC 8941.
-const START: u128 = TOKEN_START | QUOTE | 1 << b'?' | 1 << b':' | DIGITS | MINUS;
+const START: u128 = TOKEN_START | QUOTE | 1 << b'?' | COLON | DIGITS | MINUS;
 
 /// The first bytes of bare items, a bit for each.
 fn bare_start(dialect: Dialect) -> u128
@@ -59,26 +47,48 @@ fn bare_start(dialect: Dialect) -> u128
 {
     match dialect {
         Dialect::Rfc8941 => START,
-        Dialect::Rfc9651 => START | 1 << b'@' | 1 << b'%',
+        Dialect::Rfc9651 => START | 1 << b'@' | PERCENT,
     }
 }
 
 impl BarePlace {
     /// What may come here.
+    #[inline]
     pub fn allowed(self, dialect: Dialect) -> Allowed
         ensures expected { Marks result.expected (in_bare dialect self) }
         ensures may_end { result.may_end ≡ ends_bare self }
     {
+        Allowed::new(self.expected(dialect), self.may_end())
+    }
+
+    /// The bytes below 128 that may come, a bit for each.
+    pub fn expected(self, dialect: Dialect) -> u128
+        ensures { Marks result (in_bare dialect self) }
+    {
         match self {
-            BarePlace::Start => Allowed::new(bare_start(dialect), false),
-            BarePlace::QuestionMark => Allowed::new(3 << b'0', false),
-            BarePlace::InToken => Allowed::new(TOKEN, true),
-            BarePlace::InString => Allowed::new(VISIBLE, false),
-            BarePlace::Backslash => Allowed::new(QUOTE | 1 << b'\\', false),
-            BarePlace::Blob(place) => Allowed::new(place.expected(), false),
-            BarePlace::Shown(place) => Allowed::new(place.expected(), false),
-            BarePlace::Number(place) => place.allowed(),
-            BarePlace::Complete => Allowed::new(0, true),
+            BarePlace::Start => bare_start(dialect),
+            BarePlace::QuestionMark => 3 << b'0',
+            BarePlace::InToken => TOKEN,
+            BarePlace::InString => VISIBLE,
+            BarePlace::Backslash => QUOTE | 1 << b'\\',
+            BarePlace::Blob(place) => place.expected(),
+            BarePlace::Shown(place) => place.expected(),
+            BarePlace::Number(place) => place.allowed().expected,
+            BarePlace::Complete => 0,
+        }
+    }
+
+    /// Whether the bare item may end here.
+    #[inline(always)]
+    pub fn may_end(self) -> bool
+        ensures { result ≡ ends_bare self }
+    {
+        match self {
+            BarePlace::InToken | BarePlace::Complete => true,
+            BarePlace::Number(place) => place.allowed().may_end,
+            BarePlace::Start | BarePlace::QuestionMark => false,
+            BarePlace::InString | BarePlace::Backslash => false,
+            BarePlace::Blob(_) | BarePlace::Shown(_) => false,
         }
     }
 }
@@ -106,7 +116,7 @@ impl ParamPlace {
         match self {
             ParamPlace::Before => Allowed::new(SEMICOLON, true),
             ParamPlace::Semicolon => Allowed::new(KEY_START | SPACE, false),
-            ParamPlace::InKey => Allowed::new(KEY | EQUALS | SEMICOLON, true),
+            ParamPlace::InKey => Allowed::new(AFTER_KEY, true),
             ParamPlace::InValue(place) => place.allowed(dialect).or_after(SEMICOLON),
         }
     }

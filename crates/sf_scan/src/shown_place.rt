@@ -3,7 +3,7 @@ ghost use Rattle.sf_scan.specs.DisplayStrings.{in_shown, in_between, is_first_di
 ghost use Rattle.sf_scan.specs.DisplayStrings.{is_second_digit};
 ghost use Rattle.sf_scan.specs.Sets.{Marks};
 
-use crate::byte_sets::{QUOTE, VISIBLE};
+use crate::byte_sets::{LOWER_HEX, PERCENT, QUOTE, VISIBLE};
 use crate::char_place::{CharPlace, LowDigits};
 
 /// A place in a Display String, after its percent sign.
@@ -18,8 +18,6 @@ pub enum ShownPlace {
     /// After the first digit of an escape.
     Digit(LowDigits),
 }
-
-const PERCENT: u128 = 1 << b'%';
 
 const A_TO_B: u128 = 3 << b'a';
 
@@ -74,7 +72,7 @@ fn expected_second(low: LowDigits) -> u128
     ensures { Marks result (is_second_digit low) }
 {
     match low {
-        LowDigits::Any => 0x3ff << b'0' | 0x3f << b'a',
+        LowDigits::Any => LOWER_HEX,
         LowDigits::FromTwo => 0xff << b'2' | 0x3f << b'a',
         LowDigits::UpToFour => 0x1f << b'0',
     }

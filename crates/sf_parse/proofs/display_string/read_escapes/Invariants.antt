@@ -1,6 +1,6 @@
 use Rattle.std.proofs.Common.{ℕ, List, length, take, ◌++◌, ◌≤◌}
 use Rattle.sf_parse.specs.Prefixes.{Goes}
-use Rattle.sf_value.specs.Utf8States.{utf8_of}
+use Rattle.sf_scan.specs.Characters.{utf8_of}
 use Rattle.sf_parse.specs.Views.{Leads}
 use Rattle.sf_parse.specs.Machine.Showns.{Unencoded, shown_step}
 use Rattle.sf_parse.proofs.display_string.read_escapes.Given as goal

@@ -1,11 +1,12 @@
-use Rattle.std.proofs.Common.{refl}
-use Rattle.sf_value.specs.declared.dialect.Dialect.TheVariants.{Rfc8941, Rfc9651}
+use Rattle.std.proofs.Common.{is_some}
+use Rattle.sf_scan.specs.Places.{is_bare_start}
 use Rattle.sf_parse.specs.Machine.Bares.{bare_start}
-use Rattle.sf_parse.proofs.Marks.{marks_steps}
+use Rattle.sf_parse.proofs.Marks.{marks_below, each_same}
+use Rattle.sf_parse.proofs.BarePlaces.{starts}
 use Rattle.sf_parse.proofs.bare.BareReader.first_bytes.Goals as goal
 
-pub returns-in-Rfc8941 : goal.returns-in-Rfc8941
-returns-in-Rfc8941 c = rw c.in-Rfc8941.is (marks_steps _ (bare_start Rfc8941) refl)
-
-pub returns-in-Rfc9651 : goal.returns-in-Rfc9651
-returns-in-Rfc9651 c = rw c.in-Rfc9651.is (marks_steps _ (bare_start Rfc9651) refl)
+pub returns : goal.returns
+returns c =
+    let d = c.args.dialect in
+    marks_below _ (is_bare_start d) (λ b. is_some (bare_start d b)) (each_same _ _ (starts d))
+    c.expected.ensures
