@@ -4,15 +4,23 @@
 ghost use Rattle.std.specs.Prelude.{◌≡◌, ◌≤◌, ◌++◌, ℕ, List, length};
 
 use memchr::{memchr, memchr2, memchr3};
-use sf_value::classes::strip_byte;
+use sf_value::classes::{after_spaces, strip_byte};
 
 /// At most this many bytes of a chunk are read directly at a time. A part that isn't whole in them is
 /// read again by the levels, so what is read twice is bounded.
-const DIRECT: usize = 32_768;
+const DIRECT: usize = 8192;
 
 /// At most this many bytes of a text are searched, so that a long text that is refused early isn't
 /// first searched to its end.
 const NEAR: usize = 1024;
+
+/// The beginning of a text, which is searched.
+#[inline(always)]
+pub fn near(text: &[u8]) -> &[u8]
+    ensures { length result.now ≤ length text.now }
+{
+    head(text, NEAR)
+}
 
 /// The beginning of a chunk, in which parts are read directly.
 #[inline(always)]
@@ -52,7 +60,7 @@ const STRINGS: usize = 4;
 /// or an Item with parameters is left to the levels if no comma follows it, since it would have to
 /// be read again.
 pub fn has_comma(text: &[u8]) -> bool {
-    let mut rest = head(text, NEAR);
+    let mut rest = near(text);
     for _ in 0..STRINGS {
         let Some(place) = memchr(b',', rest) else {
             return false;
@@ -69,11 +77,11 @@ pub fn has_comma(text: &[u8]) -> bool {
     false
 }
 
-/// Whether there is a space near the beginning of a text, outside Strings, and no comma or closing
-/// bracket before it. An Item with parameters in an Inner List of a chunk is left to the levels if
-/// no such space follows it.
+/// Whether there is a space near the beginning of a text, outside Strings and not after a semicolon,
+/// and no comma or closing bracket before it. An Item with parameters in an Inner List of a chunk is
+/// left to the levels if no such space follows it.
 pub fn has_space(text: &[u8]) -> bool {
-    let mut rest = head(text, NEAR);
+    let mut rest = near(text);
     for _ in 0..STRINGS {
         let Some(place) = memchr3(b' ', b',', b')', rest) else {
             return false;
@@ -81,11 +89,17 @@ pub fn has_space(text: &[u8]) -> bool {
         let Some(outside) = outside_of_quotes(rest, place) else {
             return false;
         };
-        // Nothing was skipped, so the byte is not within a String.
-        if outside.len() >= rest.len() - place {
+        // Something was skipped, so the byte is within a String.
+        if outside.len() < rest.len() - place {
+            rest = outside;
+            continue;
+        }
+        let (before, _) = rest.split_at(place);
+        if !before.ends_with(b";") {
             return outside.first().copied() == Some(b' ');
         }
-        rest = outside;
+        // These spaces are before a key.
+        rest = after_spaces(outside);
     }
     false
 }

@@ -18,7 +18,7 @@ ghost use Rattle.sf_parse.specs.WholeMembers.{TakesMembers, IsAfterMember};
 ghost use Rattle.sf_parse.specs.declared.series.SeriesPhase.TheVariants as phase_is;
 ghost use Rattle.sf_parse.specs.declared.whole_parts.Begun.TheVariants as begun_is;
 
-use crate::ahead::{after_window, has_comma, window};
+use crate::ahead::{after_window, has_comma, near, window};
 use crate::context::Context;
 use crate::leaf::make;
 use crate::level::Level;
@@ -368,7 +368,7 @@ fn has_end<P: SeriesMember<G>, G>(dialect: Dialect, chunk: &[u8]) -> bool {
     match P::begin(dialect, window(chunk)) {
         Some(Begun::Item(_, after)) => match split(after) {
             Some((b',' | b' ' | b'\t', _)) => true,
-            Some((b';', _)) => begins_param(dialect, after) && has_comma(after),
+            Some((b';', _)) => begins_param(dialect, near(after)) && has_comma(after),
             _ => false,
         },
         Some(Begun::Inner(_, inside)) => has_comma(inside),
