@@ -8,12 +8,13 @@
  *   The lines of a field      sf_add_line, sf_joined_text
  *   Malformed fields          sf_check_text, sf_write_refusal, sf_show_excerpt_of_line
  *   Canonical texts           sf_write_canonical, sf_equal_texts
- *   Values that are read      sf_read_tree, sf_find_member_of, sf_set_number, sf_write_tree
+ *   Values that are read      sf_read_tree, sf_find_member_of, sf_node_offset, sf_write_tree
  *   Values that are built     sf_build, sf_put_string and the like, sf_put_copy, sf_write_built
  *   Priority                  sf_read_priority, sf_merge_priority, sf_write_priority
  *   Cache-Status              sf_read_hops, sf_write_hop_in, sf_append_or_write_hop
  *   Heads of messages         sf_head_in_memory, sf_take_request, sf_take_response, sf_find_field
- *   The fields of a head      sf_find_priority, sf_find_hops, sf_add_hop, sf_show_fault_in
+ *   The fields of a head      sf_find_merged_priority, sf_find_hops, sf_find_tree, sf_add_hop,
+ *                             sf_add_fault, sf_show_fault_in
  *   What a cache decides      sf_decide_response; its parts, such as sf_choose_rules
  *
  * All of them are inline functions, which are tested. Many call functions of the library, which are
@@ -371,13 +372,13 @@ static inline sf_status sf_show_refusal(const sf_refusal *refusal, sf_text text,
 
 /* The size in bytes of a buffer that is large enough for each message of sf_show_excerpt and of
  * sf_show_excerpt_of_line with this number of bytes of the text at most. */
-#define SF_REFUSAL_EXCERPT_SIZE(most) (SF_REFUSAL_SIZE + 3 + sizeof(char[2]) * (most))
+#define SF_REFUSAL_EXCERPT_SIZE(most) (SF_REFUSAL_SIZE + 12 + sizeof(char[2]) * (most))
 
 /*
  * Writes the error message of a refusal of this text, a second line with at most so many bytes of
- * the text around the offset, and a caret below the offset, without a newline at the end. So the
- * message has a bound, whatever the length of the text. Bytes are written as by sf_refusal_in_text.
- * The results are those of sf_write_refusal.
+ * the text around the offset, with `...` at an end where more of it is left out, and a caret below
+ * the offset, without a newline at the end. So the message has a bound, whatever the length of the
+ * text. Bytes are written as by sf_refusal_in_text. The results are those of sf_write_refusal.
  */
 SF_USE_RESULT
 static inline sf_status sf_show_excerpt(const sf_refusal *refusal, sf_text text, size_t most,
@@ -419,8 +420,8 @@ static inline sf_location sf_locate_in_lines(const sf_refusal *refusal, const sf
  *       printf("%.*s\n", SF_ARGS(out));
  *   } // byte 0x2c ',' at place 7, expected a token character, `)`, `;` or a space
  *   // line 12, place 7:
- *   //  (d e, f
- *   //      ^
+ *   // ... (d e, f
+ *   //         ^
  *
  * A buffer of SF_REFUSAL_EXCERPT_SIZE(most) bytes is always large enough. The results are those of
  * sf_write_refusal.
@@ -621,6 +622,12 @@ static inline sf_text sf_node_key(const sf_tree *tree, const sf_node *node);
  * and decoded; the empty text for other types. */
 static inline sf_text sf_node_text(const sf_tree *tree, const sf_node *node);
 
+/* Returns the offset of a node of a tree that sf_read_tree read, in the text of that tree: where
+ * its key begins, otherwise its Item or Inner List. If the key is repeated, the last one counts
+ * (RFC 9651 section 3.2). For a node without a key, and for each node if a key is repeated, it
+ * takes time in proportion to the length of the text. sf_locate_offset returns the line. */
+static inline size_t sf_node_offset(const sf_tree *tree, const sf_node *node);
+
 /*
  * Returns the Item of an Inner List after this one, or the first if it is NULL; after the last,
  * NULL.
@@ -629,6 +636,10 @@ static inline sf_text sf_node_text(const sf_tree *tree, const sf_node *node);
  *   for (const sf_node *item = NULL; (item = sf_next_item(list, item)) != NULL;)
  */
 static inline const sf_node *sf_next_item(const sf_node *list, const sf_node *item);
+
+/* Returns the parameter of an Item or Inner List after this one, or the first if it is NULL; after
+ * the last, NULL. A loop likewise visits each. */
+static inline const sf_node *sf_next_parameter(const sf_node *node, const sf_node *param);
 
 /* Returns the member of a Dictionary that has this key (RFC 9651 section 3.2), or NULL. The key
  * ends with a NUL; sf_find takes one of a stated length. */
@@ -1256,7 +1267,12 @@ typedef enum sf_reason {
                                 that of sf_read_hops */
   SF_FAULT_NO_REQUEST_LINE = 101, /* there is no request line, but one was expected: see
                                      sf_take_request */
-  SF_FAULT_NO_STATUS_LINE = 102   /* the same for a status line: see sf_take_response */
+  SF_FAULT_NO_STATUS_LINE = 102,  /* the same for a status line: see sf_take_response */
+  SF_FAULT_OWN = 104,             /* the program found it: see sf_add_fault */
+  SF_FAULT_NOT_SECONDS = 105,     /* max-age, or s-maxage in a shared cache, is no number of
+                                     seconds: the response is stale (RFC 9111 section 4.2.1) */
+  SF_FAULT_OTHER_SECONDS = 106    /* the same, since Cache-Control has it with two numbers: this is
+                                     the second */
 } sf_reason;
 
 /* A line or a field of a head that is malformed. */
@@ -1264,21 +1280,24 @@ typedef struct sf_fault {
   const char *field;    /* the name by which the field was looked up; "" if the fault is about no
                            field, as those of lines, of the start line and of the end */
   uint32_t reason;      /* an sf_reason */
-  sf_location location; /* the line as it was received, and the place in it. For the reasons of
-                           Expires and Date, that is where the value begins; for that of Age, the
-                           first byte of the first member that is no digit or, if the member is
-                           empty, its end. For SF_FAULT_NOT_A_START, it is that of the first CR, LF
-                           or NUL; otherwise, if the line begins with HTTP/, where it can't go on as
-                           a status line; otherwise where it can't go on as a field line. For a
-                           missing start line, it is the beginning of the first line that is not
-                           empty. For SF_FAULT_NO_END, and if there is no such line, the line is
-                           empty, and its number that of the line to be added next. For all of
-                           these, the refusal says only where, not why */
+  sf_location location; /* the line as it was received, and the place in it. For SF_FAULT_REPEATED,
+                           that is where the value begins; for SF_FAULT_NOT_A_DATE, the part of the
+                           date that is wrong; for a number of seconds, the argument of the
+                           directive; for Age, the first byte of the first member that is no digit
+                           or, if the member is empty, its end. For SF_FAULT_NOT_A_START, it is that
+                           of the first CR, LF or NUL; otherwise, if the line begins with HTTP/,
+                           where it can't go on as a status line; otherwise where it can't go on as
+                           a field line. For a missing start line, it is the beginning of the first
+                           line that is not empty. For SF_FAULT_NO_END, and if there is no such
+                           line, the line is empty, and its number that of the line to be added
+                           next. For all of these, the refusal says only where, not why */
+  const char *message;  /* of SF_FAULT_OWN, that of sf_add_fault; otherwise what sf_show_fault says
+                           of the part that is expected, or NULL */
 } sf_fault;
 
 /* A buffer for faults. A head has at most one for each line that is no field line, two for each of
- * Expires and Date, one for each other name that is looked up, one for a missing start line, and
- * one for a missing end. */
+ * Expires and Date, one for each other name that is looked up, one for a missing start line, one
+ * for a missing end, and those of sf_add_fault. */
 typedef struct sf_faults {
   sf_fault *at;
   size_t capacity;
@@ -1319,7 +1338,7 @@ static inline sf_head sf_head_in(sf_head_lines lines, sf_buffer joined);
 
 /*
  * Returns the size in bytes of the memory that sf_head_in_memory requires for the head that this
- * text begins with: at most 70 times the length of that head, and 230. What comes after the empty
+ * text begins with: at most 74 times the length of that head, and 1024. What comes after the empty
  * line that ends the head does not count.
  */
 static inline size_t sf_head_memory_size(sf_text received);
@@ -1341,7 +1360,8 @@ static inline size_t sf_head_memory_size(sf_text received);
  * head. Then no call returns SF_SHORT because head.joined is too small if sf_find_field and
  * sf_find_tree look up each field at most once: they keep what they join. The other calls may look
  * up any field as often as they like. And no fault is lost if each field is looked up by one name,
- * always spelled the same, and read as one kind in one dialect.
+ * always spelled the same, and read as one kind in one dialect, and sf_add_fault adds at most
+ * eight.
  *
  * If memory is NULL or not aligned, or size is less than sf_head_memory_size(received), the buffers
  * are empty: the first field line is SF_SHORT, and faults are only counted.
@@ -1478,6 +1498,13 @@ static inline sf_status sf_find_field(sf_head *head, const char *name, sf_text *
 static inline sf_location sf_locate_in_head(const sf_refusal *refusal, const sf_head *head,
                                             const char *name);
 
+/* Returns the line that has the byte at this offset of the text of a field of a head, as
+ * sf_find_field joins it, likewise: location.number is the line, and location.refusal.offset the
+ * place in it, from 0. Of that refusal only found is set besides. If the head does not have the
+ * field, the line is empty, and its number that of the line after the last field line. */
+static inline sf_location sf_locate_offset(const sf_head *head, const char *name,
+                                           uint64_t offset);
+
 /* == The fields of a head. == */
 
 /* These calls look up a structured field of a head, and read, check or write it. A malformed field
@@ -1520,6 +1547,12 @@ static inline sf_status sf_find_priority(sf_context *context, sf_head *head,
 SF_USE_RESULT
 static inline sf_status sf_find_response_priority(sf_context *context, sf_head *head,
                                                  sf_response_priority_flags *server);
+
+/* Reads both, and merges them as sf_merge_priority does, for the sender of the response. The
+ * results are those of sf_find_priority, with *merged in the place of *client. */
+SF_USE_RESULT
+static inline sf_status sf_find_merged_priority(sf_context *context, sf_head *request,
+                                               sf_head *response, sf_priority_flags *merged);
 
 /*
  * Reads the Cache-Status field of a response, as sf_read_hops does. A member that names no cache is
@@ -1587,6 +1620,41 @@ static inline sf_status sf_check_field(sf_context *context, sf_kind kind, sf_hea
 /* Adds the refusal of a field to the faults of a head, for other functions that read the text of
  * sf_find_field. Returns nothing. */
 static inline void sf_note_refusal(sf_head *head, const char *name, const sf_refusal *refusal);
+
+/*
+ * Adds a fault that the program finds itself: at this offset of the text of a field of a head, as
+ * sf_find_field joins it, such as sf_node_offset returns, with a message of at most 900 bytes,
+ * which ends with a NUL. sf_show_fault shows it, as it does other faults. The name and the message
+ * are not copied: they must be valid as long as the head is used.
+ *
+ *   sf_head_line head_lines[4];
+ *   sf_fault faults[4];
+ *   sf_node nodes[8];
+ *   char bytes[64], message[SF_FAULT_SIZE(15, 60)];
+ *   sf_buffer out = SF_BUFFER(message);
+ *   sf_head head = sf_head_in(SF_HEAD_LINES(head_lines), SF_BUFFER(bytes));
+ *   head.faults = SF_FAULTS(faults);
+ *   sf_text rest = sf_cstr("GET / HTTP/1.1\r\nSignature-Input: a=(\"@path\"), b=1\r\n\r\n");
+ *   sf_tree tree = sf_tree_in(SF_NODES(nodes), sf_buffer_of(NULL, 0));
+ *   if (sf_take_request(&head, &rest) != SF_OK ||
+ *       sf_find_tree(&context, SF_DICT, &head, "Signature-Input", &tree) != SF_OK)
+ *     return EXIT_FAILURE;
+ *   for (const sf_node *node = nodes; node < sf_tree_end(&tree); node += node->size)
+ *     if (node->type != SF_INNER_LIST)
+ *       sf_add_fault(&head, "Signature-Input", sf_node_offset(&tree, node),
+ *                    "expected an Inner List");
+ *   for (size_t i = 0; i < head.faults.length; ++i)
+ *     if (sf_show_fault(&faults[i], 60, &out) == SF_OK)
+ *       printf("%.*s\n", SF_ARGS(out));
+ *       // line 2, place 30: Signature-Input: expected an Inner List
+ *       // Signature-Input: a=("@path"), b=1
+ *       //                               ^
+ *
+ * If the head does not have a field of that name, the message is one line, with the number of the
+ * line after the last field line; if the name is empty, it is left out. Returns nothing.
+ */
+static inline void sf_add_fault(sf_head *head, const char *name, uint64_t offset,
+                                const char *message);
 
 /* The sizes in bytes of buffers that are large enough for each message of sf_show_fault of a field
  * whose name has this length, such as that of the longest name, with this number of bytes of the
@@ -1823,7 +1891,10 @@ typedef struct sf_verdict {
  * Cache-Control the first such line; of Expires the first if malformed, and the second; and so of
  * Date, if there is Expires. These two are faults only if the lifetime by Expires counts: not
  * beside a target that decides, a max-age, in a shared cache an s-maxage, or a directive that
- * forbids storing or asks for validation.
+ * forbids storing or asks for validation; for "0" and the like have a meaning (RFC 9111 section
+ * 5.3). A max-age or s-maxage that is no number of seconds makes the response stale (section
+ * 4.2.1), and is a fault if it counts likewise. A malformed Age is ignored (section 5.1), and is
+ * always a fault, also of a response that is not stored: it has no such meaning.
  *
  * The method and no-store of the request count as sf_set_request sets them. The rest is the
  * caller's: the heuristics of section 4.2.2, Vary and other directives of the request when the
@@ -1840,13 +1911,14 @@ static inline sf_status sf_decide_response(sf_context *context, sf_head *head, s
 #define SF_VERDICT_SIZE(name_length) (sizeof(char) * (name_length) + 192)
 
 /*
- * Writes a verdict in words: the field, unless it is NULL; sf_reuse_name and, if fresh, seconds;
- * sf_cause_name, unless it is that of SF_BY_EXPIRES, or "malformed" if is_refused is 1; and the
- * obstacle, unless it is SF_BARRED_DIRECTIVE or SF_BARRED_MALFORMED. Such as
+ * Writes a verdict in words: the field, unless it is NULL; sf_reuse_name and, if fresh, seconds, or
+ * "no lifetime set" for SF_REUSE_UNSPECIFIED; sf_cause_name, unless it is that of SF_BY_EXPIRES, or
+ * "malformed" if is_refused is 1; and "may be stored", or the obstacle, unless it is
+ * SF_BARRED_DIRECTIVE or SF_BARRED_MALFORMED. Such as
  *
- *   CDN-Cache-Control: fresh for 600 s (max-age); not stored: the head is incomplete
- *
- * If the text does not have "not stored", the response may be stored.
+ *   CDN-Cache-Control: fresh for 600 s (max-age); may be stored
+ *   Cache-Control: no lifetime set; not stored: the head is incomplete
+ *   Cache-Control: not stored (no-store)
  *
  *   SF_OK     the first out->length bytes of out are the text
  *   SF_SHORT  it has out->required bytes, more than the capacity

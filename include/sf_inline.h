@@ -348,30 +348,35 @@ static inline sf_status sf_write_parts(const sf_text *parts, size_t parts_length
 }
 
 /* Writes these texts, then the lines of sf_show_excerpt: at most so many bytes of a line around a
- * place, and a caret below it. For the functions below. */
+ * place, with `...` where it is cut off, and a caret below the place. For the functions below. */
 SF_USE_RESULT
 static inline sf_status sf_show_excerpt_below(const sf_text *parts, size_t parts_length,
                                              uint64_t place, sf_text line, size_t most,
                                              sf_buffer *out) {
   size_t at = place < line.length ? (size_t)place : line.length;
-  size_t from = at > most / 2 ? at - most / 2 : 0, length, more;
+  size_t from = at > most / 2 ? at - most / 2 : 0, length, indent, more;
+  sf_text before, after;
   char *to;
   sf_status status;
   if (line.length - from < most)
     from = line.length > most ? line.length - most : 0;
   length = line.length - from < most ? line.length - from : most;
-  more = length + (at - from) + 3;
+  before = sf_text_of("...", from > 0 ? 3 : 0);
+  after = sf_text_of("...", from + length < line.length ? 3 : 0);
+  indent = before.length + (at - from);
+  more = before.length + length + after.length + indent + 3;
   status = sf_write_parts(parts, parts_length, more, out);
   if (status != SF_OK)
     return status;
   to = out->at + (out->length - more);
   *to++ = '\n';
+  to = sf_put_text(to, before);
   (void)sf_put_text(to, sf_text_of(length == 0 ? "" : line.at + from, length));
   sf_hide_bytes(to, length);
-  to += length;
+  to = sf_put_text(to + length, after);
   *to++ = '\n';
-  memset(to, ' ', at - from);
-  to[at - from] = '^';
+  memset(to, ' ', indent);
+  to[indent] = '^';
   return SF_OK;
 }
 
@@ -553,6 +558,109 @@ static inline sf_text sf_node_text(const sf_tree *tree, const sf_node *node) {
   return sf_text_at(tree, node->text_at, node->text_length);
 }
 
+/* Returns whether two texts have the same bytes: for the functions below. */
+static inline int sf_is_same(sf_text a, sf_text b) {
+  return a.length == b.length && (a.length == 0 || memcmp(a.at, b.at, a.length) == 0);
+}
+
+/* Returns the place after bytes that are white space: for the functions below. */
+static inline size_t sf_after_space(sf_text text, size_t at) {
+  while (at < text.length && (text.at[at] == ' ' || text.at[at] == '\t'))
+    ++at;
+  return at;
+}
+
+/* Returns the place after the bare item or the key that begins at a place of a well-formed text, in
+ * any other text after at least one byte: for the functions below. */
+static inline size_t sf_after_bare(sf_text text, size_t at) {
+  int is_display = at < text.length && text.at[at] == '%';
+  char first;
+  at += (size_t)is_display;
+  first = at < text.length ? text.at[at] : 0;
+  do {
+    at += first == '"' && !is_display && at < text.length && text.at[at] == '\\';
+    ++at;
+  } while (at < text.length && (first == '"' || first == ':'
+                                    ? text.at[at] != first
+                                    : strchr(",;() \t=", text.at[at]) == NULL));
+  at += first == '"' || first == ':';
+  return at < text.length ? at : text.length;
+}
+
+/* Returns the place after the parameters from a place on, and sets another one to that of the last
+ * of them that has this key: for the functions below. */
+static inline size_t sf_after_params(sf_text text, size_t at, sf_text key, size_t *place) {
+  while (at < text.length && text.at[at] == ';') {
+    size_t begin = sf_after_space(text, at + 1);
+    at = sf_after_bare(text, begin);
+    if (key.length > 0 && sf_is_same(sf_text_of(text.at + begin, at - begin), key))
+      *place = begin;
+    if (at < text.length && text.at[at] == '=')
+      at = sf_after_bare(text, at + 1);
+  }
+  return at;
+}
+
+/* Returns the place after an Item or Inner List, and sets another one to that of its Item of this
+ * number, from 1, or of the parameter of that Item that has this key; with the number 0, of its own
+ * parameter. For the function below. */
+static inline size_t sf_after_member(sf_text text, size_t at, size_t item, sf_text key,
+                                     size_t *place) {
+  const sf_text none = {"", 0};
+  size_t index = 0;
+  if (at < text.length && text.at[at] == '(') {
+    at = sf_after_space(text, at + 1);
+    while (at < text.length && text.at[at] != ')') {
+      if (++index == item)
+        *place = at;
+      at = sf_after_params(text, sf_after_bare(text, at), index == item ? key : none, place);
+      at = sf_after_space(text, at);
+    }
+    at += at < text.length;
+  } else {
+    at = sf_after_bare(text, at);
+  }
+  return sf_after_params(text, at, item == 0 ? key : none, place);
+}
+
+/* Returns the place in a well-formed text of a member, by its key in a Dictionary, otherwise by its
+ * index; or of its part: see sf_after_member. If a key is repeated, the last one counts. */
+static inline size_t sf_place_of(sf_text text, int is_dict, sf_text key, size_t index, size_t item,
+                                 sf_text param) {
+  const sf_text none = {"", 0};
+  size_t at = sf_after_space(text, 0), place = 0, count = 0, ignored;
+  while (at < text.length) {
+    size_t begin = at, end = is_dict ? sf_after_bare(text, at) : at;
+    int is_it =
+        is_dict ? sf_is_same(sf_text_of(text.at + begin, end - begin), key) : count == index;
+    if (is_it)
+      place = begin;
+    if (is_dict && (end == text.length || text.at[end] != '='))
+      at = sf_after_params(text, end, is_it && item == 0 ? param : none, is_it ? &place : &ignored);
+    else
+      at = sf_after_member(text, end + (size_t)is_dict, is_it ? item : 0, is_it ? param : none,
+                           is_it ? &place : &ignored);
+    at = sf_after_space(text, at);
+    at = sf_after_space(text, at + (at < text.length));
+    ++count;
+  }
+  return place;
+}
+
+static inline size_t sf_node_offset(const sf_tree *tree, const sf_node *node) {
+  const sf_node *member = tree->nodes.at, *one;
+  int is_param = node->role == SF_PARAMETER || node->role == SF_INNER_PARAMETER;
+  size_t index = 0, item = 0;
+  if (node->key_length > 0 && (uint64_t)node->key_at + node->key_length <= tree->text.length)
+    return node->key_at;
+  for (; node >= member + member->size; member += member->size)
+    ++index;
+  for (one = member; one < node && node->role != SF_INNER_PARAMETER; ++one)
+    item += one[1].role == SF_INNER_ITEM;
+  return sf_place_of(tree->text, tree->kind == SF_DICT, sf_node_key(tree, member), index, item,
+                     is_param ? sf_node_key(tree, node) : sf_text_of("", 0));
+}
+
 /* Returns the first of so many nodes from an index on that has this role and this key, or NULL: for
  * the functions below. */
 static inline sf_node *sf_find_node(const sf_tree *tree, size_t from, size_t length, sf_role role,
@@ -570,6 +678,13 @@ static inline const sf_node *sf_next_item(const sf_node *list, const sf_node *it
   return list->type == SF_INNER_LIST && next < list + list->size && next->role == SF_INNER_ITEM
              ? next
              : NULL;
+}
+
+static inline const sf_node *sf_next_parameter(const sf_node *node, const sf_node *param) {
+  const sf_node *next = param == NULL ? node + 1 : param + 1;
+  while (next < node + node->size && next->role == SF_INNER_ITEM)
+    next += next->size;
+  return next < node + node->size ? next : NULL;
 }
 
 static inline sf_node *sf_find_member(const sf_tree *tree, const char *key) {
@@ -1116,22 +1231,9 @@ static inline sf_hop_list sf_hop_list_in_memory(void *memory, size_t size, size_
  * the function below. */
 static inline sf_refusal sf_refusal_of_nameless(sf_text list, size_t index) {
   const uint64_t letters = UINT64_C(0x07fffffe07fffffe); /* the bytes from 64 on */
+  const sf_text none = {"", 0};
+  size_t i = sf_place_of(list, 0, none, index, 0, none);
   sf_refusal refusal;
-  int is_quoted = 0, is_display = 0;
-  size_t i;
-  for (i = 0; i < list.length && index > 0; ++i) {
-    char c = list.at[i];
-    if (c == '"') {
-      is_display = !is_quoted && i > 0 && list.at[i - 1] == '%';
-      is_quoted = !is_quoted;
-    } else if (c == '\\' && is_quoted && !is_display) {
-      ++i;
-    } else if (c == ',' && !is_quoted) {
-      --index;
-    }
-  }
-  while (i < list.length && (list.at[i] == ' ' || list.at[i] == '\t'))
-    ++i;
   memset(&refusal, 0, sizeof refusal);
   refusal.offset = i;
   refusal.expected_low = UINT64_C(1) << '"' | UINT64_C(1) << '*';
@@ -1270,12 +1372,17 @@ static inline size_t sf_head_length(sf_text received, size_t *lines) {
   return length - rest.length;
 }
 
+/* Faults of a head that sf_head_in_memory has a buffer for beside one for each line: a missing
+ * start line and a missing end, and eight that the program finds. For the functions below. */
+enum { SF_MORE_FAULTS = 10 };
+
 /* Returns the bytes that are enough for a head of so many lines and bytes: for the functions below.
- * A line that is no field line has one fault, a field has at most as many as it has lines, and a
- * missing start line and a missing end are two more. All fields, joined, have fewer bytes than the
- * head, and each of them has when it is joined again while all are kept. */
+ * A line that is no field line has one fault, and a field has at most as many as it has lines. All
+ * fields, joined, have fewer bytes than the head, and each of them has when it is joined again
+ * while all are kept. */
 static inline size_t sf_head_memory_of(size_t lines, size_t length) {
-  size_t bytes = sf_add_size(2 * sizeof(sf_fault), lines, sizeof(sf_head_line) + sizeof(sf_fault));
+  size_t bytes = sf_add_size(SF_MORE_FAULTS * sizeof(sf_fault), lines,
+                             sizeof(sf_head_line) + sizeof(sf_fault));
   return sf_add_size(bytes, length, 2);
 }
 
@@ -1291,8 +1398,8 @@ static inline sf_head sf_head_in_memory(void *memory, size_t size, sf_text recei
   sf_fault *faults = fits ? (sf_fault *)(void *)(at + lines) : NULL;
   sf_head head = sf_head_in(sf_head_lines_of(at, fits ? lines : 0), sf_buffer_of(NULL, 0));
   if (fits) {
-    head.faults = sf_faults_of(faults, lines + 2);
-    head.joined = sf_buffer_of(faults + lines + 2, 2 * length);
+    head.faults = sf_faults_of(faults, lines + SF_MORE_FAULTS);
+    head.joined = sf_buffer_of(faults + lines + SF_MORE_FAULTS, 2 * length);
   }
   return head;
 }
@@ -1340,8 +1447,8 @@ static inline int sf_is_break(char c) {
 
 /* Splits a line at its colon, or says where it is no field line (RFC 9112 section 5): the place,
  * and the bytes that may be there by the grammar. White space before the colon is skipped, but not
- * in a request (section 5.1); in a value only CR, LF and NUL are refused (RFC 9110 section 5.5).
- * For the functions below. */
+ * in a request (section 5.1) that has a colon after it; in a value only CR, LF and NUL are refused
+ * (RFC 9110 section 5.5). For the functions below. */
 static inline int sf_split_line(sf_text line, int is_request, sf_text *name, sf_text *value,
                                 sf_refusal *refusal) {
   size_t at = 0;
@@ -1350,8 +1457,8 @@ static inline int sf_split_line(sf_text line, int is_request, sf_text *name, sf_
   while (at < line.length && sf_is_tchar(line.at[at]))
     ++at;
   *name = sf_text_of(line.at, at);
-  while (!is_request && at > 0 && at < line.length && (line.at[at] == ' ' || line.at[at] == '\t'))
-    ++at;
+  if (at > 0 && (!is_request || memchr(line.at + at, ':', line.length - at) == NULL))
+    at = sf_after_space(line, at);
   if (at > 0 && at < line.length && line.at[at] == ':') {
     *value = sf_text_of(line.at + at + 1, line.length - at - 1);
     do
@@ -1441,11 +1548,12 @@ static inline const char *sf_start_fault(sf_text line, uint64_t *place) {
 /* Adds a fault to those of a head, in the order of the lines, unless it is one of them: for the
  * functions below. */
 static inline void sf_note_fault(sf_head *head, const char *field, sf_reason reason,
-                                 const sf_location *location) {
+                                 const char *message, const sf_location *location) {
   sf_fault *faults = head->faults.at;
   size_t i = head->faults.length;
   for (; i > 0 && faults[i - 1].location.number >= location->number; --i)
     if (strcmp(faults[i - 1].field, field) == 0 && faults[i - 1].reason == (uint32_t)reason &&
+        sf_is_same(sf_cstr(faults[i - 1].message), sf_cstr(message)) &&
         faults[i - 1].location.number == location->number &&
         faults[i - 1].location.refusal.offset == location->refusal.offset)
       return;
@@ -1457,6 +1565,7 @@ static inline void sf_note_fault(sf_head *head, const char *field, sf_reason rea
   faults[i].field = field;
   faults[i].reason = (uint32_t)reason;
   faults[i].location = *location;
+  faults[i].message = message;
 }
 
 /* Takes a start line (RFC 9112 section 2.1), and returns whether the line is one: for the function
@@ -1511,7 +1620,7 @@ static inline sf_status sf_add_head_line(sf_head *head, sf_text line) {
   }
   head->is_begun = 1;
   head->is_incomplete = 1;
-  sf_note_fault(head, "", reason, &location);
+  sf_note_fault(head, "", reason, NULL, &location);
   return SF_REFUSED;
 }
 
@@ -1529,7 +1638,7 @@ static inline void sf_expect_start(sf_head *head, sf_reason reason) {
   location.line = has_start || !has_lines ? head->start : head->lines.at[0].received;
   sf_refuse_at(&location, 0);
   head->is_incomplete = 1;
-  sf_note_fault(head, "", reason, &location);
+  sf_note_fault(head, "", reason, NULL, &location);
 }
 
 /* Takes a head, as sf_take_head does, whose start line has to be of the kind that the reason is
@@ -1562,7 +1671,7 @@ static inline sf_status sf_take_head_for(sf_head *head, sf_text *rest, sf_reason
   location.number = head->number;
   location.line = sf_text_of("", 0);
   sf_refuse_at(&location, 0);
-  sf_note_fault(head, "", SF_FAULT_NO_END, &location);
+  sf_note_fault(head, "", SF_FAULT_NO_END, NULL, &location);
   return SF_REFUSED;
 }
 
@@ -1657,24 +1766,45 @@ static inline sf_location sf_locate_in_head(const sf_refusal *refusal, const sf_
 static inline void sf_note_field(sf_head *head, const char *name, sf_reason reason,
                                  const sf_refusal *refusal) {
   sf_location location = sf_locate_in_head(refusal, head, name);
-  sf_note_fault(head, name, reason, &location);
+  sf_note_fault(head, name, reason, NULL, &location);
 }
 
 static inline void sf_note_refusal(sf_head *head, const char *name, const sf_refusal *refusal) {
   sf_note_field(head, name, SF_FAULT_REFUSED, refusal);
 }
 
+static inline sf_location sf_locate_offset(const sf_head *head, const char *name,
+                                           uint64_t offset) {
+  sf_refusal refusal;
+  sf_location location;
+  memset(&refusal, 0, sizeof refusal);
+  refusal.offset = offset;
+  location = sf_locate_in_head(&refusal, head, name);
+  sf_refuse_at(&location, location.refusal.offset);
+  if (!sf_has_field(head, name))
+    location.number = head->lines.length == 0
+                          ? head->number
+                          : head->lines.at[head->lines.length - 1].number + 1;
+  return location;
+}
+
+static inline void sf_add_fault(sf_head *head, const char *name, uint64_t offset,
+                                const char *message) {
+  sf_location location = sf_locate_offset(head, name, offset);
+  sf_note_fault(head, name, SF_FAULT_OWN, message, &location);
+}
+
 /* Adds what is wrong with the value of a line of a head, with a refusal in it: for the functions
  * below. */
-static inline void sf_note_value(sf_head *head, const char *name, sf_reason reason, size_t index,
-                                 const sf_refusal *refusal) {
+static inline void sf_note_value(sf_head *head, const char *name, sf_reason reason,
+                                 const char *message, size_t index, const sf_refusal *refusal) {
   const sf_head_line *line = &head->lines.at[index];
   sf_location location;
   location.index = index;
   location.number = line->number;
   location.refusal = *refusal;
   sf_show_received(&location, line);
-  sf_note_fault(head, name, reason, &location);
+  sf_note_fault(head, name, reason, message, &location);
 }
 
 /* Returns in words why a line, the first or another, is no field line: for the function below. */
@@ -1694,11 +1824,14 @@ static inline const char *sf_line_fault(const sf_refusal *refusal, int is_first)
 static inline const char *sf_fault_words(uint32_t reason) {
   switch (reason) {
   case SF_FAULT_NOT_A_DATE:
-    return "expected an HTTP-date, such as Sun, 06 Nov 1994 08:49:37 GMT";
+    return "expected ";
   case SF_FAULT_REPEATED:
     return "there are several lines";
   case SF_FAULT_NOT_AN_AGE:
+  case SF_FAULT_NOT_SECONDS:
     return "expected a number of seconds";
+  case SF_FAULT_OTHER_SECONDS:
+    return "the directive had another value before";
   case SF_FAULT_NOT_A_LINE:
     return "not a field line: ";
   case SF_FAULT_NO_END:
@@ -1711,6 +1844,8 @@ static inline const char *sf_fault_words(uint32_t reason) {
     return "the head of a request begins with a request line";
   case SF_FAULT_NO_STATUS_LINE:
     return "the head of a response begins with a status line";
+  case SF_FAULT_OWN:
+    return "";
   default:
     return NULL;
   }
@@ -1736,7 +1871,7 @@ static inline sf_status sf_show_fault_in(const char *file, const sf_fault *fault
   const sf_location *location = &fault->location;
   const char *words = sf_fault_words(fault->reason);
   int is_of_head = fault->reason == SF_FAULT_NO_END || fault->reason == SF_FAULT_NO_REQUEST_LINE ||
-                   fault->reason == SF_FAULT_NO_STATUS_LINE;
+                   fault->reason == SF_FAULT_NO_STATUS_LINE || fault->reason == SF_FAULT_OWN;
   char message[SF_REFUSAL_SIZE], place[64], *end;
   sf_buffer refused = SF_BUFFER(message);
   sf_text parts[10];
@@ -1767,8 +1902,14 @@ static inline sf_status sf_show_fault_in(const char *file, const sf_fault *fault
     if (status != SF_OK)
       return sf_wrote(out, status, 0);
     sf_leave_out_place(sf_written(&refused), &parts[5], &parts[6]);
+    if (fault->message != NULL)
+      parts[6] = sf_text_of(", expected ", 11);
     ++count;
   }
+  if (words == NULL || fault->reason == SF_FAULT_OWN || fault->reason == SF_FAULT_NOT_A_DATE)
+    parts[count++] = sf_cstr(fault->message);
+  if (fault->reason == SF_FAULT_NOT_A_DATE)
+    parts[count++] = sf_cstr("an HTTP-date, such as Sun, 06 Nov 1994 08:49:37 GMT");
   status = is_of_head && location->line.length == 0
                ? sf_write_parts(parts, count, 0, out)
                : sf_show_excerpt_below(parts, count, location->refusal.offset, location->line, most,
@@ -1820,6 +1961,18 @@ static inline sf_status sf_find_response_priority(sf_context *context, sf_head *
   status = sf_found(context, head, "Priority", status);
   if (status == SF_OK)
     *server = said;
+  return status;
+}
+
+static inline sf_status sf_find_merged_priority(sf_context *context, sf_head *request,
+                                               sf_head *response, sf_priority_flags *merged) {
+  sf_priority_flags client;
+  sf_response_priority_flags server;
+  sf_status status = sf_find_priority(context, request, &client);
+  if (status == SF_OK)
+    status = sf_find_response_priority(context, response, &server);
+  if (status == SF_OK)
+    *merged = sf_merge_priority(client, server);
   return status;
 }
 
@@ -2036,9 +2189,28 @@ static inline int sf_place_after(int place, unsigned byte) {
   return place == SF_PLACE_TOKEN ? SF_PLACE_TOKEN : SF_PLACE_NAME;
 }
 
+/* Returns in words what is expected after a place in a line of Cache-Control: for the function
+ * below. */
+static inline const char *sf_after_place(int place) {
+  switch (place) {
+  case SF_PLACE_BEFORE:
+    return "a directive";
+  case SF_PLACE_NAME:
+    return "a token character, `=`, `,` or the end";
+  case SF_PLACE_EQUALS:
+    return "a token or a quoted-string";
+  case SF_PLACE_TOKEN:
+    return "a token character, `,` or the end";
+  case SF_PLACE_AFTER:
+    return "`,` or the end";
+  default:
+    return "the rest of a quoted-string";
+  }
+}
+
 /* Returns where a line of Cache-Control is refused, which the library found to be no list of
- * directives. For the function below. */
-static inline sf_refusal sf_refusal_of_directives(sf_text value) {
+ * directives, and sets in words what is expected there. For the function below. */
+static inline sf_refusal sf_refusal_of_directives(sf_text value, const char **expected) {
   int place = SF_PLACE_BEFORE, next;
   size_t at;
   unsigned byte;
@@ -2057,6 +2229,7 @@ static inline sf_refusal sf_refusal_of_directives(sf_text value) {
   refusal.found = at < value.length ? (int32_t)(unsigned char)value.at[at] : (int32_t)SF_ENDED;
   refusal.may_end = at < value.length && place != SF_PLACE_EQUALS && place != SF_PLACE_QUOTED &&
                     place != SF_PLACE_ESCAPE;
+  *expected = sf_after_place(place);
   return refusal;
 }
 
@@ -2068,8 +2241,9 @@ static inline void sf_add_directives(sf_head *head, size_t index, sf_fallback *f
   sf_text value = head->lines.at[index].value;
   sf_add_fallback_line(fallback, SF_FALLBACK_CACHE_CONTROL, value);
   if (fallback->is_refused && !was_refused) {
-    sf_refusal refusal = sf_refusal_of_directives(value);
-    sf_note_value(head, "Cache-Control", SF_FAULT_REFUSED, index, &refusal);
+    const char *expected;
+    sf_refusal refusal = sf_refusal_of_directives(value, &expected);
+    sf_note_value(head, "Cache-Control", SF_FAULT_REFUSED, expected, index, &refusal);
     *refused_line = index;
   }
 }
@@ -2104,20 +2278,211 @@ static inline void sf_set_request(sf_exchange *exchange, sf_head *request) {
   exchange->is_request_no_store = fallback.rules.policy.no_store != 0;
 }
 
+/* Returns the length of the name that a text begins with, of those in a list with a space after
+ * each, or of their first so many letters; 0 if it is none. For the functions below. */
+static inline size_t sf_name_length(sf_text text, const char *names, size_t most) {
+  for (; *names != 0; names += strcspn(names, " ") + 1) {
+    size_t length = strcspn(names, " ");
+    length = length < most ? length : most;
+    if (text.length >= length && memcmp(text.at, names, length) == 0)
+      return length;
+  }
+  return 0;
+}
+
+/* Returns 2 if a text begins with two digits that are a number in this range, otherwise 0: for the
+ * functions below. */
+static inline size_t sf_pair_length(sf_text text, int from, int to) {
+  int number;
+  if (text.length < 2 || text.at[0] < '0' || text.at[0] > '9' || text.at[1] < '0' ||
+      text.at[1] > '9')
+    return 0;
+  number = (text.at[0] - '0') * 10 + (text.at[1] - '0');
+  return number >= from && number <= to ? 2 : 0;
+}
+
+/* Returns the length of a part of an HTTP-date (RFC 9110 section 5.6.7) that a text begins with; 0
+ * if it does not. For the function below. */
+static inline size_t sf_date_part_length(sf_text text, char part) {
+  const char *days = "Monday Tuesday Wednesday Thursday Friday Saturday Sunday ";
+  size_t at;
+  switch (part) {
+  case 'w':
+    return sf_name_length(text, days, 3);
+  case 'W':
+    return sf_name_length(text, days, 9);
+  case 'm':
+    return sf_name_length(text, "Jan Feb Mar Apr May Jun Jul Aug Sep Oct Nov Dec ", 3);
+  case 'd':
+    return sf_pair_length(text, 1, 31);
+  case 'D':
+    return text.length > 1 && text.at[0] == ' ' && text.at[1] > '0' && text.at[1] <= '9'
+               ? 2
+               : sf_pair_length(text, 10, 31);
+  case 'y':
+    return sf_pair_length(text, 0, 99);
+  case 'Y':
+    at = sf_pair_length(text, 0, 99);
+    return at > 0 && sf_pair_length(sf_text_of(text.at + at, text.length - at), 0, 99) > 0 ? 4 : 0;
+  case 't':
+    for (at = 0; at < 9; at += 3)
+      if (text.length < at + 2 || (at > 0 && text.at[at - 1] != ':') ||
+          sf_pair_length(sf_text_of(text.at + at, text.length - at), 0, at == 0 ? 23 : 59) == 0)
+        return 0;
+    return 8;
+  case 'z':
+    return text.length > 2 && memcmp(text.at, "GMT", 3) == 0 ? 3 : 0;
+  default:
+    return text.length > 0 && text.at[0] == part;
+  }
+}
+
+/* Returns the place at which a value that is no HTTP-date can't go on as one, in the format that it
+ * is most like, and sets in words which part of the date is expected there: for the function below.
+ */
+static inline size_t sf_place_in_date(sf_text value, const char **expected) {
+  const char *format = "w, d m Y t z";
+  size_t at = sf_date_part_length(value, 'W');
+  if (at > 0)
+    format = "W, d-m-y t z";
+  else if (value.length > 4 && value.at[3] == ' ' && (unsigned char)value.at[4] > '9')
+    format = "w m D t Y";
+  for (at = 0; *format != 0; ++format) {
+    size_t length = sf_date_part_length(sf_text_of(value.at + at, value.length - at), *format);
+    if (length == 0)
+      break;
+    at += length;
+  }
+  switch (*format) {
+  case 'w':
+    *expected = NULL;
+    return 0;
+  case 'd':
+  case 'D':
+    *expected = "the day in ";
+    return at;
+  case 'm':
+    *expected = "the month in ";
+    return at;
+  case 'y':
+  case 'Y':
+    *expected = "the year in ";
+    return at;
+  case 't':
+    *expected = "the time in ";
+    return at;
+  case 'z':
+    *expected = "GMT in ";
+    return at;
+  case ' ':
+    *expected = "a space in ";
+    return at;
+  case ',':
+    *expected = "a comma in ";
+    return at;
+  case '-':
+    *expected = "a hyphen in ";
+    return at;
+  default:
+    *expected = at < value.length ? "the end of " : "a day from 1970 on and its weekday in ";
+    return at < value.length ? at : 0;
+  }
+}
+
 /* Notes the first line of Expires or Date if it is no HTTP-date, and the second. For the function
  * below. */
 static inline void sf_note_dates(sf_head *head, const char *name) {
   sf_fallback fallback = sf_fallback_begin();
-  sf_refusal refusal;
   size_t i, count = 0;
-  memset(&refusal, 0, sizeof refusal);
   for (i = 0; i < head->lines.length && count < 2; ++i)
     if (sf_is_named(&head->lines.at[i], name)) {
-      sf_add_fallback_line(&fallback, SF_FALLBACK_DATE, head->lines.at[i].value);
+      sf_text value = head->lines.at[i].value;
+      const char *expected = NULL;
+      sf_refusal refusal;
+      memset(&refusal, 0, sizeof refusal);
+      sf_add_fallback_line(&fallback, SF_FALLBACK_DATE, value);
+      if (count == 0)
+        refusal.offset = sf_after_space(value, 0); /* it may have been changed */
+      if (count == 0 && fallback.date.lines > 1)
+        refusal.offset += sf_place_in_date(sf_trim(value.at, value.length), &expected);
       if (fallback.date.lines > 1)
-        sf_note_value(head, name, count == 0 ? SF_FAULT_NOT_A_DATE : SF_FAULT_REPEATED, i,
-                      &refusal);
+        sf_note_value(head, name, count == 0 ? SF_FAULT_NOT_A_DATE : SF_FAULT_REPEATED, expected,
+                      i, &refusal);
       ++count;
+    }
+}
+
+/* Returns whether a line of Cache-Control has a directive of this name whose argument is no number
+ * of seconds, or another one than before, and sets its place and the reason; otherwise sets the
+ * number, if there is one. For the function below. */
+static inline int sf_find_bad_seconds(sf_text line, const char *name, int64_t *before,
+                                      uint64_t *place, sf_reason *reason) {
+  const int64_t most = INT64_C(2147483648);
+  size_t at = 0;
+  while (at < line.length) {
+    sf_head_line directive;
+    size_t begin = at;
+    int64_t number = -1;
+    int is_valid = 1, is_quoted = 0;
+    while (at < line.length && sf_is_tchar(line.at[at]))
+      ++at;
+    directive.name = sf_text_of(line.at + begin, at - begin);
+    if (at < line.length && line.at[at] == '=')
+      is_quoted = ++at < line.length && line.at[at] == '"';
+    begin = at;
+    at += (size_t)is_quoted;
+    while (at < line.length && (is_quoted ? line.at[at] != '"' : sf_is_tchar(line.at[at]))) {
+      int digit;
+      at += is_quoted && line.at[at] == '\\' && at + 1 < line.length;
+      digit = line.at[at++] - '0';
+      is_valid = is_valid && digit >= 0 && digit <= 9;
+      number = is_valid ? (number < 0 ? 0 : number) * 10 + digit : number;
+      number = number < most ? number : most;
+    }
+    if (sf_is_named(&directive, name)) {
+      int is_other = is_valid && number >= 0;
+      if (!is_other || (*before >= 0 && *before != number)) {
+        *place = begin;
+        *reason = is_other ? SF_FAULT_OTHER_SECONDS : SF_FAULT_NOT_SECONDS;
+        return 1;
+      }
+      *before = number;
+    }
+    for (at += is_quoted && at < line.length; at < line.length && !sf_is_tchar(line.at[at]);)
+      ++at;
+  }
+  return 0;
+}
+
+/* Notes a max-age, or in a shared cache an s-maxage, that counts and is no number of seconds: of a
+ * target, or of Cache-Control if the target is NULL. For the function below. */
+static inline void sf_note_seconds(sf_head *head, const char *target, const sf_rules *rules,
+                                   const sf_decision *decision, uint32_t cache) {
+  int by_s_maxage =
+      cache == SF_SHARED_CACHE && (rules->policy.has_s_maxage || rules->invalid_s_maxage);
+  const char *name = by_s_maxage ? "s-maxage" : "max-age";
+  size_t begin = head->joined.length, i;
+  sf_reason reason = SF_FAULT_NOT_SECONDS;
+  sf_location location;
+  sf_refusal refusal;
+  sf_text text;
+  int64_t before = -1;
+  if (!(by_s_maxage ? rules->invalid_s_maxage : rules->invalid_max_age) ||
+      decision->reuse == SF_REUSE_NOT_STORED || decision->cause == SF_BY_NO_CACHE)
+    return;
+  memset(&refusal, 0, sizeof refusal);
+  if (target != NULL && sf_find_field(head, target, &text) == SF_OK) {
+    refusal.offset = sf_place_of(text, 1, sf_cstr(name), 0, 0, sf_cstr(NULL)) + strlen(name);
+    refusal.offset += refusal.offset < text.length && text.at[refusal.offset] == '=';
+    head->joined.length = begin;
+    location = sf_locate_offset(head, target, refusal.offset);
+    sf_note_fault(head, target, reason, NULL, &location);
+  }
+  for (i = 0; i < head->lines.length && target == NULL; ++i)
+    if (sf_is_named(&head->lines.at[i], "Cache-Control") &&
+        sf_find_bad_seconds(head->lines.at[i].value, name, &before, &refusal.offset, &reason)) {
+      sf_note_value(head, "Cache-Control", reason, NULL, i, &refusal);
+      return;
     }
 }
 
@@ -2144,7 +2509,7 @@ static inline uint64_t sf_age_of(sf_head *head, uint32_t *is_malformed) {
     sf_refusal refusal;
     memset(&refusal, 0, sizeof refusal);
     refusal.offset = sf_place_in_age(head->lines.at[i].value);
-    sf_note_value(head, "Age", SF_FAULT_NOT_AN_AGE, i, &refusal);
+    sf_note_value(head, "Age", SF_FAULT_NOT_AN_AGE, NULL, i, &refusal);
   }
   return age;
 }
@@ -2198,6 +2563,8 @@ static inline sf_status sf_decide_response(sf_context *context, sf_head *head, s
     sf_note_dates(head, "Expires");
     sf_note_dates(head, "Date");
   }
+  sf_note_seconds(head, choice.index < targets_length ? targets[choice.index].name : NULL,
+                  &choice.rules, &decision, exchange->cache);
   verdict->obstacle = sf_obstacle_of(&decision, exchange, head, fallback.is_refused != 0,
                                      response.has_lifetime);
   verdict->may_store = verdict->obstacle == SF_NO_OBSTACLE;
@@ -2236,7 +2603,9 @@ static inline sf_status sf_write_verdict(const sf_verdict *verdict, sf_buffer *o
     sf_put_words(out, verdict->field);
     sf_put_words(out, ": ");
   }
-  sf_put_words(out, sf_reuse_name(verdict->decision.reuse));
+  sf_put_words(out, verdict->decision.reuse == SF_REUSE_UNSPECIFIED
+                        ? "no lifetime set"
+                        : sf_reuse_name(verdict->decision.reuse));
   if (verdict->decision.reuse == SF_REUSE_FRESH) {
     end = sf_put_number(seconds, " for ", verdict->decision.seconds);
     memcpy(end, " s", 3);
@@ -2247,8 +2616,9 @@ static inline sf_status sf_write_verdict(const sf_verdict *verdict, sf_buffer *o
     sf_put_words(out, cause);
     sf_put_words(out, ")");
   }
-  if (verdict->obstacle != SF_NO_OBSTACLE && verdict->obstacle != SF_BARRED_DIRECTIVE &&
-      verdict->obstacle != SF_BARRED_MALFORMED) {
+  if (verdict->obstacle == SF_NO_OBSTACLE) {
+    sf_put_words(out, "; may be stored");
+  } else if (verdict->obstacle != SF_BARRED_DIRECTIVE && verdict->obstacle != SF_BARRED_MALFORMED) {
     sf_put_words(out, "; not stored: ");
     sf_put_words(out, sf_obstacle_name(verdict->obstacle));
   }

@@ -1,45 +1,35 @@
 /* What a caching proxy concludes from the heads of a request and its response, which are in two
- * files as they were received.
- *
- *   heads request.txt response.txt
- *
- * prints the priority of the response, the caches on its path, what this cache does with it, what
- * each signature of the request covers, and the Cache-Status to send on. Standard error shows what
- * is malformed in the two heads, each with the name of the file, the line and the place. Ends with
- * status 0, or 2 for other words, and 3 if memory, a file or an output fails. */
+ * files as they were received: `heads request.txt response.txt`. Standard error shows what is
+ * malformed in them. Status 2 is for other words, 3 if memory, a file or an output fails. */
 #include <sf.h>
 #include <stdio.h>
 #include <stdlib.h>
 #include <time.h>
 
 enum { MOST = 65536 }; /* bytes of a file, and so of a field */
-
 static char bytes[SF_BYTES_SIZE(MOST)], written[SF_APPENDED_SIZE(MOST, 16)];
 static sf_buffer out = {written, sizeof written, 0, 0}; /* for each call that writes a text */
 
-static void give_up(const char *what, const char *why) {
-  fprintf(stderr, "heads: %s: %s\n", what, why);
-  exit(3);
-}
-
 /* Ends the program if a call failed. */
 static void must(sf_status status) {
-  if (status != SF_OK)
-    give_up("a call failed", sf_status_name(status));
+  if (status != SF_OK) {
+    fprintf(stderr, "heads: a call failed: %s\n", sf_status_name(status));
+    exit(3);
+  }
 }
 
-/* Reads the head of a message from a file, by sf_take_request or sf_take_response. The head keeps
- * the text, and its lines are where its memory begins. */
+/* Reads a head from a file, by sf_take_request or sf_take_response. It points into the text. */
 static sf_head read_head(const char *name, char *text, sf_status (*take)(sf_head *, sf_text *)) {
   FILE *file = fopen(name, "rb");
   sf_text received = sf_text_of(text, file == NULL ? 0 : fread(text, 1, MOST + 1, file));
-  if (file == NULL || ferror(file) || received.length > MOST)
-    give_up(name, "it can't be read, or is too long");
+  if (file == NULL || ferror(file) || received.length > MOST) {
+    fprintf(stderr, "heads: %s: it can't be read, or is too long\n", name);
+    exit(3);
+  }
   fclose(file);
   size_t size = sf_head_memory_size(received);
   sf_head head = sf_head_in_memory(malloc(size), size, received);
-  if (take(&head, &received) == SF_SHORT || head.lines.at == NULL)
-    give_up(name, "out of memory");
+  must(head.lines.at == NULL || take(&head, &received) == SF_SHORT ? SF_NO_MEMORY : SF_OK);
   return head; /* what is malformed is one of its faults, also if it does not end */
 }
 
@@ -62,25 +52,19 @@ static void print_signatures(sf_context *context, sf_head *request) {
   sf_tree tree = sf_tree_in(SF_NODES(nodes), SF_BUFFER(bytes));
   must(sf_find_tree(context, SF_DICT, request, "Signature-Input", &tree));
   for (const sf_node *label = nodes; label < sf_tree_end(&tree); label += label->size) {
-    sf_text name = sf_node_key(&tree, label);
     if (label->type != SF_INNER_LIST) {
-      printf("%.*s is no signature\n", SF_ARGS(name));
+      sf_add_fault(request, "Signature-Input", sf_node_offset(&tree, label), "not an Inner List");
       continue;
     }
-    printf("%.*s covers", SF_ARGS(name));
+    printf("%.*s covers", SF_ARGS(sf_node_key(&tree, label)));
     for (const sf_node *item = NULL; (item = sf_next_item(label, item)) != NULL;) {
       must(sf_write_part(context, &tree, item, &out));
       printf(" %.*s", SF_ARGS(out));
     }
-    const sf_node *created = sf_find_parameter_of(&tree, label, "created", SF_INTEGER);
-    const sf_node *keyid = sf_find_parameter_of(&tree, label, "keyid", SF_STRING);
-    const sf_node *alg = sf_find_parameter_of(&tree, label, "alg", SF_STRING);
-    if (created != NULL)
-      printf(", created %lld", (long long)created->number);
-    if (keyid != NULL)
-      printf(", keyid %.*s", SF_ARGS(sf_node_text(&tree, keyid)));
-    if (alg != NULL)
-      printf(", alg %.*s", SF_ARGS(sf_node_text(&tree, alg)));
+    for (const sf_node *param = NULL; (param = sf_next_parameter(label, param)) != NULL;) {
+      must(sf_write_bare(context, &tree, param, &out));
+      printf(", %.*s %.*s", SF_ARGS(sf_node_key(&tree, param)), SF_ARGS(out));
+    }
     printf("\n");
   }
 }
@@ -101,17 +85,13 @@ int main(int count, char **words) {
     return 2;
   }
   if (!sf_random_seed(&seed))
-    give_up("no seed", "getrandom failed");
+    return 3;
   sf_context context = sf_context_of(seed, SF_RFC8941); /* that the RFCs of these fields cite */
   sf_head request = read_head(words[1], texts[0], sf_take_request);
   sf_head response = read_head(words[2], texts[1], sf_take_response);
 
-  /* What the client asks for, with what the server sets (RFC 9218 section 8). */
-  sf_priority_flags client;
-  sf_response_priority_flags server;
-  must(sf_find_priority(&context, &request, &client));
-  must(sf_find_response_priority(&context, &response, &server));
-  sf_priority_flags merged = sf_merge_priority(client, server);
+  sf_priority_flags merged; /* what the client asks for, and the server sets (RFC 9218 section 8) */
+  must(sf_find_merged_priority(&context, &request, &response, &merged));
   printf("urgency %d%s\n", merged.urgency, merged.incremental ? ", incremental" : "");
   print_path(&context, &response);
 
@@ -134,7 +114,7 @@ int main(int count, char **words) {
 
   print_faults(words[1], &request.faults);
   print_faults(words[2], &response.faults);
-  free(request.lines.at);
+  free(request.lines.at); /* where its memory begins */
   free(response.lines.at);
   return fflush(stdout) != 0 || ferror(stdout) || ferror(stderr) ? 3 : 0;
 }

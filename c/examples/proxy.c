@@ -1,11 +1,11 @@
 /* A caching proxy's decisions on a request that it forwards, and on the response, by their fields
  * on standard input: a line "> Name: value" is of the request, and "< Name: value" of the response.
  *   printf '> Priority: u=5, i\n< Priority: u=1\n< CDN-Cache-Control: max-age=600\n' | proxy
- * prints the priority, "CDN-Cache-Control: fresh for 600 s (max-age)", and the line to send on in the
- * place of those of Cache-Status. With the word private it is a private cache; with understood
- * it understands the status code. What is malformed is told on standard error, with the number of
- * its line. Left out: method, status code, Authorization, Vary (RFC 9111 sections 3 and 4). Status 3
- * if memory, the input or the output fails, or the input is too long. */
+ * prints the priority, "CDN-Cache-Control: fresh for 600 s (max-age); may be stored", and the line
+ * to send on in the place of those of Cache-Status. With the word private it is a private cache;
+ * with understood it understands the status code. What is malformed is told on standard error, with
+ * the number of its line. Left out: method, status code, Authorization, Vary (RFC 9111 sections 3
+ * and 4). Status 3 if memory, the input or the output fails, or the input is too long. */
 #include <sf.h>
 #include <stdio.h>
 #include <stdlib.h>
@@ -59,11 +59,8 @@ int main(int count, char **words) {
   if (!sf_random_seed(&seed))
     give_up("no random bytes");
   sf_context context = sf_context_of(seed, SF_RFC8941); /* that the RFCs of these fields cite */
-  sf_priority_flags client;
-  sf_response_priority_flags server;
-  must(sf_find_priority(&context, &asked, &client));
-  must(sf_find_response_priority(&context, &answered, &server));
-  sf_priority_flags both = sf_merge_priority(client, server);
+  sf_priority_flags both;
+  must(sf_find_merged_priority(&context, &asked, &answered, &both));
   printf("urgency %d%s\n", both.urgency, both.incremental ? ", incremental" : "");
 
   /* What the cache does, by its own field, that of all CDNs, or Cache-Control and Expires. */

@@ -2865,13 +2865,19 @@ static void excerpts(void) {
     size_t most;
     const char *shown;
   } rows[] = {
-      {"1 2", 2, 80, "\n1 2\n  ^"}, {"1 2", 2, 3, "\n1 2\n  ^"},  {"1 2", 2, 2, "\n 2\n ^"},
-      {"1 2", 2, 1, "\n2\n^"},      {"1 2", 2, 0, "\n\n^"},       {"", 0, 8, "\n\n^"},
-      {"abcdefghij", 0, 4, "\nabcd\n^"},
-      {"abcdefghij", 5, 4, "\ndefg\n  ^"},
-      {"abcdefghij", 9, 4, "\nghij\n   ^"},
-      {"abcdefghij", 10, 4, "\nghij\n    ^"},
-      {"abcdefghij", 99, 4, "\nghij\n    ^"},
+      {"1 2", 2, 80, "\n1 2\n  ^"}, {"1 2", 2, 3, "\n1 2\n  ^"}, {"", 0, 8, "\n\n^"},
+      {"", 0, 0, "\n\n^"},
+      /* `...` where it is cut off */
+      {"1 2", 2, 2, "\n... 2\n    ^"}, {"1 2", 2, 1, "\n...2\n   ^"},
+      {"1 2", 2, 0, "\n......\n   ^"}, {"1 2", 0, 0, "\n...\n^"},
+      {"1 2", 3, 0, "\n...\n   ^"},
+      {"abcdefghij", 0, 4, "\nabcd...\n^"},
+      {"abcdefghij", 5, 4, "\n...defg...\n     ^"},
+      {"abcdefghij", 5, 9, "\n...bcdefghij\n       ^"},
+      {"abcdefghij", 4, 9, "\nabcdefghi...\n    ^"},
+      {"abcdefghij", 9, 4, "\n...ghij\n      ^"},
+      {"abcdefghij", 10, 4, "\n...ghij\n       ^"},
+      {"abcdefghij", 99, 4, "\n...ghij\n       ^"},
       {"a\tb\xff", 1, 8, "\na?b?\n ^"},
   };
   uint32_t status;
@@ -2897,7 +2903,7 @@ static void excerpts(void) {
   sf_refusal refusal = {1 << 19, 1, 0, 'x', 0};
   CALL(show_excerpt(&refusal, text, length, 16, buffer, sizeof buffer, &required));
   CHECK(status == SF_OK && required <= sizeof buffer && peak <= SF_MEMORY_SIZE(0));
-  CHECK(memcmp(buffer + required - 27, "\nxxxxxxxxxxxxxxxx\n        ^", 27) == 0);
+  CHECK(memcmp(buffer + required - 36, "\n...xxxxxxxxxxxxxxxx...\n           ^", 36) == 0);
   free(text);
 }
 

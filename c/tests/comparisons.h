@@ -9,6 +9,8 @@
  * - The field that is chosen among parts of a text is the first that has a policy.
  * - What is decided by the parts of a text, as lines of fields in a head, is what the calls for each
  *   field decide; and a refusal is in the line that it is said to be in.
+ * - Where a node of an accepted text is said to begin, its key begins there, otherwise an Item or
+ *   Inner List of its type; and later nodes begin later, unless a key is repeated.
  * - For a buffer that is one element too small, the required size is returned.
  * - The parts of a text between its commas, joined one by one, are the text again.
  * - A text is accepted if and only if its parts are, if it is cut at some of its commas; it is then
@@ -455,6 +457,36 @@ static void rebuilt(uint32_t dialect, uint32_t kind, value *v, const uint8_t *ca
   drop(u);
 }
 
+/* Each node of a value begins where it is said to. */
+static void node_offsets(uint32_t kind, value *v) {
+  sf_tree tree = sf_tree_in(sf_nodes_of(v->nodes, v->sizes.nodes), sf_buffer_of(v->bytes, v->sizes.bytes));
+  size_t before = 0;
+  tree.text = sf_text_of(v->text, v->text_length);
+  tree.nodes.length = v->sizes.nodes;
+  tree.bytes.length = v->sizes.bytes;
+  tree.kind = kind;
+  for (size_t i = 0; i < v->sizes.nodes && v->text_length <= 2000; ++i) {
+    const sf_node *node = &v->nodes[i];
+    size_t at = sf_node_offset(&tree, node);
+    int is_in_text = node->key_length == 0 || node->key_at < v->text_length;
+    const char *begins = node->type == SF_INNER_LIST       ? "("
+                         : node->type == SF_STRING         ? "\""
+                         : node->type == SF_BYTE_SEQUENCE  ? ":"
+                         : node->type == SF_BOOLEAN        ? "?"
+                         : node->type == SF_DATE           ? "@"
+                         : node->type == SF_DISPLAY_STRING ? "%"
+                         : node->type == SF_TOKEN          ? ""
+                                                           : "-0123456789";
+    CHECK(at + node->key_length <= v->text_length && at < v->text_length);
+    CHECK(same_bytes(v->text, at, (const uint8_t *)key_of(v, node), 0, node->key_length));
+    if (node->key_length == 0)
+      CHECK(*begins == 0 ? same_bytes(v->text, at, (const uint8_t *)bytes_of(v, node), 0, node->text_length)
+                         : strchr(begins, v->text[at]) != NULL);
+    CHECK(i == 0 || at > before || !is_in_text || v->sizes.bytes > 0);
+    before = at;
+  }
+}
+
 /* An accepted text; of which more is known if k is not NULL. */
 static void accepted(uint32_t dialect, uint32_t kind, const uint8_t *text, size_t length,
                      const known *k) {
@@ -479,8 +511,10 @@ static void accepted(uint32_t dialect, uint32_t kind, const uint8_t *text, size_
     same_nodes(&v, &k->tree);
     written(dialect, kind, &k->tree, canonical, required);
   }
-  if (is_thorough)
+  if (is_thorough) {
+    node_offsets(kind, &v);
     rebuilt(dialect, kind, &v, canonical, required);
+  }
   drop(v);
   drop(w);
   give_buffer(twice);
@@ -793,7 +827,7 @@ static void consumers(const uint8_t *text, size_t length, int is_dict) {
 
 /* What a decision finds to be malformed in a head of these two fields, by turns: the place in the line
  * as it was received, and that the byte there is not one of those that are allowed. */
-static void faults_of(uint32_t dialect, sf_head *head) {
+static void faults_of(uint32_t dialect, sf_head *head, const sf_rules *rules) {
   sf_context context = sf_context_of(seed, (sf_dialect)dialect);
   sf_target target = sf_target_of("t");
   sf_exchange exchange = sf_exchange_of(SF_SHARED_CACHE, 0);
@@ -802,7 +836,11 @@ static void faults_of(uint32_t dialect, sf_head *head) {
   head->faults = SF_FAULTS(faults);
   CHECK(sf_decide_response(&context, head, &target, 1, &exchange, &verdict) == SF_OK);
   CHECK(head->faults.length == head->faults.required);
-  CHECK(head->faults.length == (target.status == SF_REFUSED) + verdict.is_refused);
+  int by_s_maxage = rules->policy.has_s_maxage || rules->invalid_s_maxage;
+  size_t in_seconds = (by_s_maxage ? rules->invalid_s_maxage : rules->invalid_max_age) &&
+                      verdict.decision.reuse != SF_REUSE_NOT_STORED &&
+                      verdict.decision.cause != SF_BY_NO_CACHE;
+  CHECK(head->faults.length == (target.status == SF_REFUSED) + verdict.is_refused + in_seconds);
   for (size_t i = 0; i < head->faults.length; ++i) {
     const sf_location *location = &faults[i].location;
     const sf_head_line *line = &head->lines.at[location->index];
@@ -812,11 +850,16 @@ static void faults_of(uint32_t dialect, sf_head *head) {
     uint64_t expected = found < 64 ? location->refusal.expected_low : location->refusal.expected_high;
     char message[SF_FAULT_SIZE(13, 20)];
     sf_buffer out = SF_BUFFER(message);
-    CHECK(faults[i].reason == SF_FAULT_REFUSED && location->line.at == line->received.at);
+    CHECK(sf_show_fault(&faults[i], 20, &out) == SF_OK && out.at[out.length - 1] == '^');
+    CHECK(location->line.at == line->received.at);
+    if (faults[i].reason >= SF_FAULT_NOT_SECONDS) {
+      CHECK(at >= (size_t)(line->value.at - line->received.at) + 7 && at <= end);
+      continue;
+    }
+    CHECK(faults[i].reason == SF_FAULT_REFUSED);
     CHECK(location->index % 2 == (size_t)(strcmp(faults[i].field, "t") != 0) && at <= end);
     CHECK(found == (at < end ? (int32_t)(uint8_t)location->line.at[at] : -1));
     CHECK(found < 0 || found > 127 || !(expected >> found % 64 & 1));
-    CHECK(sf_show_fault(&faults[i], 20, &out) == SF_OK && out.at[out.length - 1] == '^');
   }
 }
 
@@ -826,12 +869,12 @@ static void head_in_memory(const uint8_t *text, size_t length) {
   sf_text rest = sf_text_of(text, length);
   size_t size = sf_head_memory_size(rest), joined = 0;
   void *memory = malloc(size);
-  CHECK(memory != NULL && size <= 70 * length + 230);
+  CHECK(memory != NULL && size <= 74 * length + 1024);
   sf_head head = sf_head_in_memory(memory, size, rest);
   CHECK(sf_take_response(&head, &rest) != SF_SHORT && head.faults.length == head.faults.required);
   for (size_t i = 0; i < head.lines.length; ++i)
     joined += head.lines.at[i].value.length + 2;
-  CHECK(2 * joined <= head.joined.capacity && head.lines.length + 2 <= head.faults.capacity);
+  CHECK(2 * joined <= head.joined.capacity && head.lines.length + 10 <= head.faults.capacity);
   CHECK(head.status != 0 || head.is_incomplete == 1);
   for (size_t i = 0; i < head.faults.length; ++i) {
     char message[SF_FAULT_IN_SIZE(1, 0, 20)];
@@ -912,7 +955,7 @@ static void heads(uint32_t dialect, const uint8_t *text, size_t length) {
     else
       CHECK(location.refusal.found == -1 && location.refusal.may_end == 0);
   }
-  faults_of(dialect, &head);
+  faults_of(dialect, &head, &choice.rules);
   head_in_memory(text, length);
   give_buffer(buffer);
   free(lines);

@@ -979,7 +979,7 @@ static void whole_heads(void) {
       {"GET / HTTP/1.1\nCache-Control:\nPragma: no-store\nExpires: x\nDate: x\n\n", 0, NULL},
       {"GET / HTTP/1.1\nCDN-Cache-Control: no-store\n\n", 0, NULL},
       {"GET / HTTP/1.1\nCache-Control: a\nCache-Control: b c\nCache-Control: d e\n\n", NO_STORE,
-       "line 3, place 17: Cache-Control: byte 0x63 'c', expected `,`, a tab, a space or the end\n"
+       "line 3, place 17: Cache-Control: byte 0x63 'c', expected `,` or the end\n"
        "Cache-Control: b c\n                 ^"},
   };
   for (size_t i = 0; i < sizeof requests / sizeof *requests; ++i) {
@@ -1193,8 +1193,8 @@ static void messages_of_faults(void) {
   "`-`, `:` or `?`\n"
 #define NO_LINE "line 14, place 2: not a field line: no colon after the name\nb ??\n  ^"
   CHECK(says_in("a", &faults[0], 40, "a, " REFUSED "Priority: u=,\n            ^"));
-  CHECK(says_in("b/c d.txt", &faults[0], 0, "b/c d.txt, " REFUSED "\n^"));
-  CHECK(says_in("b/c d.txt", &faults[0], 1, "b/c d.txt, " REFUSED ",\n^"));
+  CHECK(says_in("b/c d.txt", &faults[0], 0, "b/c d.txt, " REFUSED "......\n   ^"));
+  CHECK(says_in("b/c d.txt", &faults[0], 1, "b/c d.txt, " REFUSED "...,\n   ^"));
   CHECK(says_in("~", &faults[1], 40, "~, " NO_LINE));
   CHECK(says_in("\xc3\xa9 \x7f\n\x1f", &faults[1], 40, "?? ???, " NO_LINE));
   CHECK(says_in(NULL, &faults[1], 40, NO_LINE) && says_in("", &faults[1], 40, NO_LINE));
@@ -1205,11 +1205,12 @@ static void messages_of_faults(void) {
   fault.field = " at place 7";
   CHECK(says_in("x at place 3", &fault, 1,
                 "x at place 3, line 13, place 12:  at place 7: byte 0x2c ',', expected a letter, a "
-                "digit, a quote, `(`, `*`, `-`, `:` or `?`\n,\n^"));
+                "digit, a quote, `(`, `*`, `-`, `:` or `?`\n...,\n   ^"));
 
   /* numbers that no fault has */
   memset(&fault, 0xff, sizeof fault);
   fault.field = NULL;
+  fault.message = NULL;
   fault.location.line = sf_text_of(NULL, 0);
 #define NUMBER "18446744073709551615"
   CHECK(says_in("file", &fault, 40,
@@ -1221,7 +1222,7 @@ static void messages_of_faults(void) {
   fault.reason = SF_FAULT_NOT_A_LINE;
   CHECK(says_in("f", &fault, 2,
                 "f, line " NUMBER ", place " NUMBER ": not a field line: a CR, LF or NUL in the "
-                "value\nb?\n  ^"));
+                "value\n...b?\n     ^"));
   sf_buffer out = sf_buffer_of(NULL, 0);
   CHECK(sf_show_fault_in("f", &fault, 2, &out) == SF_SHORT && out.length == 0);
   fault.reason = SF_FAULT_NOT_A_START;
@@ -1234,7 +1235,7 @@ static void messages_of_faults(void) {
                   : k == 1 ? "f, line " NUMBER ", place 0: neither a start line (no method, target and "
                              "version) nor a field line (no name)\na:\n^"
                            : "f, line " NUMBER ", place 0: neither a start line (no status code of three "
-                             "digits) nor a field line (no colon after the name)\nHT\n^"));
+                             "digits) nor a field line (no colon after the name)\nHT...\n^"));
   }
   /* that of a missing end, and of a missing start line of a head without a line, is one line */
   static const struct {
@@ -1256,7 +1257,7 @@ static void messages_of_faults(void) {
     snprintf(expected, sizeof expected, "a?, line 7, place 0: %s", whole[i].words);
     CHECK(says_in("a\n", &fault, 40, expected));
     fault.location.line = sf_cstr("b\tcd");
-    snprintf(expected, sizeof expected, "line 7, place 0: %s\nb?c\n^", whole[i].words);
+    snprintf(expected, sizeof expected, "line 7, place 0: %s\nb?c...\n^", whole[i].words);
     CHECK(says(&fault, 3, expected));
   }
 
@@ -1264,7 +1265,10 @@ static void messages_of_faults(void) {
   char names[2][301], longest[SF_FAULT_IN_SIZE(300, 300, 10)];
   memset(names, 'n', sizeof names);
   names[0][300] = names[1][300] = 0;
-  for (uint32_t reason = 90; reason < 105; ++reason)
+  char words[901];
+  memset(words, 'w', sizeof words);
+  words[900] = 0;
+  for (uint32_t reason = 90; reason < 109; ++reason)
     for (int found = -1; found < 256; ++found) {
       memset(&fault, 0xff, sizeof fault);
       fault.field = names[0];
@@ -1273,6 +1277,7 @@ static void messages_of_faults(void) {
       fault.location.refusal.found = found;
       fault.location.refusal.expected_low = UINT64_C(0xaaaaaaaaaaaaaaaa);
       fault.location.refusal.expected_high = UINT64_C(0xaaaaaaaaaaaaaaaa);
+      fault.message = reason == SF_FAULT_OWN ? words : reason % 2 == 0 ? NULL : "the part in ";
       out = sf_buffer_of(longest, sizeof longest);
       CHECK(sf_show_fault_in(names[1], &fault, 10, &out) == SF_OK);
       out.capacity = SF_FAULT_SIZE(300, 10);
@@ -1430,14 +1435,14 @@ static void heads_in_memory(void) {
   for (size_t i = 0; i < sizeof rows / sizeof *rows; ++i) {
     sf_text received = sf_text_of(rows[i].head, rows[i].length), rest = received;
     size_t size = sf_head_memory_size(received);
-    CHECK(size == rows[i].lines * (sizeof(sf_head_line) + sizeof(sf_fault)) + 2 * sizeof(sf_fault) +
+    CHECK(size == rows[i].lines * (sizeof(sf_head_line) + sizeof(sf_fault)) + 10 * sizeof(sf_fault) +
                       2 * rows[i].taken);
-    CHECK(size <= 70 * rows[i].taken + 230);
+    CHECK(size <= 74 * rows[i].taken + 1024);
     char *memory = (char *)malloc(size);
     CHECK(memory != NULL);
     sf_head head = sf_head_in_memory(memory, size, received);
     CHECK((char *)head.lines.at == memory && head.lines.length == 0 && head.number == 1);
-    CHECK(head.lines.capacity == rows[i].lines && head.faults.capacity == rows[i].lines + 2);
+    CHECK(head.lines.capacity == rows[i].lines && head.faults.capacity == rows[i].lines + 10);
     CHECK(head.joined.capacity == 2 * rows[i].taken && head.joined.length == 0);
     CHECK((size_t)(head.joined.at - memory) + head.joined.capacity == size);
     CHECK(sf_take_head(&head, &rest) != SF_SHORT);
@@ -1468,7 +1473,7 @@ static void heads_in_memory(void) {
     CHECK(head.lines.capacity == rows[i].lines && head.joined.capacity == 2 * rows[i].taken);
     free(memory);
   }
-  CHECK(sf_head_memory_size(sf_text_of(NULL, SIZE_MAX)) == 2 * sizeof(sf_fault));
+  CHECK(sf_head_memory_size(sf_text_of(NULL, SIZE_MAX)) == 10 * sizeof(sf_fault));
   CHECK(sf_head_memory_of(SIZE_MAX, 0) == SIZE_MAX && sf_head_memory_of(0, SIZE_MAX) == SIZE_MAX);
   CHECK(sf_head_memory_of(SIZE_MAX, SIZE_MAX) == SIZE_MAX);
   CHECK(sf_head_memory_of(SIZE_MAX / sizeof(sf_fault), SIZE_MAX / 2) == SIZE_MAX);
@@ -1624,21 +1629,21 @@ static void verdicts_in_words(void) {
   static const struct {
     const char *head, *words, *hop;
   } rows[] = {
-      {"HTTP/1.1 200\nCache-Control: max-age=60\n\n", "Cache-Control: fresh for 60 s (max-age)",
+      {"HTTP/1.1 200\nCache-Control: max-age=60\n\n", "Cache-Control: fresh for 60 s (max-age); may be stored",
        "a;fwd=miss;ttl=60;stored"},
       {"HTTP/1.1 200\nT: no-store\n\n", "T: not stored (no-store)", "a;fwd=miss;stored=?0"},
-      {"HTTP/1.1 200\nT: no-cache\n\n", "T: revalidate (no-cache)", "a;fwd=miss;stored"},
-      {"HTTP/1.1 500\n\n", "unspecified; not stored: nothing permits it", "a;fwd=miss;stored=?0"},
-      {"HTTP/1.1 200\n\n", "unspecified", "a;fwd=miss;stored"},
-      {"HTTP/1.1 200\ncache-control: public\n\n", "Cache-Control: unspecified", "a;fwd=miss;stored"},
+      {"HTTP/1.1 200\nT: no-cache\n\n", "T: revalidate (no-cache); may be stored", "a;fwd=miss;stored"},
+      {"HTTP/1.1 500\n\n", "no lifetime set; not stored: nothing permits it", "a;fwd=miss;stored=?0"},
+      {"HTTP/1.1 200\n\n", "no lifetime set; may be stored", "a;fwd=miss;stored"},
+      {"HTTP/1.1 200\ncache-control: public\n\n", "Cache-Control: no lifetime set; may be stored", "a;fwd=miss;stored"},
       {"HTTP/1.1 200\nCache-Control: a b\n\n", "Cache-Control: not stored (malformed)",
        "a;fwd=miss;stored=?0"},
       {"HTTP/1.1 206\nExpires: 0\n\n", "Expires: stale; not stored: the status code forbids it",
        "a;fwd=miss;ttl=0;stored=?0"},
-      {"HTTP/1.1 200\nExpires: Sun, 06 Nov 1994 08:50:37 GMT\n\n", "Expires: fresh for 60 s",
+      {"HTTP/1.1 200\nExpires: Sun, 06 Nov 1994 08:50:37 GMT\n\n", "Expires: fresh for 60 s; may be stored",
        "a;fwd=miss;ttl=60;stored"},
       {"HTTP/1.1 200\nExpires: 0\nCache-Control: must-revalidate\n\n",
-       "Cache-Control: revalidate (must-revalidate)", "a;fwd=miss;ttl=0;stored"},
+       "Cache-Control: revalidate (must-revalidate); may be stored", "a;fwd=miss;ttl=0;stored"},
       {"HTTP/1.1 200\nT: max-age=99999999999\n", "T: fresh for 2147483648 s (max-age); not stored: the "
        "head is incomplete", "a;fwd=miss;ttl=2147483648;stored=?0"},
   };
@@ -1812,7 +1817,7 @@ static void fields_of_a_head(void) {
   sf_tree tree = sf_tree_in(SF_NODES(nodes), SF_BUFFER(text));
   CHECK(sf_find_tree(&context, SF_DICT, &head, "Example", &tree) == SF_OK && tree.nodes.length == 0);
   CHECK(says(&faults[1], 6, "line 10, place 16: Example: byte 0x32 '2', expected `0` or `1`\n"
-                            "1;b=?2\n     ^"));
+                            "...1;b=?2\n        ^"));
   CHECK(sf_check_field(&context, SF_DICT, &head, "Example") == SF_REFUSED);
   CHECK(head.faults.length == 3 && context.refusal.offset == 7);
   CHECK(sf_check_field(&context, SF_ITEM, &head, "name") == SF_OK && head.faults.length == 3);
@@ -1915,6 +1920,310 @@ static void fields_of_a_head(void) {
   CHECK(sf_add_hop(&context, &head, &own, &out) == SF_SHORT && out.required == 0);
 }
 
+/* Where nodes begin in the text, and the faults that a program finds at them. */
+static void faults_of_programs(void) {
+  enum { MOST = 12 };
+  static const struct {
+    sf_kind kind;
+    const char *text;
+    size_t length;
+    size_t offsets[MOST]; /* of the nodes, in order */
+  } rows[] = {
+      {SF_ITEM, "  7;a;b=1", 3, {2, 4, 6}},
+      {SF_LIST, "a;x,(b  \"),;\\\"(\";y;z=\":\" 1.5);w ,\t:YQ==:, ?0;  k", 12,
+       {0, 2, 4, 5, 8, 17, 19, 25, 30, 34, 42, 47}},
+      {SF_LIST, "%\"\\%22,\", (%\"(\" @7);a, -1", 6, {0, 10, 11, 16, 20, 23}},
+      {SF_DICT, "a=1, b;x;y=2,c=(d e;f);g", 9, {0, 5, 7, 9, 13, 16, 18, 20, 23}},
+      {SF_DICT, "b1=(a;q=*:/),b", 4, {0, 4, 6, 13}},
+      /* the last of a key that is repeated counts */
+      {SF_DICT, "a=1, b=2;x;x=3, a=(1 2);q, a=(\"b\" c;y=1;y);z;z", 7,
+       {27, 30, 34, 40, 45, 5, 11}},
+      {SF_DICT, "sig=(\"a\" \"b\";p);q, sig=(\"a\";p \"b\";p);q;q", 6, {19, 24, 28, 30, 34, 39}},
+      {SF_ITEM, "(", 0, {0}},
+  };
+  sf_context context = sf_context_of(seed, SF_RFC9651);
+  sf_node nodes[MOST];
+  char bytes[64];
+  for (size_t i = 0; i < sizeof rows / sizeof *rows; ++i) {
+    sf_tree tree = sf_tree_in(SF_NODES(nodes), SF_BUFFER(bytes));
+    sf_status status = sf_read_tree(&context, rows[i].kind, sf_cstr(rows[i].text), &tree);
+    CHECK(status == (rows[i].length == 0 ? SF_REFUSED : SF_OK) && tree.nodes.length == rows[i].length);
+    for (size_t k = 0; k < tree.nodes.length; ++k)
+      CHECK(sf_node_offset(&tree, &nodes[k]) == rows[i].offsets[k]);
+  }
+
+  /* the lines of a field, and the place in the line as it was received */
+  static const char received[] = "GET / HTTP/1.1\r\n" /* line 7 */
+                                 "Signature-Input:  a=(\"@path\");created=1, b=1\r\n"
+                                 "Host: x\r\n"
+                                 "signature-input: c;created=\"7\", d=()\r\n\r\n";
+  sf_head_line lines[4];
+  sf_fault faults[6];
+  sf_text rest = sf_cstr(received);
+  char joined[128];
+  sf_head head = sf_head_in(SF_HEAD_LINES(lines), SF_BUFFER(joined));
+  sf_tree tree = sf_tree_in(SF_NODES(nodes), SF_BUFFER(bytes));
+  head.faults = SF_FAULTS(faults);
+  head.number = 7;
+  CHECK(sf_take_request(&head, &rest) == SF_OK && head.faults.length == 0);
+  CHECK(sf_find_tree(&context, SF_DICT, &head, "Signature-Input", &tree) == SF_OK);
+  const sf_node *c = sf_find_member(&tree, "c");
+  const sf_node *created = sf_find_parameter(&tree, c, "created");
+  sf_location location = sf_locate_offset(&head, "Signature-Input", sf_node_offset(&tree, created));
+  CHECK(location.number == 10 && location.refusal.offset == 19 && location.index == 2);
+  CHECK(location.refusal.found == 'c' && is(location.line, "signature-input: c;created=\"7\", d=()"));
+  for (int twice = 0; twice < 2; ++twice)
+    for (const sf_node *node = nodes; node < sf_tree_end(&tree); node += node->size)
+      if (node->type != SF_INNER_LIST)
+        sf_add_fault(&head, "Signature-Input", sf_node_offset(&tree, node), "not an Inner List");
+  CHECK(head.faults.length == 2 && head.faults.required == 2);
+  CHECK(says_in("a.txt", &faults[0], 80,
+                "a.txt, line 8, place 41: Signature-Input: not an Inner List\n"
+                "Signature-Input:  a=(\"@path\");created=1, b=1\n"
+                "                                         ^"));
+  CHECK(says(&faults[1], 8, "line 10, place 17: Signature-Input: not an Inner List\n"
+                            "...ut: c;cr...\n       ^"));
+  CHECK(faults[1].reason == SF_FAULT_OWN && strcmp(faults[1].message, "not an Inner List") == 0);
+  /* another message at the same place, in the order of the lines; an offset after all lines */
+  sf_add_fault(&head, "Signature-Input", sf_node_offset(&tree, c), "not signed");
+  sf_add_fault(&head, "Host", 0, "an unknown host");
+  sf_add_fault(&head, "host", SIZE_MAX, "no port");
+  CHECK(head.faults.length == 5 && says(&faults[4], 80, "line 10, place 17: Signature-Input: not "
+                                        "signed\nsignature-input: c;created=\"7\", d=()\n"
+                                        "                 ^"));
+  CHECK(says(&faults[1], 80, "line 9, place 6: Host: an unknown host\nHost: x\n      ^"));
+  CHECK(says(&faults[2], 80, "line 9, place 7: host: no port\nHost: x\n       ^"));
+  /* without a field, or without a name */
+  sf_add_fault(&head, "Signature", 5, "it is missing");
+  CHECK(says_in("a", &faults[5], 80, "a, line 11, place 0: Signature: it is missing"));
+  location = sf_locate_offset(&head, "Signature", 5);
+  CHECK(location.number == 11 && location.line.length == 0 && location.refusal.offset == 0);
+  sf_add_fault(&head, "", 0, "one more");
+  CHECK(head.faults.length == 6 && head.faults.required == 7);
+  head.faults.length = 0;
+  sf_add_fault(&head, "", 0, "the request is not signed");
+  CHECK(says(&faults[0], 80, "line 11, place 0: the request is not signed"));
+  head.lines.length = 0;
+  CHECK(sf_locate_offset(&head, "Signature", 0).number == 12); /* that of the line to be added next */
+
+  /* the memory for a head has place for eight */
+  rest = sf_cstr("a: b\n\n");
+  size_t size = sf_head_memory_size(rest);
+  head = sf_head_in_memory(malloc(size), size, rest);
+  CHECK(sf_take_request(&head, &rest) == SF_OK && head.faults.length == 1);
+  static const char words[] = "abcdefgh"; /* eight messages */
+  for (int twice = 0; twice < 2; ++twice)
+    for (size_t i = 0; i < 8; ++i)
+      sf_add_fault(&head, "a", i / 7, &words[i]);
+  CHECK(head.faults.length == 9 && head.faults.required == 9 && head.faults.capacity == 11);
+  free(head.lines.at);
+
+  /* the parameters of a node */
+  CHECK(sf_read_tree(&context, SF_LIST, sf_cstr("(a;x b);y;z, c;k=1, d"), &tree) == SF_OK);
+  static const struct {
+    size_t node, length, params[2];
+  } of[] = {{0, 2, {4, 5}}, {1, 1, {2, 0}}, {3, 0, {0, 0}}, {6, 1, {7, 0}}, {8, 0, {0, 0}}};
+  for (size_t i = 0; i < sizeof of / sizeof *of; ++i) {
+    const sf_node *param = NULL;
+    for (size_t k = 0; k < of[i].length; ++k) {
+      param = sf_next_parameter(&nodes[of[i].node], param);
+      CHECK(param == &nodes[of[i].params[k]]);
+    }
+    CHECK(sf_next_parameter(&nodes[of[i].node], param) == NULL);
+  }
+
+  /* what client and server ask for, of two heads */
+  char others[32];
+  sf_head_line more[2];
+  sf_priority_flags merged = {7, 7, 7, 7};
+  sf_head response = sf_head_in(SF_HEAD_LINES(more), sf_buffer_of(NULL, 0));
+  head = sf_head_in(SF_HEAD_LINES(lines), SF_BUFFER(others));
+  head.faults = SF_FAULTS(faults);
+  CHECK(sf_add_field_line(&head, sf_cstr("priority"), sf_cstr("u=5, i")) == SF_OK);
+  CHECK(sf_add_field_line(&response, sf_cstr("priority"), sf_cstr("u=1")) == SF_OK);
+  CHECK(sf_find_merged_priority(&context, &head, &response, &merged) == SF_OK);
+  CHECK(merged.urgency == 1 && merged.incremental == 1);
+  CHECK(sf_add_field_line(&response, sf_cstr("priority"), sf_cstr("i=?0")) == SF_OK);
+  merged.urgency = 7;
+  CHECK(sf_find_merged_priority(&context, &head, &response, &merged) == SF_SHORT);
+  CHECK(merged.urgency == 7 && response.joined.required == 9);
+  CHECK(sf_find_merged_priority(&context, &response, &head, &merged) == SF_SHORT);
+}
+
+/* A line of a request without a colon has none after the name, whatever comes after it. */
+static void lines_without_a_colon(void) {
+  static const struct {
+    const char *line, *message;
+  } rows[] = {
+      {"Foo bar", "line 2, place 4: not a field line: no colon after the name\nFoo bar\n    ^"},
+      {"Foo \t ", "line 2, place 6: not a field line: no colon after the name\nFoo ? \n      ^"},
+      {"Foo", "line 2, place 3: not a field line: no colon after the name\nFoo\n   ^"},
+      {"Foo :", "line 2, place 3: not a field line: white space after the name\nFoo :\n   ^"},
+      {"Foo bar: x",
+       "line 2, place 3: not a field line: white space after the name\nFoo bar: x\n   ^"},
+  };
+  for (size_t i = 0; i < sizeof rows / sizeof *rows; ++i) {
+    sf_head_line lines[2];
+    sf_fault faults[2];
+    sf_head head = sf_head_in(SF_HEAD_LINES(lines), sf_buffer_of(NULL, 0));
+    head.faults = SF_FAULTS(faults);
+    CHECK(sf_add_head_line(&head, sf_cstr("GET / HTTP/1.1")) == SF_OK);
+    CHECK(sf_add_head_line(&head, sf_cstr(rows[i].line)) == SF_REFUSED);
+    CHECK(head.faults.length == 1 && says(&faults[0], 40, rows[i].message));
+  }
+}
+
+/* Where a date is malformed, in each of its formats (RFC 9110 section 5.6.7). */
+static void parts_of_dates(void) {
+  static const struct {
+    const char *value;
+    int at; /* -1: it is a date */
+    const char *part;
+  } rows[] = {
+      {"Sun, 06 Nov 1994 08:49:37 GMT", -1, ""},
+      {"Sunday, 06-Nov-94 08:49:37 GMT", -1, ""},
+      {"Sun Nov  6 08:49:37 1994", -1, ""},
+      {"Wed Nov 16 08:49:37 1994", -1, ""},
+      {"0", 0, ""},
+      {"-1", 0, ""},
+      {"", 0, ""},
+      {"sun, 06 Nov 1994 08:49:37 GMT", 0, ""},
+      {"Son, 06 Nov 1994 08:49:37 GMT", 0, ""},
+      {"Su", 0, ""},
+      {"Sun", 3, "a comma in "},
+      {"Sun 06 Nov 1994 08:49:37 GMT", 3, "a comma in "},
+      {"Sun,06 Nov 1994 08:49:37 GMT", 4, "a space in "},
+      {"Sun, 6 Nov 1994 08:49:37 GMT", 5, "the day in "},
+      {"Sun, 00 Nov 1994 08:49:37 GMT", 5, "the day in "},
+      {"Sun, 32 Nov 1994 08:49:37 GMT", 5, "the day in "},
+      {"Sun, 06-Nov-1994 08:49:37 GMT", 7, "a space in "},
+      {"Sun, 06 November 1994 08:49:37 GMT", 11, "a space in "},
+      {"Sun, 06 nov 1994 08:49:37 GMT", 8, "the month in "},
+      {"Sun, 06 11 1994 08:49:37 GMT", 8, "the month in "},
+      {"Sun, 06 Nov 94 08:49:37 GMT", 12, "the year in "},
+      {"Sun, 06 Nov 199", 12, "the year in "},
+      {"Sun, 06 Nov 1994 8:49:37 GMT", 17, "the time in "},
+      {"Sun, 06 Nov 1994 24:00:00 GMT", 17, "the time in "},
+      {"Sun, 06 Nov 1994 08:60:00 GMT", 17, "the time in "},
+      {"Sun, 06 Nov 1994 08:49:60 GMT", 17, "the time in "},
+      {"Sun, 06 Nov 1994 08:49 GMT", 17, "the time in "},
+      {"Sun, 06 Nov 1994 08:49:3", 17, "the time in "},
+      {"Sun, 06 Nov 1994 08:49:37", 25, "a space in "},
+      {"Sun, 06 Nov 1994 08:49:37 UTC", 26, "GMT in "},
+      {"Sun, 06 Nov 1994 08:49:37 +0000", 26, "GMT in "},
+      {"Sun, 06 Nov 1994 08:49:37 gmt", 26, "GMT in "},
+      {"Sun, 06 Nov 1994 08:49:37 GMT+1", 29, "the end of "},
+      {"Mon, 06 Nov 1994 08:49:37 GMT", 0, "a day from 1970 on and its weekday in "},
+      {"Fri, 31 Feb 1995 08:49:37 GMT", 0, "a day from 1970 on and its weekday in "},
+      {"Wed, 31 Dec 1969 23:59:59 GMT", 0, "a day from 1970 on and its weekday in "},
+      {"Sunday 06-Nov-94 08:49:37 GMT", 6, "a comma in "},
+      {"Sunday, 06 Nov 1994 08:49:37 GMT", 10, "a hyphen in "},
+      {"Sunday, 06-Nov-1994 08:49:37 GMT", 17, "a space in "},
+      {"Sunday, 06-Nov-9 08:49:37 GMT", 15, "the year in "},
+      {"Sun Nov 6 08:49:37 1994", 8, "the day in "},
+      {"Sun Nov 06 08:49:37 1994", 8, "the day in "},
+      {"Sun Nov  6 08:49:37 94", 20, "the year in "},
+      {"Sun Nov  6 08:49:37 1994 GMT", 24, "the end of "},
+      {"Sun Nov  6 1994 08:49:37", 11, "the time in "},
+      {"Sun \xff", 4, "the month in "},
+  };
+  sf_context context = sf_context_of(seed, SF_RFC8941);
+  sf_exchange exchange = sf_exchange_of(SF_SHARED_CACHE, 784111777);
+  for (size_t i = 0; i < sizeof rows / sizeof *rows; ++i)
+    for (int k = 0; k < 2; ++k) {
+      char line[64], expected[256];
+      sf_head_line lines[2];
+      sf_fault faults[2];
+      sf_verdict verdict;
+      const char *name = k == 0 ? "Expires" : "Date";
+      sf_head head = sf_head_in(SF_HEAD_LINES(lines), sf_buffer_of(NULL, 0));
+      head.faults = SF_FAULTS(faults);
+      snprintf(line, sizeof line, "%s:\t %s", name, rows[i].value);
+      if (k == 1)
+        CHECK(sf_add_field_line(&head, sf_cstr("Expires"), sf_cstr(rows[0].value)) == SF_OK);
+      CHECK(sf_add_head_line(&head, sf_cstr(line)) == SF_OK);
+      CHECK(sf_decide_response(&context, &head, NULL, 0, &exchange, &verdict) == SF_OK);
+      CHECK(head.faults.length == (rows[i].at >= 0));
+      if (rows[i].at < 0 || head.faults.length == 0)
+        continue;
+      snprintf(expected, sizeof expected,
+               "line %d, place %d: %s: expected %san HTTP-date, such as Sun, 06 Nov 1994 08:49:37 GMT\n",
+               k + 1, (int)strlen(name) + 3 + rows[i].at, name, rows[i].part);
+      char message[SF_FAULT_SIZE(8, 0)];
+      sf_buffer out = SF_BUFFER(message);
+      size_t words = strlen(expected);
+      CHECK(sf_show_fault(&faults[0], 0, &out) == SF_OK);
+      CHECK(out.length > words && memcmp(message, expected, words) == 0);
+    }
+}
+
+/* Lifetimes that are no numbers of seconds, and where (RFC 9111 sections 1.2.2, 4.2.1 and 5.2.2.1). */
+static void numbers_of_seconds(void) {
+  static const struct {
+    const char *head;     /* lines of T, which is a target, and others */
+    int shared, private_; /* the places of the fault in both kinds of caches, -1 without one */
+    int line, is_other;
+  } rows[] = {
+      {"Cache-Control: max-age=60, s-maxage=\"6\\0\"", -1, -1, 0, 0},
+      {"Cache-Control: max-age=6o", 23, 23, 1, 0},
+      {"Cache-Control: a=\"max-age=x\", Max-Age", 37, 37, 1, 0},
+      {"Cache-Control: max-age=\"\"", 23, 23, 1, 0},
+      {"Cache-Control: max-age=\"6\\o\"", 23, 23, 1, 0},
+      {"Cache-Control: max-age=-1 , public", 23, 23, 1, 0},
+      {"Cache-Control: max-age=60\nX: y\ncache-control: public,, max-age=\"60\", max-age=061", 46, 46, 3, 1},
+      {"Cache-Control: max-age=99999999999, max-age=99999999998", -1, -1, 0, 0},
+      {"Cache-Control: s-maxage=x, max-age=60", 24, -1, 1, 0},
+      {"Cache-Control: s-maxage=60, max-age=x", -1, 36, 1, 0},
+      {"Cache-Control: max-age=x, must-revalidate", 23, 23, 1, 0},
+      {"Cache-Control: max-age=x, no-store", -1, -1, 0, 0},
+      {"Cache-Control: max-age=x, no-cache", -1, -1, 0, 0},
+      {"Cache-Control: max-age=x, private", -1, 23, 1, 0},
+      {"Cache-Control: max-age=x, a b", 28, 28, 1, -1}, /* the line is refused */
+      {"T: max-age=1.5", 11, 11, 1, 0},
+      {"T: a=\"max-age=1\", max-age", 25, 25, 1, 0},
+      {"T: a=(max-age)\nT: b;max-age=1, max-age=\"60\"", 24, 24, 2, 0},
+      {"T: max-age=5\nT: max-age=-5", 11, 11, 2, 0}, /* the last counts */
+      {"T: max-age=-5\nT: max-age=5", -1, -1, 0, 0},
+      {"T: s-maxage=?0, max-age=6", 12, -1, 1, 0},
+      {"T: max-age=a, no-cache", -1, -1, 0, 0},
+      {"T: x\nCache-Control: max-age=x", -1, -1, 0, 0}, /* it is not read */
+  };
+  sf_context context = sf_context_of(seed, SF_RFC8941);
+  sf_target target = sf_target_of("T");
+  for (size_t i = 0; i < sizeof rows / sizeof *rows; ++i)
+    for (int is_shared = 0; is_shared < 2; ++is_shared) {
+      sf_exchange exchange =
+          sf_exchange_of(is_shared ? SF_SHARED_CACHE : SF_PRIVATE_CACHE, 784111777);
+      int place = is_shared ? rows[i].shared : rows[i].private_;
+      sf_head_line lines[4];
+      sf_fault faults[4];
+      sf_verdict verdict;
+      char joined[64];
+      sf_text rest = sf_cstr(rows[i].head);
+      sf_head head = sf_head_in(SF_HEAD_LINES(lines), SF_BUFFER(joined));
+      head.faults = SF_FAULTS(faults);
+      while (rest.length > 0)
+        CHECK(sf_add_head_line(&head, sf_take_line(&rest)) == SF_OK);
+      for (int twice = 0; twice < 2; ++twice)
+        CHECK(sf_decide_response(&context, &head, &target, 1, &exchange, &verdict) == SF_OK);
+      CHECK(head.joined.length == 0 && head.faults.length == (place >= 0));
+      if (place < 0 || head.faults.length == 0)
+        continue;
+      CHECK(faults[0].location.number == (uint64_t)rows[i].line);
+      CHECK(faults[0].location.refusal.offset == (uint64_t)place);
+      CHECK(faults[0].reason == (rows[i].is_other < 0 ? (uint32_t)SF_FAULT_REFUSED
+                                 : rows[i].is_other   ? (uint32_t)SF_FAULT_OTHER_SECONDS
+                                                      : (uint32_t)SF_FAULT_NOT_SECONDS));
+      char message[SF_FAULT_SIZE(13, 60)];
+      sf_buffer out = SF_BUFFER(message);
+      CHECK(sf_show_fault(&faults[0], 60, &out) == SF_OK);
+      message[out.length - 1] = 0;
+      CHECK(strstr(message, rows[i].is_other < 0 ? "expected `,` or the end\n"
+                            : rows[i].is_other   ? "Cache-Control: the directive had another value before\n"
+                                                 : ": expected a number of seconds\n") != NULL);
+    }
+}
+
 /* What a decision finds malformed, and where (RFC 9111 sections 4.2.1, 5.1 and 5.2; RFC 9110 sections
  * 5.6.1 to 5.6.4 and 5.6.7; RFC 9213 section 2.1). */
 static void faults_of_decisions(void) {
@@ -1942,24 +2251,28 @@ static void faults_of_decisions(void) {
       {"Expires:  0 \nDate: Sun\n",
        {"line 1, place 10: Expires: expected an HTTP-date, such as Sun, 06 Nov 1994 08:49:37 "
         "GMT\nExpires:  0 \n          ^",
-        "line 2, place 6: Date: expected an HTTP-date, such as Sun, 06 Nov 1994 08:49:37 "
-        "GMT\nDate: Sun\n      ^"}},
+        "line 2, place 9: Date: expected a comma in an HTTP-date, such as Sun, 06 Nov 1994 08:49:37 "
+        "GMT\nDate: Sun\n         ^"}},
       {"Expires: Sun, 06 Nov 1994 08:49:37 GMT\nExpires: Sun, 06 Nov 1994 08:49:37 GMT\nexpires: x\n",
-       {"line 2, place 9: Expires: there are several lines\nExpires: Sun, 06 Nov 1994 \n         "
+       {"line 2, place 9: Expires: there are several lines\nExpires: Sun, 06 Nov 1994 ...\n         "
         "^"}},
       {"Expires: Sun, 06 Nov 1994 08:49:37 GMT\nDate: x\nDate: Sun, 06 Nov 1994 08:49:37 GMT\nDate: x\n",
        {"line 2, place 6: Date: expected an HTTP-date, such as Sun, 06 Nov 1994 08:49:37 "
         "GMT\nDate: x\n      ^",
-        "line 3, place 6: Date: there are several lines\nDate: Sun, 06 Nov 1994 08:\n      ^"}},
+        "line 3, place 6: Date: there are several lines\nDate: Sun, 06 Nov 1994 08:...\n      ^"}},
       /* dates by which nothing is decided, as of the Expires: 0 that is everywhere */
       {"Date: x\nDate: Sun, 06 Nov 1994 08:49:37 GMT\nDate: x\n", {NULL}},
       {"Expires: 0\nCache-Control: no-store\nDate: x\n", {NULL}},
       {"Expires: 0\nExpires: 0\nCache-Control: private\n", {NULL}},
       {"Expires: 0\nCache-Control: No-Cache\nDate: x\n", {NULL}},
       {"Expires: 0\nCache-Control: max-age=1\nDate: x\n", {NULL}},
-      {"Expires: 0\nCache-Control: max-age=x, must-revalidate\n", {NULL}},
+      {"Expires: 0\nCache-Control: max-age=x, must-revalidate\n",
+       {"line 2, place 23: Cache-Control: expected a number of seconds\n"
+        "...rol: max-age=x, must-reval...\n                ^"}},
       {"Expires: 0\nCache-Control: s-maxage=1\n", {NULL}},
-      {"Expires: 0\nCache-Control: s-maxage\n", {NULL}},
+      {"Expires: 0\nCache-Control: s-maxage\n",
+       {"line 2, place 23: Cache-Control: expected a number of seconds\n"
+        "Cache-Control: s-maxage\n                       ^"}},
       {"Expires: 0\nCache-Control: must-understand\n", {NULL}},
       {"Expires: 0\nT: x\n", {NULL}},
       {"Expires: 0\nT: \nCache-Control: no-transform, must-revalidate\n",
@@ -1969,14 +2282,13 @@ static void faults_of_decisions(void) {
        {"line 1, place 9: Expires: expected an HTTP-date, such as Sun, 06 Nov 1994 08:49:37 "
         "GMT\nExpires: 0\n         ^"}},
       {"Cache-Control: a b\nExpires: 0\nDate: x\n",
-       {"line 1, place 17: Cache-Control: byte 0x62 'b', expected `,`, a tab, a space or the end\n"
+       {"line 1, place 17: Cache-Control: byte 0x62 'b', expected `,` or the end\n"
         "Cache-Control: a b\n                 ^"}},
       {"Cache-Control: a b\nCache-Control: c d\n",
-       {"line 1, place 17: Cache-Control: byte 0x62 'b', expected `,`, a tab, a space or the end\n"
+       {"line 1, place 17: Cache-Control: byte 0x62 'b', expected `,` or the end\n"
         "Cache-Control: a b\n                 ^"}},
       {"Cache-Control:a=\n",
-       {"line 1, place 16: Cache-Control: the text ended, expected a key character, an upper-case letter, "
-        "`!`, a quote, `#`, `$`, `%`, `&`, `'`, `+`, `^`, a backquote, `|` or `~`\n"
+       {"line 1, place 16: Cache-Control: the text ended, expected a token or a quoted-string\n"
         "Cache-Control:a=\n                ^"}},
   };
   static const struct {
@@ -2670,6 +2982,10 @@ int main(void) {
   parts_of_trees();
   parts_by_their_ranges();
   fields_of_a_head();
+  faults_of_programs();
+  lines_without_a_colon();
+  parts_of_dates();
+  numbers_of_seconds();
   faults_of_decisions();
   responses();
   lifetimes();

@@ -13,19 +13,14 @@ fn read(name: &str) -> Result<Vec<u8>, String> {
     std::fs::read(name).map_err(|error| format!("{name}: {error}"))
 }
 
-/// Writes what a signature covers, and three of its parameters (RFC 9421 sections 2 and 2.3).
+/// Writes what a signature covers, and its parameters (RFC 9421 sections 2 and 2.3).
 fn write_signature(out: &mut impl Write, label: &Key, covered: &InnerList) -> io::Result<()> {
     write!(out, "{label} covers")?;
     for component in &covered.items {
         write!(out, " {}", component.serialize()?)?;
     }
-    if let Some(created) = covered.params.integer("created") {
-        write!(out, ", created {created}")?;
-    }
-    for name in ["keyid", "alg"] {
-        if let Some(text) = covered.params.string(name) {
-            write!(out, ", {name} {text}")?;
-        }
+    for (name, value) in &covered.params {
+        write!(out, ", {name} {}", value.serialize()?)?;
     }
     writeln!(out)
 }
@@ -67,7 +62,7 @@ fn main() -> Result<(), Box<dyn Error>> {
     for (label, member) in &signatures {
         match member.as_inner_list() {
             Some(covered) => write_signature(&mut out, label, covered)?,
-            None => writeln!(out, "{label} is no signature")?,
+            None => request.add_fault("Signature-Input", label, "not an Inner List")?,
         }
     }
 

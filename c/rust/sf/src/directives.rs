@@ -48,6 +48,18 @@ impl State {
         !matches!(self, State::Equals | State::Quoted | State::Escape)
     }
 
+    /// What is expected there, in words.
+    fn expected(self) -> &'static str {
+        match self {
+            State::Before => "a directive",
+            State::Name => "a token character, `=`, `,` or the end",
+            State::Equals => "a token or a quoted-string",
+            State::Token => "a token character, `,` or the end",
+            State::Quoted | State::Escape => "the rest of a quoted-string",
+            State::After => "`,` or the end",
+        }
+    }
+
     /// The refusal of a byte there, or of the end.
     fn refusal(self, offset: usize, found: Option<u8>) -> Refusal {
         let allowed = (0..128).filter(|byte| self.with(*byte).is_some());
@@ -56,6 +68,7 @@ impl State {
             found,
             expected: allowed.fold(0, |set, byte| set | 1 << byte),
             may_end: found.is_some() && self.may_end(),
+            words: Some(self.expected()),
         }
     }
 }
@@ -63,6 +76,96 @@ impl State {
 /// Whether a byte is white space (RFC 9110 section 5.6.3).
 fn is_ows(byte: u8) -> bool {
     matches!(byte, b' ' | b'\t')
+}
+
+/// A directive of a line whose argument is no number of seconds, or another one than before.
+#[cfg(feature = "alloc")]
+pub(crate) struct NotSeconds {
+    /// Where the argument begins, or the name ends if there is none.
+    pub(crate) offset: usize,
+    /// Whether it is another number.
+    pub(crate) is_other: bool,
+}
+
+/// The first directive of this name that has no number of seconds or, in this line or before, another
+/// one. The line is a list of directives.
+#[cfg(feature = "alloc")]
+pub(crate) fn not_seconds(line: &[u8], name: &str, before: &mut Option<u64>) -> Option<NotSeconds> {
+    let mut at = 0;
+    while at < line.len() {
+        let length = token_length(&line[at..]);
+        let is_it = line[at..at + length].eq_ignore_ascii_case(name.as_bytes());
+        at += length;
+        let has_argument = length > 0 && line.get(at) == Some(&b'=');
+        at += usize::from(has_argument);
+        let argument = &line[at..];
+        let (end, found) = match argument.first() {
+            Some(b'"') if has_argument => {
+                let end = quoted_length(argument);
+                (end, seconds(unescaped(&argument[1..end.max(2) - 1])))
+            }
+            _ if has_argument => {
+                let end = token_length(argument);
+                (end, seconds(argument[..end].iter().copied()))
+            }
+            _ => (0, None),
+        };
+        if is_it {
+            let is_other = found.is_some();
+            if !is_other || before.map_or(false, |number| Some(number) != found) {
+                return Some(NotSeconds {
+                    offset: at,
+                    is_other,
+                });
+            }
+            *before = found;
+        }
+        at += end;
+        let between = line[at..].iter().take_while(|byte| !is_tchar(**byte));
+        at += between.count();
+    }
+    None
+}
+
+/// The length of the quoted-string that a text begins with.
+#[cfg(feature = "alloc")]
+fn quoted_length(text: &[u8]) -> usize {
+    let mut at = 1;
+    loop {
+        match text.get(at) {
+            None => return text.len(),
+            Some(b'"') => return at + 1,
+            Some(b'\\') => at += 2,
+            Some(_) => at += 1,
+        }
+    }
+}
+
+/// The bytes of a quoted-string without its quotes and the backslashes of escapes.
+#[cfg(feature = "alloc")]
+fn unescaped(quoted: &[u8]) -> impl Iterator<Item = u8> + '_ {
+    let mut is_escape = false;
+    quoted.iter().copied().filter(move |byte| {
+        is_escape = *byte == b'\\' && !is_escape;
+        !is_escape
+    })
+}
+
+/// The number of seconds of an argument, at most 2^31 (RFC 9111 section 1.2.2).
+#[cfg(feature = "alloc")]
+fn seconds(argument: impl Iterator<Item = u8>) -> Option<u64> {
+    let mut digits = argument.peekable();
+    digits.peek()?;
+    digits.try_fold(0, |seconds: u64, byte| {
+        let digit = char::from(byte).to_digit(10)?;
+        Some((seconds * 10 + u64::from(digit)).min(1 << 31))
+    })
+}
+
+/// The length of the token that a text begins with.
+#[cfg(feature = "alloc")]
+fn token_length(text: &[u8]) -> usize {
+    text.iter().take_while(|byte| is_tchar(**byte)).count()
 }
 
 /// The refusal of a line that is no list of directives. White space around it is no part of it.

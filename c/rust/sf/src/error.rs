@@ -27,6 +27,8 @@ pub struct Refusal {
     pub expected: u128,
     /// Whether the text could have ended there; false if it did.
     pub may_end: bool,
+    /// What is expected, in words, of a line that is no structured field.
+    pub(crate) words: Option<&'static str>,
 }
 
 impl Refusal {
@@ -90,7 +92,7 @@ impl fmt::Debug for Refusal {
             .field("found", &self.found.map(char::from))
             .field("expected", &Set(self.expected))
             .field("may_end", &self.may_end)
-            .finish()
+            .finish_non_exhaustive()
     }
 }
 
@@ -138,6 +140,18 @@ impl Refusal {
         self.place_in(lines.into_iter().map(|line| line.as_ref().len()))
     }
 
+    /// A place alone, of which it is not known what is wrong.
+    #[cfg(feature = "alloc")]
+    pub(crate) fn at(offset: usize) -> Refusal {
+        Refusal {
+            offset: offset as u64,
+            found: None,
+            expected: 0,
+            may_end: false,
+            words: None,
+        }
+    }
+
     /// The same for lines of these lengths.
     pub(crate) fn place_in(&self, lengths: impl Iterator<Item = usize>) -> LinePlace {
         let mut left = usize::try_from(self.offset).unwrap_or(usize::MAX);
@@ -170,16 +184,17 @@ impl Refusal {
         }
     }
 
-    /// The error message, then at most so many bytes of the text around the offset, with a caret
-    /// below it. So it has a bound, whatever the length of the text. Give the text that was
-    /// refused. Bytes that are not printable are question marks there.
+    /// The error message, then at most so many bytes of the text around the offset, with `...` at an
+    /// end where more of it is left out, and a caret below it. So it has a bound, whatever the length
+    /// of the text. Give the text that was refused. Bytes that are not printable are question marks
+    /// there.
     ///
     /// ```
     /// let text = "1 2";
     /// let refusal = sf::check(sf::Kind::Item, text).unwrap_err().refusal().unwrap();
     /// assert_eq!(
     ///     refusal.excerpt(text, 2).to_string(),
-    ///     "byte 0x32 '2' at place 2, expected a space or the end\n 2\n ^"
+    ///     "byte 0x32 '2' at place 2, expected a space or the end\n... 2\n    ^"
     /// );
     /// ```
     #[must_use]
@@ -206,8 +221,8 @@ impl Refusal {
     ///     refusal.excerpt_of_line(&lines, 8).to_string(),
     ///     "byte 0x2c ',' at place 7, expected a token character, `)`, `;` or a space\n\
     ///      line 2, place 7:\n\
-    ///      \x20(d e, f\n\
-    ///      \x20    ^"
+    ///      ... (d e, f\n\
+    ///      \x20       ^"
     /// );
     /// ```
     #[must_use]
@@ -226,7 +241,7 @@ impl Refusal {
 ///
 /// ```
 /// let refusal = sf::check(sf::Kind::Item, "a\nb").unwrap_err().refusal().unwrap();
-/// assert!(refusal.excerpt("a\nb", 2).to_string().ends_with("\na?\n ^"));
+/// assert!(refusal.excerpt("a\nb", 2).to_string().ends_with("\na?...\n ^"));
 /// ```
 #[derive(Clone, Copy, Debug)]
 pub struct Excerpt<'a> {
@@ -264,8 +279,8 @@ impl fmt::Display for Excerpt<'_> {
     }
 }
 
-/// Writes two lines, each after a line feed: at most so many bytes of a text around the place, and
-/// a caret below it.
+/// Writes two lines, each after a line feed: at most so many bytes of a text around the place, with
+/// `...` where it is cut off, and a caret below the place.
 pub(crate) fn write_excerpt(
     f: &mut fmt::Formatter<'_>,
     text: &[u8],
@@ -275,15 +290,18 @@ pub(crate) fn write_excerpt(
     let length = text.len();
     let at = offset.min(length);
     let from = at.saturating_sub(most / 2).min(length.saturating_sub(most));
-    let part = text[from..length.min(from.saturating_add(most))].iter();
-    let shown = part.map(|byte| match byte {
+    let to = length.min(from.saturating_add(most));
+    let shown = text[from..to].iter().map(|byte| match byte {
         b' '..=b'~' => *byte,
         _ => b'?',
     });
-    let spaces = (from..at).map(|_| b' ');
+    let dots = |is_cut| core::iter::repeat(b'.').take(if is_cut { 3 } else { 0 });
+    let (before, after) = (dots(from > 0), dots(to < length));
+    let spaces = before.clone().map(|_| b' ');
+    let spaces = spaces.chain((from..at).map(|_| b' '));
     let end = |byte| core::iter::once(byte);
-    let all = end(b'\n').chain(shown).chain(end(b'\n')).chain(spaces);
-    write_ascii(f, all.chain(end(b'^')))
+    let line = end(b'\n').chain(before).chain(shown).chain(after);
+    write_ascii(f, line.chain(end(b'\n')).chain(spaces).chain(end(b'^')))
 }
 
 /// Writes bytes of ASCII, many with one call, since each may be a call of the system: a standard
@@ -310,6 +328,7 @@ impl From<&raw::Refusal> for Refusal {
             found: u8::try_from(refusal.found).ok(),
             expected: u128::from(refusal.expected_high) << 64 | u128::from(refusal.expected_low),
             may_end: refusal.may_end != 0,
+            words: None,
         }
     }
 }
@@ -336,7 +355,13 @@ fn halves(set: u128) -> [u64; 2] {
 impl fmt::Display for Refusal {
     fn fmt(&self, f: &mut fmt::Formatter<'_>) -> fmt::Result {
         match Short::<MESSAGE_SIZE>::written(|buffer| ffi::refusal_text(self, buffer)) {
-            Ok(message) => f.pad(message.as_str()),
+            Ok(message) => match self.words {
+                None => f.pad(message.as_str()),
+                Some(words) => {
+                    let found = message.as_str().split(", expected ").next();
+                    write!(f, "{}, expected {words}", found.unwrap_or_default())
+                }
+            },
             // Out of memory: `format!` would panic if this returned an error.
             Err(_) => write!(f, "malformed at place {}", self.offset),
         }
@@ -350,8 +375,12 @@ impl Refusal {
         let refusal = Refusal { offset: 0, ..*self };
         match Short::<MESSAGE_SIZE>::written(|buffer| ffi::refusal_text(&refusal, buffer)) {
             Ok(message) => {
-                let mut parts = message.as_str().split(" at place 0");
-                parts.try_for_each(|part| f.write_str(part))
+                let mut parts = message.as_str().splitn(2, " at place 0");
+                f.write_str(parts.next().unwrap_or_default())?;
+                match self.words {
+                    None => f.write_str(parts.next().unwrap_or_default()),
+                    Some(words) => write!(f, ", expected {words}"),
+                }
             }
             Err(_) => f.write_str("malformed"), // out of memory, as above
         }

@@ -1,12 +1,14 @@
 //! What a cache decides about a response by its whole head.
 
-use crate::line::is_of;
+use crate::directives;
+use crate::line::{is_of, spaces_before};
 use crate::malformed::{Fault, Malformed};
 #[cfg(feature = "std")]
 use crate::Dialect;
 use crate::{
-    age, field_text, has_field, Cache, CacheRules, Cause, Decision, Error, Fallback, FieldDate,
-    FieldLine, Forward, Forwarded, Head, Hop, Integer, Name, Parser, Response, Reuse, Seconds,
+    age, field_text, has_field, trim, Cache, CacheRules, Cause, Decision, Error, Fallback,
+    FieldDate, FieldLine, Forward, Forwarded, Head, Hop, Integer, Name, Parser, Place, Refusal,
+    Response, Reuse, Seconds,
 };
 use alloc::vec::Vec;
 use core::fmt;
@@ -239,7 +241,7 @@ impl Exchange {
     /// let response = response.unwrap();
     /// let exchange = Exchange::now(Cache::Shared).with_status(response.status().as_u16());
     /// let verdict = exchange.decide(&["CDN-Cache-Control"], response.headers()).unwrap();
-    /// assert_eq!(verdict.to_string(), "Cache-Control: fresh for 60 s (max-age)");
+    /// assert_eq!(verdict.to_string(), "Cache-Control: fresh for 60 s (max-age); may be stored");
     /// # }
     /// ```
     #[cfg(feature = "std")]
@@ -352,8 +354,8 @@ impl Exchange {
 
 /// What a cache does with a response, by the whole of its head: see [`Exchange::decide`]. It
 /// borrows the names of the target list, and nothing of the head. Its `Display` is the field that
-/// decides, the decision, without a cause that has the name of the field, and the obstacle, unless
-/// the decision says it.
+/// decides, the decision, without a cause that has the name of the field, and "may be stored", or
+/// the obstacle, unless the decision says it.
 ///
 /// ```
 /// use sf::{Cache, Exchange};
@@ -362,7 +364,7 @@ impl Exchange {
 ///     ("Date", "Sun, 06 Nov 1994 08:49:37 GMT"),
 /// ];
 /// let verdict = Exchange::at(Cache::Shared, 784_111_777).decide(&[], &head).unwrap();
-/// assert_eq!(verdict.to_string(), "Expires: fresh for 60 s");
+/// assert_eq!(verdict.to_string(), "Expires: fresh for 60 s; may be stored");
 /// assert_eq!(verdict.fresh_for().map(u64::from), Some(60));
 /// ```
 #[derive(Clone, Debug, PartialEq, Eq)]
@@ -412,7 +414,11 @@ pub struct Verdict<'a> {
     /// is in the past then; and `Date`, for which [`Exchange::received`] counts. Those of the target
     /// list after the one that decides don't count, nor `Cache-Control`, `Expires` and `Date` then.
     /// `Expires` counts only if `Cache-Control` sets no lifetime, does not forbid storing and has
-    /// no `no-cache`, and `Date` only if `Expires` does: `no-store` with `Expires: 0` is no fault.
+    /// no `no-cache`, and `Date` only if `Expires` does: `no-store` with `Expires: 0` is no fault,
+    /// for `0` and the like have a meaning (section 5.3). A `max-age` or `s-maxage` that is no
+    /// number of seconds makes the response stale (section 4.2.1), and is a fault if it counts
+    /// likewise. `Age` always counts: if it is malformed it is ignored (section 5.1), and has no
+    /// such meaning.
     ///
     /// ```
     /// use sf::{Cache, Exchange};
@@ -562,6 +568,8 @@ impl fmt::Display for Verdict<'_> {
         }
         if self.is_refused {
             write!(f, "{} (malformed)", self.decision.reuse)?;
+        } else if self.decision.reuse == Reuse::Unspecified {
+            f.write_str("no lifetime set")?;
         } else {
             // The name of the field says it.
             let cause = self.decision.cause.filter(|it| *it != Cause::Expires);
@@ -572,7 +580,8 @@ impl fmt::Display for Verdict<'_> {
             write!(f, "{decision}")?;
         }
         match self.obstacle {
-            None | Some(Obstacle::Directive | Obstacle::Malformed) => Ok(()),
+            None => f.write_str("; may be stored"),
+            Some(Obstacle::Directive | Obstacle::Malformed) => Ok(()),
             Some(obstacle) => write!(f, "; not stored: {obstacle}"),
         }
     }
@@ -614,7 +623,7 @@ impl Parser {
             (fallback.rules(), lifetime, fallback.is_refused())
         };
         let has_cache_control = has_field(head.clone(), "Cache-Control");
-        let age = age_of(head, &mut malformed)?;
+        let age = age_of(head.clone(), &mut malformed)?;
         let response = Response {
             age: age.saturating_add(exchange.since_request()).min(MOST),
             lifetime,
@@ -623,6 +632,15 @@ impl Parser {
         let decision = rules.decide(exchange.cache, response);
         if lifetime.is_none() || !counts_expires(&decision, &rules, exchange.cache) {
             malformed.retain(|one| !matches!(one.fault, Fault::NotADate | Fault::Repeated));
+        }
+        if let Some(name) = not_seconds(&decision, &rules, exchange.cache) {
+            let found = match obeyed {
+                Some((index, _)) => seconds_of_target(head.clone(), targets[index], name)?,
+                None => seconds_of_lines(head, name),
+            };
+            if let Some(one) = found {
+                note(&mut malformed, one)?;
+            }
         }
         let field = match (obeyed, decision.cause) {
             (Some((index, _)), _) => Some(targets[index]),
@@ -683,6 +701,66 @@ fn counts_expires(decision: &Decision, rules: &CacheRules, cache: Cache) -> bool
     let has_max_age = rules.invalid_max_age || rules.policy.max_age.is_some();
     let is_barred = decision.reuse == Reuse::NotStored || decision.cause == Some(Cause::NoCache);
     !has_max_age && !has_s_maxage(rules, cache) && !is_barred
+}
+
+/// The directive that counts as a lifetime, which makes the response stale as it is no number of
+/// seconds (RFC 9111 section 4.2.1).
+fn not_seconds(decision: &Decision, rules: &CacheRules, cache: Cache) -> Option<&'static str> {
+    let is_barred = decision.reuse == Reuse::NotStored || decision.cause == Some(Cause::NoCache);
+    let (is_invalid, name) = if has_s_maxage(rules, cache) {
+        (rules.invalid_s_maxage, "s-maxage")
+    } else {
+        (rules.invalid_max_age, "max-age")
+    };
+    (is_invalid && !is_barred).then_some(name)
+}
+
+/// Where such a directive is in a targeted field.
+fn seconds_of_target<'a, H>(
+    head: H,
+    field: &'a str,
+    name: &str,
+) -> Result<Option<Malformed<'a>>, Error>
+where
+    H: IntoIterator + Clone,
+    H::Item: FieldLine,
+{
+    let text = field_text(head.clone(), field)?;
+    let end = Place::member(name).offset_in(&text) + name.len();
+    let offset = end + usize::from(text.get(end) == Some(&b'='));
+    let malformed = Refusal::at(offset).in_head(head, field);
+    Ok(match malformed.fault {
+        Fault::Refused(refusal) => {
+            let offset = usize::try_from(refusal.offset).unwrap_or(usize::MAX);
+            let fault = Fault::NotSeconds { offset };
+            Some(Malformed { fault, ..malformed })
+        }
+        _ => None,
+    })
+}
+
+/// Where such a directive is in `Cache-Control`.
+fn seconds_of_lines<H>(head: H, name: &str) -> Option<Malformed<'static>>
+where
+    H: IntoIterator,
+    H::Item: FieldLine,
+{
+    let mut before = None;
+    head.into_iter().enumerate().find_map(|(line, of_head)| {
+        if !is_of(&of_head, "Cache-Control") {
+            return None;
+        }
+        let begin = spaces_before(of_head.value());
+        let found = directives::not_seconds(trim(of_head.value()), name, &mut before)?;
+        let offset = begin + found.offset;
+        let fault = if found.is_other {
+            Fault::OtherSeconds { offset }
+        } else {
+            Fault::NotSeconds { offset }
+        };
+        let field = "Cache-Control";
+        Some(Malformed { field, line, fault })
+    })
 }
 
 /// What is left of the lifetime by which was decided, if it was.

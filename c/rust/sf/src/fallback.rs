@@ -41,7 +41,7 @@ pub struct Fallback {
 /// assert_eq!((refused.line, refused.refusal.offset), (1, 11));
 /// assert_eq!(
 ///     refused.to_string(),
-///     "line 2: byte 0x62 'b' at place 11, expected `,`, a tab, a space or the end"
+///     "line 2: byte 0x62 'b' at place 11, expected `,` or the end"
 /// );
 /// ```
 #[derive(Clone, Copy, Debug, PartialEq, Eq)]

@@ -1,11 +1,12 @@
 //! The heads of messages, and what is malformed in them.
 
 use crate::buffer::{copied_text, push};
+use crate::http_date;
 use crate::line::{is_barred, is_of, is_tchar, spaces_before, split, without_end};
 use crate::malformed::{Fault, Malformed, StartFault};
 use crate::{
     field_text, has_field, trim, Appended, Error, Exchange, Fallback, FieldLine, FieldType,
-    HeadFault, Hop, Obstacle, Parser, Path, Priority, Refusal, ResponsePriority, Verdict,
+    HeadFault, Hop, Obstacle, Parser, Path, Place, Priority, Refusal, ResponsePriority, Verdict,
 };
 use alloc::vec::Vec;
 
@@ -182,6 +183,7 @@ impl<'a> Head<'a> {
             }
             if head.is_begun && without_end(line).is_empty() {
                 head.content = Some(rest);
+                head.number += 1;
                 break;
             }
             head.add_line(line)?;
@@ -586,6 +588,83 @@ impl<'a> Head<'a> {
         Ok(sent)
     }
 
+    /// The line that a part of a field is in, and the place in that line as it was received, from 0.
+    /// `None` if the head does not have the field.
+    ///
+    /// # Errors
+    ///
+    /// [`Error::OutOfMemory`] only.
+    ///
+    /// ```
+    /// use sf::{Head, Parser, Place};
+    /// let received = "Example: a=1\r\nexample: b=2;q\r\n\r\n";
+    /// let head = Head::parse(Parser::new(), received).unwrap();
+    /// let (line, place) = head.locate("Example", Place::member("b").param("q")).unwrap().unwrap();
+    /// assert_eq!((line.number, place), (2, 13));
+    /// assert_eq!(head.locate("Other", "b").unwrap(), None);
+    /// ```
+    pub fn locate<'p>(
+        &self,
+        name: &str,
+        place: impl Into<Place<'p>>,
+    ) -> Result<Option<(HeadLine<'a>, usize)>, Error> {
+        if !self.has_field(name) {
+            return Ok(None);
+        }
+        let offset = place.into().offset_in(field_text(&self.lines, name)?);
+        let found = self.found(Refusal::at(offset).in_head(&self.lines, name))?;
+        let line = self.lines.iter().find(|line| line.number == found.number);
+        Ok(line.map(|line| (*line, found.offset)))
+    }
+
+    /// Adds a fault that the program finds itself to [`Head::malformed`]: at this place of a field,
+    /// and with this message. If the head does not have the field, the message is one line, with the
+    /// number of the line after the last field line; if the name is empty, it is left out.
+    ///
+    /// # Errors
+    ///
+    /// [`Error::OutOfMemory`] only.
+    ///
+    /// ```
+    /// use sf::{Dictionary, Head, Parser};
+    /// # fn main() -> Result<(), sf::Error> {
+    /// let received = "GET / HTTP/1.1\r\nSignature-Input: a=(\"@path\"), b=1\r\n\r\n";
+    /// let mut head = Head::parse_request(Parser::new(), received)?;
+    /// let field: Dictionary = head.field("Signature-Input")?.unwrap_or_default();
+    /// for (label, member) in &field {
+    ///     if member.as_inner_list().is_none() {
+    ///         head.add_fault("Signature-Input", label, "expected an Inner List")?;
+    ///     }
+    /// }
+    /// assert_eq!(
+    ///     head.malformed()[0].excerpt(60).to_string(),
+    ///     "line 2, place 30: Signature-Input: expected an Inner List\n\
+    ///      Signature-Input: a=(\"@path\"), b=1\n\
+    ///      \x20                             ^"
+    /// );
+    /// # Ok(())
+    /// # }
+    /// ```
+    pub fn add_fault<'p>(
+        &mut self,
+        name: &str,
+        place: impl Into<Place<'p>>,
+        message: &str,
+    ) -> Result<(), Error> {
+        let fault = if let Some((line, offset)) = self.locate(name, place)? {
+            HeadFault::of_line(Fault::Own, line.number, line.received, offset)
+        } else {
+            let after = |line: &HeadLine<'_>| line.number.saturating_add(1);
+            let number = self.lines.last().map_or(self.number, after);
+            HeadFault::of_line(Fault::Own, number, b"", 0)
+        };
+        self.insert(HeadFault {
+            field: copied_text(name)?,
+            message: copied_text(message)?,
+            ..fault
+        })
+    }
+
     /// Whether a cache must not store the response to this request, by the `no-store` of its
     /// `Cache-Control` (RFC 9111 section 5.2.1.5), or may not for all that is known: if a line of
     /// it is malformed, which is noted, a directive may be lost.
@@ -623,14 +702,19 @@ impl<'a> Head<'a> {
     /// The fault of a malformed field of this head, with the place in the line as it was received.
     fn found(&self, malformed: Malformed<'_>) -> Result<HeadFault<'a>, Error> {
         let line = self.lines[malformed.line];
-        let place = match malformed.fault {
-            Fault::Refused(refusal) => usize::try_from(refusal.offset).unwrap_or(usize::MAX),
+        let (place, part) = match malformed.fault {
+            Fault::Refused(refusal) => {
+                let place = usize::try_from(refusal.offset).unwrap_or(usize::MAX);
+                (place, "")
+            }
             // Of the first member what is no digit, or the end of the member if it is empty.
             Fault::NotAnAge => {
                 let digits = line.value.iter().take_while(|byte| byte.is_ascii_digit());
-                digits.count()
+                (digits.count(), "")
             }
-            _ => 0,
+            Fault::NotADate => http_date::fault(line.value),
+            Fault::NotSeconds { offset } | Fault::OtherSeconds { offset } => (offset, ""),
+            _ => (0, ""),
         };
         let offset = line.value_at.saturating_add(place);
         let fault = match malformed.fault {
@@ -638,14 +722,14 @@ impl<'a> Head<'a> {
                 offset: offset as u64,
                 ..refusal
             }),
+            Fault::NotSeconds { .. } => Fault::NotSeconds { offset },
+            Fault::OtherSeconds { .. } => Fault::OtherSeconds { offset },
             fault => fault,
         };
         Ok(HeadFault {
             field: copied_text(malformed.field)?,
-            fault,
-            number: line.number,
-            line: line.received,
-            offset,
+            part,
+            ..HeadFault::of_line(fault, line.number, line.received, offset)
         })
     }
 

@@ -1,7 +1,7 @@
 //! What is malformed in a head.
 
 use crate::error::write_excerpt;
-use crate::malformed::Fault;
+use crate::malformed::{Fault, DATE};
 use alloc::string::String;
 use core::fmt;
 
@@ -25,6 +25,8 @@ pub struct HeadFault<'a> {
     /// The name by which the field was looked up; empty for a line that is no field line, and for a
     /// head without its start line or its end.
     pub field: String,
+    /// The message of [`Head::add_fault`](crate::Head::add_fault); empty for other faults.
+    pub message: String,
     /// What is wrong. The offset of a refusal is one in the line.
     pub fault: Fault,
     /// The number of the line: see [`Head::set_number`](crate::Head::set_number).
@@ -32,11 +34,15 @@ pub struct HeadFault<'a> {
     /// The line as it was received: [`HeadLine::received`](crate::HeadLine::received).
     pub line: &'a [u8],
     /// The place in the line, from 0: where it is refused; for [`Fault::NotACache`], where the
-    /// member begins; for [`Fault::NotAnAge`], where the first member has a byte that is no digit,
-    /// or ends if it is empty; for [`Fault::NotAStartLine`], the CR, LF or NUL, or where the
-    /// version or the status code is missing, otherwise where it is no field line; for a missing
-    /// start line or end, 0; otherwise where the value begins.
+    /// member begins; for [`Fault::NotADate`], the part of the date that is wrong; for
+    /// [`Fault::NotSeconds`], the argument of the directive; for [`Fault::NotAnAge`], where the
+    /// first member has a byte that is no digit, or ends if it is empty; for
+    /// [`Fault::NotAStartLine`], the CR, LF or NUL, or where the version or the status code is
+    /// missing, otherwise where it is no field line; for a missing start line or end, 0; for
+    /// [`Fault::Own`], that of the program; otherwise where the value begins.
     pub offset: usize,
+    /// The part that is expected of [`Fault::NotADate`], in words that go on with a date.
+    pub(crate) part: &'static str,
 }
 
 impl<'a> HeadFault<'a> {
@@ -44,17 +50,20 @@ impl<'a> HeadFault<'a> {
     pub(crate) fn of_line(fault: Fault, number: usize, line: &'a [u8], offset: usize) -> Self {
         HeadFault {
             field: String::new(),
+            message: String::new(),
             fault,
             number,
             line,
             offset,
+            part: "",
         }
     }
 
     /// A message of three lines: the `Display` of the fault, at most so many bytes of the line
-    /// around the place, and a caret below it. So it has a bound, whatever the length of the line.
-    /// Bytes that are not printable are question marks. If there is no line to show, as for
-    /// [`Fault::NoEnd`], the message is the first of these lines alone.
+    /// around the place, with `...` at an end where more of it is left out, and a caret below the
+    /// place. So it has a bound, whatever the length of the line. Bytes that are not printable are
+    /// question marks. If there is no line to show, as for [`Fault::NoEnd`], the message is the
+    /// first of these lines alone.
     ///
     /// ```
     /// use sf::{Cache, Exchange, Head, Parser};
@@ -63,8 +72,8 @@ impl<'a> HeadFault<'a> {
     /// assert_eq!(
     ///     head.malformed()[0].excerpt(8).to_string(),
     ///     "line 1, place 6: Age: expected a number of seconds\n\
-    ///      e: 1 day\n\
-    ///      \x20   ^"
+    ///      ...e: 1 day\n\
+    ///      \x20      ^"
     /// );
     /// ```
     #[must_use]
@@ -107,6 +116,8 @@ impl fmt::Display for HeadFault<'_> {
         }
         match self.fault {
             Fault::Refused(refusal) => refusal.write_without_place(f),
+            Fault::NotADate => write!(f, "expected {}{DATE}", self.part),
+            Fault::Own => f.write_str(&self.message),
             fault => write!(f, "{fault}"),
         }
     }
@@ -134,7 +145,7 @@ impl<F: fmt::Display> fmt::Display for HeadExcerpt<'_, F> {
         write!(f, "{}", self.fault)?;
         let has_line = match self.fault.fault {
             Fault::NoEnd => false,
-            Fault::NoRequestLine | Fault::NoStatusLine => !self.fault.line.is_empty(),
+            Fault::NoRequestLine | Fault::NoStatusLine | Fault::Own => !self.fault.line.is_empty(),
             _ => true,
         };
         if !has_line {

@@ -16,6 +16,7 @@ mod kind;
 mod line;
 mod malformed;
 mod number;
+mod place;
 mod seed;
 mod text;
 
@@ -63,6 +64,8 @@ mod hop;
 #[cfg(feature = "alloc")]
 mod hop_text;
 #[cfg(feature = "alloc")]
+mod http_date;
+#[cfg(feature = "alloc")]
 mod path;
 mod policy;
 mod priority;
@@ -85,6 +88,7 @@ pub use line::{split_field_line, FieldLine};
 pub use malformed::{Fault, Malformed, StartFault};
 pub use number::{Decimal, Integer};
 pub use parser::{trim, Parser};
+pub use place::Place;
 pub use policy::{Choice, Policy, Seconds};
 pub use priority::{Priority, ResponsePriority, Urgency};
 pub use seed::Seed;

@@ -83,11 +83,12 @@ pub(crate) struct Parts<'a> {
 
 /// Splits a line without its CR and LF at the colon, or says where it is no field line, and which
 /// bytes may be there by the grammar. White space before the colon is skipped, but not in a request
-/// (RFC 9112 section 5.1); in a value only CR, LF and NUL are refused (RFC 9110 section 5.5).
+/// (RFC 9112 section 5.1) that has a colon after it; in a value only CR, LF and NUL are refused (RFC
+/// 9110 section 5.5).
 pub(crate) fn split(line: &[u8], is_request: bool) -> Result<Parts<'_>, Refusal> {
     let named = line.iter().take_while(|byte| is_tchar(**byte)).count();
     let mut at = named;
-    if named > 0 && !is_request {
+    if named > 0 && !(is_request && line[named..].contains(&b':')) {
         at += spaces_before(&line[named..]);
     }
     if named == 0 || line.get(at) != Some(&b':') {
@@ -123,6 +124,7 @@ fn refusal(line: &[u8], at: usize, may_end: bool, is_expected: impl Fn(u8) -> bo
         found: line.get(at).copied(),
         expected: allowed.fold(0, |set, byte| set | 1 << byte),
         may_end,
+        words: None,
     }
 }
 

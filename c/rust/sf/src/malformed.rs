@@ -66,6 +66,21 @@ pub enum Fault {
     NoStatusLine,
     /// A [`Head`](crate::Head) that does not end with an empty line.
     NoEnd,
+    /// `max-age`, or `s-maxage` in a shared cache, is no number of seconds, so that the response is
+    /// stale (RFC 9111 section 4.2.1).
+    NotSeconds {
+        /// Where the argument begins, in the value of the line if this is of a [`Malformed`], and
+        /// in the whole line if it is of a [`HeadFault`](crate::HeadFault); the end of the name if
+        /// there is none.
+        offset: usize,
+    },
+    /// The same, since `Cache-Control` had it before with another number.
+    OtherSeconds {
+        /// Where the argument begins, likewise.
+        offset: usize,
+    },
+    /// What the program found: see [`Head::add_fault`](crate::Head::add_fault).
+    Own,
 }
 
 /// Why a line is no start line (RFC 9112 section 2.1): the first of these that holds.
@@ -121,11 +136,11 @@ impl fmt::Display for Fault {
     fn fmt(&self, f: &mut fmt::Formatter<'_>) -> fmt::Result {
         match self {
             Fault::Refused(refusal) => refusal.fmt(f),
-            Fault::NotADate => {
-                f.pad("expected an HTTP-date, such as Sun, 06 Nov 1994 08:49:37 GMT")
-            }
+            Fault::NotADate => write!(f, "expected {DATE}"),
             Fault::Repeated => f.pad("there are several lines"),
-            Fault::NotAnAge => f.pad("expected a number of seconds"),
+            Fault::NotAnAge | Fault::NotSeconds { .. } => f.pad("expected a number of seconds"),
+            Fault::OtherSeconds { .. } => f.pad("the directive had another value before"),
+            Fault::Own => f.pad("a fault that the program found"),
             Fault::NotACache => f.pad("the member does not name a cache"),
             Fault::NotALine(refusal) => {
                 let why = line_fault(refusal).unwrap_or("it continues the line before");
@@ -141,6 +156,9 @@ impl fmt::Display for Fault {
         }
     }
 }
+
+/// What is expected of a date, in words.
+pub(crate) const DATE: &str = "an HTTP-date, such as Sun, 06 Nov 1994 08:49:37 GMT";
 
 /// Why a line is no field line, in words; `None` if it begins with white space.
 fn line_fault(refusal: &Refusal) -> Option<&'static str> {

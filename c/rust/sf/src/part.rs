@@ -155,6 +155,7 @@ impl Parser {
                 found: text.get(begins).copied(),
                 expected: 1 << b' ' | 1 << b'(',
                 may_end: false,
+                words: None,
             }));
         }
         match self.list_entry(text)? {

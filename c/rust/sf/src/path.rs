@@ -4,8 +4,8 @@ use crate::hop_text::NO_HOP;
 #[cfg(feature = "std")]
 use crate::{field_text, FieldLine};
 use crate::{
-    Dialect, Error, Forward, Forwarded, FwdStatus, Hop, Integer, Name, Outcome, Parser, Refusal,
-    Seed, StringRef, TokenRef,
+    Dialect, Error, Forward, Forwarded, FwdStatus, Hop, Integer, Name, Outcome, Parser, Place,
+    Refusal, Seed, StringRef, TokenRef,
 };
 use alloc::string::String;
 use alloc::vec::Vec;
@@ -238,7 +238,7 @@ impl Path {
 
 /// The error of a well-formed List of which a member is no Item of a String or a Token.
 pub(crate) fn not_a_cache(list: &[u8], index: usize) -> Error {
-    let offset = offset_of_member(list, index);
+    let offset = Place::index(index).offset_in(list);
     let begins_name = |byte: &u8| byte.is_ascii_alphabetic() || matches!(byte, b'"' | b'*');
     let refusal = Refusal {
         offset: offset as u64,
@@ -247,34 +247,9 @@ pub(crate) fn not_a_cache(list: &[u8], index: usize) -> Error {
             .filter(begins_name)
             .fold(0, |set, byte| set | 1 << byte),
         may_end: false,
+        words: None,
     };
     Error::NotACache { index, refusal }
-}
-
-/// The offset of a member of a well-formed List: after so many commas that are in no String and in no
-/// Display String, which has no escapes.
-fn offset_of_member(list: &[u8], index: usize) -> usize {
-    let mut commas = 0;
-    let (mut is_quoted, mut is_display, mut is_escaped) = (false, false, false);
-    let mut before = 0; // the byte before
-    let place = list.iter().position(|&byte| {
-        if commas == index && !matches!(byte, b' ' | b'\t') {
-            return true;
-        }
-        match byte {
-            _ if is_escaped => is_escaped = false,
-            b'\\' if is_quoted && !is_display => is_escaped = true,
-            b'"' => {
-                is_display = !is_quoted && before == b'%';
-                is_quoted = !is_quoted;
-            }
-            b',' if !is_quoted => commas += 1,
-            _ => {}
-        }
-        before = byte;
-        false
-    });
-    place.unwrap_or(list.len())
 }
 
 impl Parser {

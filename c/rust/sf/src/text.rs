@@ -87,6 +87,7 @@ impl Class {
             found,
             expected: if offset == 0 { self.first } else { self.next },
             may_end: found.is_some() && (offset > 0 || self.may_be_empty),
+            words: None,
         }))
     }
 }

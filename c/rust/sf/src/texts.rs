@@ -165,11 +165,31 @@ where
     D: core::borrow::Borrow<str>,
 {
     fn fmt(&self, f: &mut fmt::Formatter<'_>) -> fmt::Result {
+        pad(self.serialize(), f)
+    }
+}
+
+impl<S, B, T, D> GenericBareItem<S, B, T, D>
+where
+    S: core::borrow::Borrow<crate::StringRef>,
+    B: core::borrow::Borrow<[u8]>,
+    T: core::borrow::Borrow<crate::TokenRef>,
+    D: core::borrow::Borrow<str>,
+{
+    /// Writes its canonical text (RFC 9651 section 4.1.3.1).
+    ///
+    /// # Errors
+    ///
+    /// [`Error::OutOfMemory`] only, for which `to_string` panics, and so does `writeln!` to an
+    /// `io::Write`.
+    ///
+    /// ```
+    /// let item: sf::BareItem = "1.50".parse().unwrap();
+    /// assert_eq!(item.serialize().unwrap(), "1.5");
+    /// ```
+    pub fn serialize(&self) -> Result<String, Error> {
         let params = Parameters::new();
-        pad(
-            part(|nodes| nodes.member_item(None, self.to_ref(), &params)),
-            f,
-        )
+        part(|nodes| nodes.member_item(None, self.to_ref(), &params))
     }
 }
 

@@ -343,6 +343,11 @@ impl<'a, 't: 'a> Node<'a, 't> {
         self.index
     }
 
+    /// The members of the field that it is a part of.
+    pub(crate) fn members_of_field(&self) -> Nodes<'a, 't> {
+        self.view.members()
+    }
+
     /// Its role.
     ///
     /// ```

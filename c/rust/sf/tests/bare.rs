@@ -120,7 +120,7 @@ fn values_are_built_and_written_with_a_seed() {
         .unwrap();
     assert_eq!(
         verdict.to_string(),
-        "CDN-Cache-Control: fresh for 40 s (max-age)"
+        "CDN-Cache-Control: fresh for 40 s (max-age); may be stored"
     );
     assert_eq!(sf::field_text(head, "age").unwrap(), b"20");
 }

@@ -346,7 +346,7 @@ fn malformed_fields_are_listed() {
     assert_eq!((verdict.target, verdict.malformed.len()), (None, 1));
     assert_eq!(
         verdict.to_string(),
-        "Cache-Control: fresh for 60 s (max-age)"
+        "Cache-Control: fresh for 60 s (max-age); may be stored"
     );
 }
 
@@ -379,7 +379,7 @@ fn ages_and_dates_count() {
         (verdict.response.lifetime, verdict.response.age),
         (Some(10), 6)
     );
-    assert_eq!(verdict.to_string(), "Expires: fresh for 4 s");
+    assert_eq!(verdict.to_string(), "Expires: fresh for 4 s; may be stored");
     // A clock that was set back.
     let exchange = Exchange { now: 0, ..exchange };
     assert_eq!(decide(exchange, &[("Age", "1")]).response.age, 1);

@@ -1,7 +1,10 @@
 //! Heads of messages, and what is malformed in them.
 
-use sf::{Cache, Dialect, Dictionary, Exchange, Fault, Forward, Head, HeadFault, Hop, Item, List};
-use sf::{Obstacle, Outcome, Parser, Priority, ResponsePriority, StartFault, TokenRef, Verdict};
+use sf::Verdict;
+use sf::{Cache, Dialect, Dictionary, Exchange, Fault, Forward, Head, HeadFault, Hop, Item, Kind};
+use sf::{
+    List, Obstacle, Outcome, Parser, Place, Priority, ResponsePriority, StartFault, TokenRef,
+};
 
 fn parser() -> Parser {
     Parser::new().with_dialect(Dialect::Rfc8941)
@@ -404,8 +407,10 @@ fn what_requests_say_of_storing() {
     );
     assert_eq!(
         messages(&request, 40),
-        ["line 4, place 17: Cache-Control: byte 0x62 'b', expected `,`, a tab, a space or the end\n\
-          Cache-Control:?a b\n                 ^"]
+        [
+            "line 4, place 17: Cache-Control: byte 0x62 'b', expected `,` or the end\n\
+          Cache-Control:?a b\n                 ^"
+        ]
     );
     assert!(!request.is_incomplete());
     let words = [Obstacle::Method, Obstacle::RequestNoStore].map(Obstacle::as_str);
@@ -504,7 +509,7 @@ fn messages_are_written_in_few_parts() {
         parts
     };
     let (short, long) = (parts(0), parts(usize::MAX));
-    assert!(short.1.ends_with("\n\n^"));
+    assert!(short.1.ends_with("\n......\n   ^"));
     let expected = [
         "\n",
         &"a".repeat(1000),
@@ -521,7 +526,7 @@ fn messages_are_written_in_few_parts() {
         let shown = parts(most).1;
         let from = 1000 - most / 2;
         let expected = format!(
-            "\n{}{}\n{}^",
+            "\n...{}{}...\n   {}^",
             "a".repeat(1000 - from),
             "?".repeat(most - (1000 - from)),
             " ".repeat(1000 - from)
@@ -597,10 +602,380 @@ fn words_of_lines() {
     let mut head = Head::new(parser());
     head.add_line("GET / HTTP/1.1").unwrap();
     head.add_line("Age : 1").unwrap();
+    for (line, place, why) in [
+        ("Foo bar", 4, no_colon),
+        ("Foo \t ", 6, no_colon),
+        ("Foo", 3, no_colon),
+        ("Foo bar: x", 3, "white space after the name"),
+    ] {
+        head.add_line(line).unwrap();
+        let shown = head.malformed().last().unwrap().to_string();
+        let number = head.malformed().len() + 1;
+        assert_eq!(
+            shown,
+            format!("line {number}, place {place}: not a field line: {why}")
+        );
+    }
     assert_eq!(
         head.malformed()[0].to_string(),
         "line 2, place 3: not a field line: white space after the name"
     );
+}
+
+/// Where a date is malformed, in each of its formats (RFC 9110 section 5.6.7).
+#[test]
+fn parts_of_dates() {
+    let unreal = "a day from 1970 on and its weekday in ";
+    for (value, place, part) in [
+        ("0", 0, ""),
+        ("", 0, ""),
+        ("sun, 06 Nov 1994 08:49:37 GMT", 0, ""),
+        ("Sun", 3, "a comma in "),
+        ("Sun 06 Nov 1994 08:49:37 GMT", 3, "a comma in "),
+        ("Sun,06 Nov 1994 08:49:37 GMT", 4, "a space in "),
+        ("Sun, 6 Nov 1994 08:49:37 GMT", 5, "the day in "),
+        ("Sun, 32 Nov 1994 08:49:37 GMT", 5, "the day in "),
+        ("Sun, 06-Nov-1994 08:49:37 GMT", 7, "a space in "),
+        ("Sun, 06 nov 1994 08:49:37 GMT", 8, "the month in "),
+        ("Sun, 06 Nov 94 08:49:37 GMT", 12, "the year in "),
+        ("Sun, 06 Nov 1994 8:49:37 GMT", 17, "the time in "),
+        ("Sun, 06 Nov 1994 24:00:00 GMT", 17, "the time in "),
+        ("Sun, 06 Nov 1994 08:49:60 GMT", 17, "the time in "),
+        ("Sun, 06 Nov 1994 08:49 GMT", 17, "the time in "),
+        ("Sun, 06 Nov 1994 08:49:37", 25, "a space in "),
+        ("Sun, 06 Nov 1994 08:49:37 UTC", 26, "GMT in "),
+        ("Sun, 06 Nov 1994 08:49:37 GMT+1", 29, "the end of "),
+        ("Mon, 06 Nov 1994 08:49:37 GMT", 0, unreal),
+        ("Fri, 31 Feb 1995 08:49:37 GMT", 0, unreal),
+        ("Wed, 31 Dec 1969 23:59:59 GMT", 0, unreal),
+        ("Sunday 06-Nov-94 08:49:37 GMT", 6, "a comma in "),
+        ("Sunday, 06 Nov 1994 08:49:37 GMT", 10, "a hyphen in "),
+        ("Sunday, 06-Nov-9 08:49:37 GMT", 15, "the year in "),
+        ("Sun Nov 6 08:49:37 1994", 8, "the day in "),
+        ("Sun Nov 06 08:49:37 1994", 8, "the day in "),
+        ("Sun Nov  6 08:49:37 94", 20, "the year in "),
+        ("Sun Nov  6 08:49:37 1994 GMT", 24, "the end of "),
+        ("Sun \u{e9}", 4, "the month in "),
+    ] {
+        let text = format!("Expires: \t{value}\n\n");
+        let mut head = Head::parse(parser(), &text).unwrap();
+        let exchange = Exchange::at(Cache::Shared, 784_111_777);
+        let verdict = head.decide(&exchange, &[]).unwrap();
+        let date = "an HTTP-date, such as Sun, 06 Nov 1994 08:49:37 GMT";
+        assert_eq!(
+            head.malformed()[0].to_string(),
+            format!(
+                "line 1, place {}: Expires: expected {part}{date}",
+                10 + place
+            )
+        );
+        let alone = verdict.malformed[0].to_string();
+        assert_eq!(alone, format!("Expires: expected {date}"));
+    }
+}
+
+/// Lifetimes that are no numbers of seconds, and where (RFC 9111 sections 1.2.2, 4.2.1 and 5.2.2.1).
+/// `c/tests/few_arguments.c` has the same rows.
+#[test]
+fn numbers_of_seconds() {
+    let none = None;
+    for (text, shared, private, number, is_other) in [
+        (
+            r#"Cache-Control: max-age=60, s-maxage="6\0""#,
+            none,
+            none,
+            0,
+            false,
+        ),
+        ("Cache-Control: max-age=6o", Some(23), Some(23), 1, false),
+        (
+            r#"Cache-Control: a="max-age=x", Max-Age"#,
+            Some(37),
+            Some(37),
+            1,
+            false,
+        ),
+        (r#"Cache-Control: max-age="""#, Some(23), Some(23), 1, false),
+        (
+            r#"Cache-Control: max-age="6\o""#,
+            Some(23),
+            Some(23),
+            1,
+            false,
+        ),
+        (
+            "Cache-Control: max-age=-1 , public",
+            Some(23),
+            Some(23),
+            1,
+            false,
+        ),
+        (
+            "Cache-Control: max-age=60\nX: y\n\
+             cache-control: public,, max-age=\"60\", max-age=061",
+            Some(46),
+            Some(46),
+            3,
+            true,
+        ),
+        (
+            "Cache-Control: max-age=99999999999, max-age=99999999998",
+            none,
+            none,
+            0,
+            false,
+        ),
+        (
+            "Cache-Control: s-maxage=x, max-age=60",
+            Some(24),
+            none,
+            1,
+            false,
+        ),
+        (
+            "Cache-Control: s-maxage=60, max-age=x",
+            none,
+            Some(36),
+            1,
+            false,
+        ),
+        (
+            "Cache-Control: max-age=x, must-revalidate",
+            Some(23),
+            Some(23),
+            1,
+            false,
+        ),
+        ("Cache-Control: max-age=x, no-store", none, none, 0, false),
+        ("Cache-Control: max-age=x, no-cache", none, none, 0, false),
+        (
+            "Cache-Control: max-age=x, private",
+            none,
+            Some(23),
+            1,
+            false,
+        ),
+        ("T: max-age=1.5", Some(11), Some(11), 1, false),
+        (r#"T: a="max-age=1", max-age"#, Some(25), Some(25), 1, false),
+        (
+            "T: a=(max-age)\nT: b;max-age=1, max-age=\"60\"",
+            Some(24),
+            Some(24),
+            2,
+            false,
+        ),
+        ("T: max-age=5\nT: max-age=-5", Some(11), Some(11), 2, false),
+        ("T: max-age=-5\nT: max-age=5", none, none, 0, false),
+        ("T: s-maxage=?0, max-age=6", Some(12), none, 1, false),
+        ("T: max-age=a, no-cache", none, none, 0, false),
+    ] {
+        for (cache, place) in [(Cache::Shared, shared), (Cache::Private, private)] {
+            let text = format!("{text}\n\n");
+            let mut head = Head::parse(parser(), &text).unwrap();
+            let exchange = Exchange::at(cache, 784_111_777);
+            let verdict = head.decide(&exchange, &["T"]).unwrap();
+            assert_eq!(head.decide(&exchange, &["T"]).unwrap(), verdict);
+            let found: Vec<_> = head
+                .malformed()
+                .iter()
+                .map(|one| (one.number, one.offset, one.fault))
+                .collect();
+            let expected = place.map(|offset| {
+                let fault = if is_other {
+                    Fault::OtherSeconds { offset }
+                } else {
+                    Fault::NotSeconds { offset }
+                };
+                (number, offset, fault)
+            });
+            assert_eq!(found, Vec::from_iter(expected), "{text}");
+            // In the value of a line of other heads, with the white space before it.
+            let lines = [(" T", "\t max-age=1.5"), ("X", "y")];
+            let verdict = parser().decide(&exchange, &["T"], lines).unwrap();
+            let fault = verdict.malformed[0].fault;
+            assert_eq!(fault, Fault::NotSeconds { offset: 10 });
+            assert_eq!(verdict.malformed[0].line, 0);
+        }
+    }
+    let words = [
+        Fault::NotSeconds { offset: 0 },
+        Fault::OtherSeconds { offset: 0 },
+    ];
+    assert_eq!(
+        words.map(|fault| fault.to_string()),
+        [
+            "expected a number of seconds",
+            "the directive had another value before"
+        ]
+    );
+}
+
+/// What is expected in a line of `Cache-Control`.
+#[test]
+fn words_of_directives() {
+    for (line, expected) in [
+        ("a b", "byte 0x62 'b', expected `,` or the end"),
+        ("a=\"b\"c", "byte 0x63 'c', expected `,` or the end"),
+        ("a=", "the text ended, expected a token or a quoted-string"),
+        ("a==", "byte 0x3d '=', expected a token or a quoted-string"),
+        ("=a", "byte 0x3d '=', expected a directive"),
+        ("a, =", "byte 0x3d '=', expected a directive"),
+        (
+            "a\"",
+            "byte 0x22 '\"', expected a token character, `=`, `,` or the end",
+        ),
+        (
+            "a=b\"",
+            "byte 0x22 '\"', expected a token character, `,` or the end",
+        ),
+        (
+            "a=\"b",
+            "the text ended, expected the rest of a quoted-string",
+        ),
+        (
+            "a=\"\\",
+            "the text ended, expected the rest of a quoted-string",
+        ),
+        (
+            "a=\"\x01\"",
+            "byte 0x01, expected the rest of a quoted-string",
+        ),
+    ] {
+        let mut head = Head::new(parser());
+        head.add_field("Cache-Control", line).unwrap();
+        let exchange = Exchange::at(Cache::Shared, 784_111_777);
+        let verdict = head.decide(&exchange, &[]).unwrap();
+        let shown = head.malformed()[0].to_string();
+        assert!(
+            shown.ends_with(&format!(": Cache-Control: {expected}")),
+            "{shown}"
+        );
+        // The same with the place, in other messages.
+        let (found, words) = expected.split_once(", ").unwrap();
+        let shown = verdict.malformed[0].to_string();
+        assert!(shown.starts_with(&format!("Cache-Control: {found} at place ")));
+        assert!(shown.ends_with(&format!(", {words}")), "{shown}");
+    }
+}
+
+/// Where nodes begin in the text of their field. `c/tests/few_arguments.c` has the same rows.
+#[test]
+fn places_of_nodes() {
+    let rows: [(Kind, &str, &[usize]); 7] = [
+        (Kind::Item, "  7;a;b=1", &[2, 4, 6]),
+        (
+            Kind::List,
+            "a;x,(b  \"),;\\\"(\";y;z=\":\" 1.5);w ,\t:YQ==:, ?0;  k",
+            &[0, 2, 4, 5, 8, 17, 19, 25, 30, 34, 42, 47],
+        ),
+        (
+            Kind::List,
+            "%\"\\%22,\", (%\"(\" @7);a, -1",
+            &[0, 10, 11, 16, 20, 23],
+        ),
+        (
+            Kind::Dict,
+            "a=1, b;x;y=2,c=(d e;f);g",
+            &[0, 5, 7, 9, 13, 16, 18, 20, 23],
+        ),
+        (Kind::Dict, "b1=(a;q=*:/),b", &[0, 4, 6, 13]),
+        // The last of a key that is repeated counts.
+        (
+            Kind::Dict,
+            "a=1, b=2;x;x=3, a=(1 2);q, a=(\"b\" c;y=1;y);z;z",
+            &[27, 30, 34, 40, 45, 5, 11],
+        ),
+        (
+            Kind::Dict,
+            "sig=(\"a\" \"b\";p);q, sig=(\"a\";p \"b\";p);q;q",
+            &[19, 24, 28, 30, 34, 39],
+        ),
+    ];
+    fn offsets(nodes: sf::Nodes<'_, '_>, text: &str, found: &mut Vec<usize>) {
+        for node in nodes {
+            found.push(node.place().offset_in(text));
+            offsets(node.children(), text, found);
+        }
+    }
+    for (kind, text, expected) in rows {
+        let tree = Parser::new().tree(kind, text).unwrap();
+        let mut found = Vec::new();
+        offsets(tree.members(), text, &mut found);
+        assert_eq!(found, expected, "{text}");
+    }
+    // Any text, and any place.
+    for text in [
+        "", " ", "(", "a=(", "a=", "\"", ":", "%", "a;", "(a;", "a,", "(,", "\"\\", "a=%",
+    ] {
+        for place in [Place::member("a"), Place::index(1), Place::from(7)] {
+            for place in [
+                place,
+                place.item(0),
+                place.item(usize::MAX),
+                place.param("x"),
+            ] {
+                assert!(place.offset_in(text) <= 7);
+            }
+        }
+    }
+}
+
+/// Faults that a program finds.
+#[test]
+fn faults_of_programs() {
+    let text = "GET / HTTP/1.1\r\nSignature-Input:  a=(\"@path\");created=1, b=1\r\nHost: x\r\n\
+                signature-input: c;created=\"7\", d=()\r\n\r\n";
+    let name = "Signature-Input";
+    let mut head = Head::parse_request(parser(), text).unwrap();
+    let field: Dictionary = head.field(name).unwrap().unwrap();
+    for (key, _) in field.iter().filter(|(_, it)| it.as_inner_list().is_none()) {
+        head.add_fault(name, key, "not an Inner List").unwrap();
+        head.add_fault(name, key.as_str(), "not an Inner List")
+            .unwrap(); // once
+    }
+    assert_eq!(
+        head.malformed()[0].excerpt_in("a.txt", 80).to_string(),
+        "a.txt, line 2, place 41: Signature-Input: not an Inner List\n\
+         Signature-Input:  a=(\"@path\");created=1, b=1\n\
+         \x20                                        ^"
+    );
+    assert_eq!(
+        messages(&head, 8)[1],
+        "line 4, place 17: Signature-Input: not an Inner List\n...ut: c;cr...\n       ^"
+    );
+    assert_eq!(head.malformed()[1].fault, Fault::Own);
+    assert_eq!(head.malformed()[1].message, "not an Inner List");
+    let (line, place) = head
+        .locate(name, Place::member("c").param("created"))
+        .unwrap()
+        .unwrap();
+    assert_eq!((line, place), (head.lines()[2], 19));
+    // Another message at a place, other fields, an offset after all lines, no field, no name.
+    head.add_fault(name, "c", "not signed").unwrap();
+    head.add_fault("Host", 0, "an unknown host").unwrap();
+    head.add_fault("host", usize::MAX, "no port").unwrap();
+    head.add_fault("Signature", 5, "it is missing").unwrap();
+    head.add_fault("", 0, &format!("{} more", 1)).unwrap();
+    assert_eq!(
+        messages(&head, 80)[1..],
+        [
+            "line 3, place 6: Host: an unknown host\nHost: x\n      ^",
+            "line 3, place 7: host: no port\nHost: x\n       ^",
+            "line 4, place 17: Signature-Input: not an Inner List\n\
+             signature-input: c;created=\"7\", d=()\n                 ^",
+            "line 4, place 17: Signature-Input: not signed\n\
+             signature-input: c;created=\"7\", d=()\n                 ^",
+            "line 5, place 0: Signature: it is missing",
+            "line 5, place 0: 1 more",
+        ]
+    );
+    assert_eq!(head.locate("Signature", 5).unwrap(), None);
+    // Without lines; the faults outlive the head.
+    let mut head = Head::new(parser());
+    head.add_fault("A", "a", "b").unwrap();
+    let faults = head.malformed().to_vec();
+    drop(head);
+    assert_eq!(faults[0].to_string(), "line 1, place 0: A: b");
 }
 
 /// A request line whose target has a colon is no field line, and an empty line whose LF is missing
@@ -804,15 +1179,15 @@ fn faults_of_decisions() {
             &[
                 "line 1, place 10: Expires: expected an HTTP-date, such as Sun, 06 Nov 1994 \
                  08:49:37 GMT\nExpires:  0 \n          ^",
-                "line 2, place 6: Date: expected an HTTP-date, such as Sun, 06 Nov 1994 08:49:37 \
-                 GMT\nDate: Sun\n      ^",
+                "line 2, place 9: Date: expected a comma in an HTTP-date, such as Sun, 06 Nov 1994 \
+                 08:49:37 GMT\nDate: Sun\n         ^",
             ],
         ),
         (
             "Expires: Sun, 06 Nov 1994 08:49:37 GMT\nExpires: Sun, 06 Nov 1994 08:49:37 GMT\n\
              expires: x\n",
             &["line 2, place 9: Expires: there are several lines\n\
-               Expires: Sun, 06 Nov 1994 \n         ^"],
+               Expires: Sun, 06 Nov 1994 ...\n         ^"],
         ),
         (
             "Date: x\nExpires: Sun, 06 Nov 1994 08:49:37 GMT\n\
@@ -821,13 +1196,13 @@ fn faults_of_decisions() {
                 "line 1, place 6: Date: expected an HTTP-date, such as Sun, 06 Nov 1994 08:49:37 \
                  GMT\nDate: x\n      ^",
                 "line 3, place 6: Date: there are several lines\n\
-                 Date: Sun, 06 Nov 1994 08:\n      ^",
+                 Date: Sun, 06 Nov 1994 08:...\n      ^",
             ],
         ),
         (
             "Cache-Control: a b\nCache-Control: c d\n",
-            &["line 1, place 17: Cache-Control: byte 0x62 'b', expected `,`, a tab, a space or the \
-               end\nCache-Control: a b\n                 ^"],
+            &["line 1, place 17: Cache-Control: byte 0x62 'b', expected `,` or the end\n\
+               Cache-Control: a b\n                 ^"],
         ),
     ];
     let exchange = Exchange::at(Cache::Shared, 784_111_777).with_status(200);
@@ -894,20 +1269,23 @@ fn obstacles() {
     );
     // Without a field, and with a malformed one, of which the directives count as `no-store`.
     for (text, shown) in [
-        ("HTTP/1.1 200\n\n", "unspecified"),
+        ("HTTP/1.1 200\n\n", "no lifetime set; may be stored"),
         (
             "HTTP/1.1 500\n\n",
-            "unspecified; not stored: nothing permits it",
+            "no lifetime set; not stored: nothing permits it",
         ),
         (
             "HTTP/1.1 200\nCache-Control:\n\n",
-            "Cache-Control: unspecified",
+            "Cache-Control: no lifetime set; may be stored",
         ),
         (
             "HTTP/1.1 200\nCache-Control: a b\n\n",
             "Cache-Control: not stored (malformed)",
         ),
-        ("HTTP/1.1 200\nExpires: 0\n\n", "Expires: stale"),
+        (
+            "HTTP/1.1 200\nExpires: 0\n\n",
+            "Expires: stale; may be stored",
+        ),
     ] {
         let mut head = Head::parse(parser(), text).unwrap();
         assert_eq!(head.decide(&exchange, &[]).unwrap().to_string(), shown);
@@ -949,13 +1327,15 @@ fn obstacles_of_requests_and_directives() {
     let had = "; not stored: the request had Authorization";
     let barred = "; not stored: the head of the request is incomplete";
     let fresh = "Cache-Control: fresh for 60 s (max-age)";
+    let unset = "no lifetime set";
+    let may = "; may be stored";
     let malformed = "Cache-Control: not stored (malformed)";
     for (request, response, shared, private) in [
         (
             complete,
             "Cache-Control: max-age=60\n",
-            [fresh, ""],
-            [fresh, ""],
+            [fresh, may],
+            [fresh, may],
         ),
         (
             cut_off,
@@ -973,7 +1353,7 @@ fn obstacles_of_requests_and_directives() {
             "GET / HTTP/1.1\nAge: 1\nauthorization: a\n\n",
             "Cache-Control: max-age=60\n",
             [fresh, had],
-            [fresh, ""],
+            [fresh, may],
         ),
         (
             authorized,
@@ -987,12 +1367,7 @@ fn obstacles_of_requests_and_directives() {
             [fresh, barred],
             [fresh, barred],
         ),
-        (
-            cut_off,
-            "",
-            ["unspecified", barred],
-            ["unspecified", barred],
-        ),
+        (cut_off, "", [unset, barred], [unset, barred]),
         (
             cut_off,
             "Cache-Control: a b\n",
@@ -1002,8 +1377,8 @@ fn obstacles_of_requests_and_directives() {
         (
             cut_off,
             "Age 1\n",
-            ["unspecified", "; not stored: the head is incomplete"],
-            ["unspecified", "; not stored: the head is incomplete"],
+            [unset, "; not stored: the head is incomplete"],
+            [unset, "; not stored: the head is incomplete"],
         ),
     ] {
         assert_eq!(decide(Cache::Shared, request, response), shared.concat());
@@ -1130,14 +1505,14 @@ fn files_are_named() {
         ]
     );
     assert!(shown("", 40)[1].starts_with(", line 3, place 4: not a field line: "));
-    assert!(shown("\u{e9}\0", 0)[1].ends_with("after the name\n\n^"));
+    assert!(shown("\u{e9}\0", 0)[1].ends_with("after the name\n......\n   ^"));
     // Any name that can be written, and the same message without one.
     let fault = &head.malformed()[1];
     let path = std::path::Path::new("a").join("b c");
     let message = fault.excerpt(3).to_string();
     assert_eq!(
         message,
-        "line 3, place 4: not a field line: no colon after the name\ne 1\n  ^"
+        "line 3, place 4: not a field line: no colon after the name\n...e 1\n     ^"
     );
     assert_eq!(
         fault.excerpt_in(path.display(), 3).to_string(),

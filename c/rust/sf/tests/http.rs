@@ -162,7 +162,10 @@ fn a_head_is_decided_about() {
     }
     let verdict = exchange.decide_in(Dialect::Rfc8941, &targets, &head(&lines));
     let verdict = verdict.unwrap();
-    assert_eq!(verdict.to_string(), "Expires: fresh for 40 s");
+    assert_eq!(
+        verdict.to_string(),
+        "Expires: fresh for 40 s; may be stored"
+    );
     assert_eq!(verdict.malformed.len(), 2);
     let two = head(&[("priority", "u=1"), ("priority", " i")]);
     assert_eq!(sf::field_text(&two, "Priority").unwrap(), b"u=1, i");

@@ -123,9 +123,18 @@ fn excerpts_of_lines() {
     assert_eq!(shown(5, 20), head(4) + "line 1, place 4:\na, b\n    ^");
     let ended = |place| format!("the text ended at place {place}, expected a space\n");
     assert_eq!(shown(6, 20), ended(0) + "line 2, place 0:\n\n^");
-    assert_eq!(shown(15, 4), head(7) + "line 3, place 7:\n e, \n  ^");
-    assert_eq!(shown(99, 4), head(10) + "line 3, place 10:\ne, f\n    ^");
-    assert_eq!(shown(u64::MAX, 0), head(10) + "line 3, place 10:\n\n^");
+    assert_eq!(
+        shown(15, 4),
+        head(7) + "line 3, place 7:\n... e, ...\n     ^"
+    );
+    assert_eq!(
+        shown(99, 4),
+        head(10) + "line 3, place 10:\n...e, f\n       ^"
+    );
+    assert_eq!(
+        shown(u64::MAX, 0),
+        head(10) + "line 3, place 10:\n...\n   ^"
+    );
     let none: [&str; 0] = [];
     let shown = refusal.excerpt_of_line(&none, 4).to_string();
     assert_eq!(shown, ended(0) + "line 1, place 0:\n\n^");
