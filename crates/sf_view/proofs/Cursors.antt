@@ -46,6 +46,12 @@ less_left text prefix after (Some rest) e n =
     let c = length-append n.behind rest in
     omega arith
 
+-- members up to a start: whatever remains there, the text spells all
+pub record DoneSoFar {X : Type 0} (P : List ℕ → X → Type 0) (text : List ℕ)
+    (start : Option (List ℕ)) : Type 0 where
+  pub done : List X
+  pub reached : (xs : List X) → Remains P start xs → SpellsWhole P text (done ++ xs)
+
 module _ {X : Type 0} (P : List ℕ → X → Type 0) where
   -- the members that remain at the start are those of the whole text
   pub whole_remains : (text : List ℕ) (start : Option (List ℕ)) (xs : List X) → IsFirst text start
@@ -94,25 +100,26 @@ module _ {X : Type 0} (P : List ℕ → X → Type 0) where
         w,
       )
 
-  -- whatever remains, the whole text spells it after some members
-  abbrev pub IsReached : List ℕ → Option (List ℕ) → Type 0
-  IsReached text start = (xs : List X) → Remains P start xs → (ys : List X) × SpellsWhole P text ys
+  unfoldable pub done_none : (text : List ℕ) (start : Option (List ℕ)) → IsFirst text start
+      → DoneSoFar P text start
+  done_none text start s =
+      record { done = []; reached = λ xs r. whole_remains text start xs s r }
 
-  pub reached_first : (text : List ℕ) (start : Option (List ℕ)) → IsFirst text start
-      → IsReached text start
-  reached_first text start s xs r = (xs, whole_remains text start xs s r)
+  unfoldable pub done_more : (text rest f after : List ℕ) (start : Option (List ℕ)) (x : X)
+      → DoneSoFar P text (Some rest) → rest ≡ f ++ after → P f x → IsNext after start
+      → DoneSoFar P text start
+  done_more text rest f after start x s e h n = record {
+    done = s.done ++ x ∷ [];
+    reached = λ xs r.
+        subst (SpellsWhole P text) (sym (append_assoc s.done (x ∷ []) xs))
+        (s.reached (x ∷ xs) (remains_then rest f after start x xs e h n r));
+  }
 
-  pub reached_next : (text rest f after : List ℕ) (start : Option (List ℕ)) (x : X)
-      → IsReached text (Some rest) → rest ≡ f ++ after → P f x → IsNext after start
-      → IsReached text start
-  reached_next text rest f after start x g e h n xs r =
-      g (x ∷ xs) (remains_then rest f after start x xs e h n r)
-
-  pub reached_end : (text : List ℕ) → IsReached text None → (ys : List X) × SpellsWhole P text ys
-  reached_end text g = g [] refl
+  pub done_all : (text : List ℕ) (s : DoneSoFar P text None) → SpellsWhole P text s.done
+  done_all text s = subst (SpellsWhole P text) (append-nil s.done) (s.reached [] refl)
 
 -- fields
-pub item_only : (d : Dialect) (text start rest left : List ℕ) → Skips is_sp text start
+unfoldable pub item_only : (d : Dialect) (text start rest left : List ℕ) → Skips is_sp text start
     → Reads (SpellsItem d) start rest → Skips is_sp rest left → left ≡ []
     → (v : Field) × IsOnly d kind.Item text v
 item_only d text start rest left b r a n = (
@@ -128,16 +135,13 @@ item_only d text start rest left b r a n = (
   ),
 )
 
-pub list_only : (d : Dialect) (text : List ℕ) → IsReached (SpellsMember d) text None
-    → (v : Field) × IsOnly d kind.List text v
-list_only d text g =
-    let all = reached_end (SpellsMember d) text g in
-    (list_of all.0, only_of d kind.List text (list_of all.0) all.1)
+pub list_only : (d : Dialect) (text : List ℕ) (s : DoneSoFar (SpellsMember d) text None)
+    → IsOnly d kind.List text (list_of s.done)
+list_only d text s =
+    only_of d kind.List text (list_of s.done) (done_all (SpellsMember d) text s)
 
-pub dict_only : (d : Dialect) (text : List ℕ) → IsReached (SpellsEntry d) text None
-    → (v : Field) × IsOnly d kind.Dict text v
-dict_only d text g =
-    let all = reached_end (SpellsEntry d) text g in (
-      dict_of (settle all.0),
-      only_of d kind.Dict text (dict_of (settle all.0)) (all.0, refl, all.1),
-    )
+pub dict_only : (d : Dialect) (text : List ℕ) (s : DoneSoFar (SpellsEntry d) text None)
+    → IsOnly d kind.Dict text (dict_of (settle s.done))
+dict_only d text s =
+    only_of d kind.Dict text (dict_of (settle s.done))
+    (s.done, refl, done_all (SpellsEntry d) text s)

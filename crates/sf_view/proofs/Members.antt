@@ -35,7 +35,7 @@ use Rattle.sf_view.specs.Marks.{mark_of, HaveMarks}
 use Rattle.sf_view.specs.Accepts.{Accepts, SoFar, DescribesMarked, AreEntries}
 use Rattle.sf_view.specs.Settling.{IsRaw, HasParts}
 use Rattle.sf_view.proofs.KeyMarks.{keys_push}
-use Rattle.sf_view.proofs.Putting.{puts_none, puts_then, puts_after}
+use Rattle.sf_view.proofs.Putting.{puts_none, puts_then}
 
 module _ {X : Type 0} (P : List ℕ → X → Type 0) where
   commas_push : (t before behind g : List ℕ) (xs : List X) (y : X) → SpellsCommas P t xs
@@ -506,37 +506,6 @@ parts_raw d k text new count r w raw = record {
   within = w;
   described = λ e. absurd (let z : true ≡ false = sym r ∙ e in cc);
   raw = λ e. raw;
-}
-
--- a member that is put after the first nodes
-pub member_put : (d : Dialect) (text rest after : List ℕ) (place : KeyPlace)
-    (old front back new : List Node) (at count : ℕ) → old ≡ front ++ back → length front ≡ at
-    → ScansMember d text rest after place back new 0 count
-    → ScansMember d text rest after place old (front ++ new) at (at + count)
-member_put d text rest after place old front back new at count e l m = record {
-  prefix = m.prefix;
-  value = m.value;
-  nodes = m.nodes;
-  split = m.split;
-  spelled = m.spelled;
-  puts = puts_after old front back new at count m.nodes e l m.puts;
-  describes = m.describes;
-}
-
-pub entry_put : (d : Dialect) (text rest after : List ℕ) (mark : ℕ)
-    (old front back new : List Node) (at count : ℕ) → old ≡ front ++ back → length front ≡ at
-    → ScansEntry d text rest after mark back new 0 count
-    → ScansEntry d text rest after mark old (front ++ new) at (at + count)
-entry_put d text rest after mark old front back new at count e l m = record {
-  prefix = m.prefix;
-  key = m.key;
-  value = m.value;
-  nodes = m.nodes;
-  split = m.split;
-  spelled = m.spelled;
-  puts = puts_after old front back new at count m.nodes e l m.puts;
-  describes = m.describes;
-  mark = m.mark;
 }
 
 -- the members so far, settled

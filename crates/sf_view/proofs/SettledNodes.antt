@@ -3,7 +3,7 @@ use Rattle.std.proofs.Common.{◌≡◌, ◌≢◌, ℕ, zero, suc, ◌+◌, ◌
 use Rattle.std.proofs.Common.{if◌then◌else◌, ◌∷◌, ◌++◌, length, take, drop, get_or, set, refl, sym, ap, ◌∙◌, subst}
 use Rattle.std.proofs.Common.{arith, append_assoc, append-nil, length-append, ⊎_elim}
 use Rattle.std.proofs.Common.{length-take, max}
-use Rattle.std.proofs.lemmas.Bool.{cases_lt}
+use Rattle.std.proofs.lemmas.Bool.{cases_eq, cases_lt}
 use Rattle.std.proofs.lemmas.Grind.{get_or-set_at}
 use Rattle.std.proofs.lemmas.List.{get_or-set_other, get_or_append_left, length-set, take_more_set, take_more}
 use Rattle.std.proofs.Math.Seq.{get_or-append_seam, take-set-lt}
@@ -25,7 +25,6 @@ use Rattle.sf_view.specs.Settling.{first_part, first_key_of, run_from, key_from,
 use Rattle.sf_view.specs.Settling.{RunsDescribe, IsPlace, HoldsPlace, HoldsPlaces, IsIndex}
 use Rattle.sf_view.specs.Scans.{Puts}
 use Rattle.sf_view.proofs.Putting.{puts_then}
-use Rattle.sf_view.proofs.KeyMarks.{same_or_other}
 use Rattle.sf_view.proofs.Hops.{Opens, opens, hopped, none_left, some_hop}
 
 -- one more pair: a new key goes last, and a later value takes the place of the earlier one
@@ -283,7 +282,7 @@ index_more source nodes old new order next k p s index same kept entered is own 
         (λ e.
         subst (λ y. HoldsPlace new (tag_of (key_from source nodes y)) i)
         (sym (get_or-set_other order p i s 0 e)) (still i u))
-        (same_or_other i p))
+        (cases_eq i p))
 
     added : length order ≤ p → HoldsPlaces source nodes new next
     added w i v =

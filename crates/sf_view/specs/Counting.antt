@@ -1,12 +1,10 @@
 -- How many nodes and bytes the value of a text has, or of the start of a text up to the rest.
-use Rattle.std.specs.Prelude.{◌≡◌, ℕ, ◌+◌, List, [], ◌∷◌, ◌++◌, length}
+use Rattle.std.specs.Prelude.{◌≡◌, ℕ, ◌+◌, List, [], ◌∷◌, length}
 use Rattle.sf_value.specs.Ascii.{close_bracket}
 use Rattle.sf_value.specs.declared.dialect.Dialect.{Dialect}
 use Rattle.sf_value.specs.declared.value.Field.{Field}
 use Rattle.sf_value.specs.declared.value.Inner.{Inner}
-use Rattle.sf_value.specs.declared.value.Item.{Item}
 use Rattle.sf_value.specs.declared.value.Kind.{Kind}
-use Rattle.sf_value.specs.declared.value.Member.{Member}
 use Rattle.sf_value.specs.Grammar.Pairs.{Pairs}
 use Rattle.sf_value.specs.Grammar.Parameters.{SpellsParams}
 use Rattle.sf_value.specs.Grammar.Items.{SpellsItem}
@@ -14,6 +12,7 @@ use Rattle.sf_value.specs.Grammar.InnerLists.{SpellsInner, SpellsItems, SpellsMe
 use Rattle.sf_value.specs.Grammar.Fields.{SpellsEntry}
 use Rattle.sf_parse.specs.Parsers.{IsOnly}
 use Rattle.sf_view.specs.declared.counting.Counts.{Counts}
+use Rattle.sf_view.specs.Reads.{Reads}
 use Rattle.sf_view.specs.NodeCounts.{item_nodes, items_nodes, member_nodes, field_nodes}
 use Rattle.sf_view.specs.NodeCounts.{params_bytes, item_bytes, items_bytes, member_bytes, field_bytes}
 
@@ -27,12 +26,9 @@ pub record HasCounts (d : Dialect) (kind : Kind) (t : List ℕ) (c : Counts) : T
 -- the start of the text, up to the rest, spells something as P says that has n nodes and b bytes
 pub record CountsPart {X : Type 0} (P : List ℕ → X → Type 0) (nodes_of bytes_of : X → ℕ)
     (text rest : List ℕ) (n b : ℕ) : Type 0 where
-  pub prefix : List ℕ
-  pub value : X
-  pub split : text ≡ prefix ++ rest
-  pub spelled : P prefix value
-  pub nodes : n ≡ nodes_of value
-  pub bytes : b ≡ bytes_of value
+  pub reads : Reads P text rest
+  pub nodes : n ≡ nodes_of reads.value
+  pub bytes : b ≡ bytes_of reads.value
 
 -- parameters
 abbrev pub CountsParams : Dialect → List ℕ → List ℕ → ℕ → ℕ → Type 0
@@ -58,22 +54,14 @@ abbrev pub CountsMember : Dialect → List ℕ → List ℕ → ℕ → ℕ → 
 CountsMember d = CountsPart (SpellsMember d) member_nodes member_bytes
 
 -- the Items of an Inner List, after at least this many spaces, and a closing bracket follows
-pub record CountsItems (d : Dialect) (least : ℕ) (text rest : List ℕ) (n b : ℕ) : Type 0 where
-  pub prefix : List ℕ
-  pub items : List Item
-  pub split : text ≡ prefix ++ close_bracket ∷ rest
-  pub spelled : SpellsItems d least prefix items
-  pub nodes : n ≡ items_nodes items
-  pub bytes : b ≡ items_bytes items
+abbrev pub CountsItems : Dialect → ℕ → List ℕ → List ℕ → ℕ → ℕ → Type 0
+CountsItems d least text rest =
+    CountsPart (SpellsItems d least) items_nodes items_bytes text (close_bracket ∷ rest)
 
 -- a member of a Dictionary with this key, whose value has so many nodes and bytes
-pub record CountsEntry (d : Dialect) (text key rest : List ℕ) (n b : ℕ) : Type 0 where
-  pub prefix : List ℕ
-  pub value : Member
-  pub split : text ≡ prefix ++ rest
-  pub spelled : SpellsEntry d prefix (key, value)
-  pub nodes : n ≡ member_nodes value
-  pub bytes : b ≡ member_bytes value
+abbrev pub CountsEntry : Dialect → List ℕ → List ℕ → List ℕ → ℕ → ℕ → Type 0
+CountsEntry d text key =
+    CountsPart (λ t m. SpellsEntry d t (key, m)) member_nodes member_bytes text
 
 -- the nodes that are kept at keys, together, and the bytes with those of the keys
 abbrev pub sum_nodes : Pairs Counts → ℕ
@@ -83,3 +71,7 @@ sum_nodes (p ∷ ps) = p.1.nodes + sum_nodes ps
 abbrev pub sum_bytes : Pairs Counts → ℕ
 sum_bytes [] = 0
 sum_bytes (p ∷ ps) = length p.0 + p.1.bytes + sum_bytes ps
+
+-- the nodes and the bytes are these together
+abbrev pub IsSum : Counts → Pairs Counts → Type 0
+IsSum c ps = (c.nodes ≡ sum_nodes ps) × (c.bytes ≡ sum_bytes ps)

@@ -4,7 +4,6 @@ use Rattle.sf_value.specs.Ascii.{close_bracket}
 use Rattle.sf_value.specs.declared.dialect.Dialect.{Dialect}
 use Rattle.sf_value.specs.declared.value.Bare.{Bare}
 use Rattle.sf_value.specs.declared.value.Bare.TheVariants.{Text}
-use Rattle.sf_value.specs.declared.value.Item.{Item}
 use Rattle.sf_value.specs.declared.value.Member.{Member}
 use Rattle.sf_value.specs.declared.value.Member.TheVariants as member
 use Rattle.sf_value.specs.Grammar.BareItems.{SpellsBare}
@@ -42,11 +41,8 @@ pub record ReadsParam (d : Dialect) (text key : List ℕ) (b : BareView) (rest :
 
 -- the start of the text spells the Items of an Inner List, after at least this many spaces, and a
 -- closing bracket follows
-pub record ReadsItems (d : Dialect) (least : ℕ) (text rest : List ℕ) : Type 0 where
-  pub prefix : List ℕ
-  pub items : List Item
-  pub split : text ≡ prefix ++ close_bracket ∷ rest
-  pub spelled : SpellsItems d least prefix items
+abbrev pub ReadsItems : Dialect → ℕ → List ℕ → List ℕ → Type 0
+ReadsItems d least text rest = Reads (SpellsItems d least) text (close_bracket ∷ rest)
 
 -- the bare item of an Item is borrowed; an Inner List has none
 abbrev pub ShowsMember : Dialect → Option BareView → Member → Type 0
@@ -57,21 +53,15 @@ ShowsMember d b m = ⊥
 -- the start of the text spells a member; if it is an Item, its bare item is borrowed
 pub record ReadsMember (d : Dialect) (text : List ℕ) (b : Option BareView) (rest : List ℕ)
     : Type 0 where
-  pub prefix : List ℕ
-  pub value : Member
-  pub split : text ≡ prefix ++ rest
-  pub spelled : SpellsMember d prefix value
-  pub shows : ShowsMember d b value
+  pub reads : Reads (SpellsMember d) text rest
+  pub shows : ShowsMember d b reads.value
 
 -- the start of the text spells a member of a Dictionary with this key; if it is an Item, its bare
 -- item is borrowed
 pub record ReadsEntry (d : Dialect) (text key : List ℕ) (b : Option BareView) (rest : List ℕ)
     : Type 0 where
-  pub prefix : List ℕ
-  pub value : Member
-  pub split : text ≡ prefix ++ rest
-  pub spelled : SpellsEntry d prefix (key, value)
-  pub shows : ShowsMember d b value
+  pub reads : Reads (λ t m. SpellsEntry d t (key, m)) text rest
+  pub shows : ShowsMember d b reads.value
 
 -- the bytes of a String, or None if there is no String
 abbrev pub ShowsText : Dialect → Option Slice → Option (List ℕ) → Type 0

@@ -1,6 +1,6 @@
 -- The nodes of a Dictionary in which a key is repeated.
 use Rattle.std.specs.Prelude.{◌/◌, ◌^◌, Bool, ◌≡◌, ◌≢◌, ℕ, ◌+◌, ◌-◌, ◌≤◌, ◌<◌, true, false, List as Seq, []}
-use Rattle.std.specs.Prelude.{◌∷◌, ◌++◌, length, take, drop, get_or, bit_and}
+use Rattle.std.specs.Prelude.{◌∷◌, ◌++◌, length, take, drop, get_or, bit_and, Option, IfSome}
 use Rattle.sf_value.specs.declared.dialect.Dialect.{Dialect}
 use Rattle.sf_value.specs.declared.value.Kind.{Kind}
 use Rattle.sf_value.specs.declared.value.Kind.TheVariants as kind_is
@@ -85,3 +85,9 @@ HoldsPlaces source nodes table order = (p : ℕ) → p < length order
 -- the same of a table that is used; one without slots is not
 abbrev pub IsIndex : Seq ℕ → Seq Node → Seq ℕ → Seq ℕ → Type 0
 IsIndex source nodes table order = 1 ≤ length table → HoldsPlaces source nodes table order
+
+-- whatever members the raw nodes describe, the first nodes, as many as returned, describe those
+-- that stay
+abbrev pub Settles : Seq ℕ → Seq Node → Seq Node → Option ℕ → Type 0
+Settles source raw nodes r = (d : Dialect) (ps : Pairs Member) → DescribesEntries d source raw ps
+    → IfSome r (λ n. DescribesEntries d source (take n nodes) (settle ps))

@@ -185,7 +185,8 @@ pub(crate) fn fill(start: Coding, text: &[u8], buffer: &mut [u8]) -> Option<usiz
     }
 }
 
-/// The number of the bytes that a text spells.
+/// The number of the bytes that a text spells. It is not inlined, since few texts are coded.
+#[inline(never)]
 fn count_bytes(start: Coding, text: &[u8]) -> usize
     ensures { (t : List ℕ) → Remains start text.now t → result ≡ length t }
 {

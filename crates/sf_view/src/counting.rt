@@ -1,11 +1,15 @@
 //! How many nodes and bytes the value of a text has, counted as the text is read, without nodes.
-ghost use Rattle.std.specs.Prelude.{◌≡◌, ◌+◌, ◌++◌, [], ℕ, IfOk, IfSome, IsTrue, length};
+ghost use Rattle.std.specs.Prelude.{◌≡◌, ◌+◌, ◌++◌, ◌∷◌, ◌≤◌, [], ℕ, IfOk, IfSome, length};
+ghost use Rattle.std.specs.Map.{keys_of};
 ghost use Rattle.sf_value.specs.declared.dialect.Dialect.{Dialect as Which};
 ghost use Rattle.sf_value.specs.declared.value.Bare.{Bare};
 ghost use Rattle.sf_value.specs.declared.value.Kind.TheVariants as kind_is;
+ghost use Rattle.sf_value.specs.Grammar.Pairs.{Pairs, settle};
+ghost use Rattle.sf_value.specs.Grammar.Tokens.{IsKey};
 ghost use Rattle.sf_view.specs.Counting.{CountsEntry, CountsInner, CountsItem, CountsItems};
-ghost use Rattle.sf_view.specs.Counting.{CountsMember, CountsParams, HasCounts, sum_bytes, sum_nodes};
-ghost use Rattle.sf_view.specs.Marks.{mark_of};
+ghost use Rattle.sf_view.specs.Counting.{CountsMember, CountsParams, HasCounts, IsSum};
+ghost use Rattle.sf_view.specs.Keys.{AreInTable};
+ghost use Rattle.sf_view.specs.Marks.{mark_of, AreMarked};
 ghost use Rattle.sf_view.specs.View.{text_of};
 ghost use Rattle.sf_view.specs.Views.{IsBorrowed};
 
@@ -39,6 +43,9 @@ pub enum Uncounted {
     Repeated,
 }
 
+/// The numbers of a part of a text, and the rest of the text.
+type Counted<'a> = Result<(Counts, &'a [u8]), Uncounted>;
+
 /// Where keys are kept of which one is repeated.
 #[derive(Clone, Copy, Drop)]
 struct Memory<'s> {
@@ -69,6 +76,100 @@ impl Counts {
             return Err(Uncounted::Declined);
         };
         Ok(Counts { nodes, bytes })
+    }
+}
+
+/// Adds up what is counted at keys. A value replaces what was counted before it at its key, or it
+/// is not taken: that depends on how the keys are told apart.
+trait Tally {
+    ghost use Rattle.sf_view.specs.declared.counting.Counts.{Counts};
+
+    // These pairs were added, in this order.
+    ghost has: { Self → Pairs Counts → Type 0 };
+
+    /// Adds a key, and what is counted of its value.
+    fn add(&mut self, key: &[u8], value: Counts) -> Result<(), Uncounted>
+        requires { IsKey key.now }
+        ensures { IfOk result (λ _. (ps : Pairs Counts) → has self.old ps
+            → has self.new (ps ++ (key.now, value) ∷ [])) };
+
+    /// The sum, with the bytes of the keys.
+    fn total(&self) -> Result<Counts, Uncounted>
+        ensures { IfOk result (λ c. (ps : Pairs Counts) → has self.now ps → IsSum c (settle ps)) };
+}
+
+/// Takes keys with different marks.
+#[derive(Drop)]
+struct ByMarks {
+    counts: Counts,
+    marks: Marks,
+}
+
+impl Tally for ByMarks {
+    ghost has = { λ t ps. IsSum t.counts ps × AreMarked t.marks (keys_of ps) };
+
+    #[inline(always)]
+    fn add(&mut self, key: &[u8], value: Counts) -> Result<(), Uncounted> {
+        self.marks = self.marks.with(mark(key));
+        if self.marks.bits == u64::MAX {
+            return Err(Uncounted::Repeated);
+        }
+        self.counts = with_entry(self.counts, key, value)?;
+        Ok(())
+    }
+
+    #[inline(always)]
+    fn total(&self) -> Result<Counts, Uncounted> {
+        Ok(self.counts)
+    }
+}
+
+/// Takes keys with different tags, which it keeps in a table.
+#[derive(Drop)]
+struct ByTable<'t> {
+    counts: Counts,
+    table: &'t mut [u32],
+}
+
+impl Tally for ByTable<'_> {
+    ghost has = { λ t ps. IsSum t.counts ps × AreInTable t.table.now (keys_of ps) };
+
+    #[inline(always)]
+    fn add(&mut self, key: &[u8], value: Counts) -> Result<(), Uncounted> {
+        if !enter(self.table, tag(key)) {
+            return Err(Uncounted::Repeated);
+        }
+        self.counts = with_entry(self.counts, key, value)?;
+        Ok(())
+    }
+
+    #[inline(always)]
+    fn total(&self) -> Result<Counts, Uncounted> {
+        Ok(self.counts)
+    }
+}
+
+/// Takes all keys: a map has the last value of each.
+#[derive(Drop)]
+struct ByMap {
+    alloc: Global,
+    kept: Entries<Counts>,
+}
+
+impl Tally for ByMap {
+    ghost has = { λ t ps. t.kept ≡ settle ps };
+
+    #[inline(always)]
+    fn add(&mut self, key: &[u8], value: Counts) -> Result<(), Uncounted> {
+        let Ok(_) = self.kept.set_named(self.alloc, key, value) else {
+            return Err(Uncounted::Repeated);
+        };
+        Ok(())
+    }
+
+    #[inline(always)]
+    fn total(&self) -> Result<Counts, Uncounted> {
+        sum(&self.kept)
     }
 }
 
@@ -152,11 +253,7 @@ fn mark(key: &[u8]) -> u32
 
 /// Parameters. Only a text that begins with one costs a call.
 #[inline(always)]
-fn count_params<'a>(
-    memory: Option<Memory>,
-    dialect: Dialect,
-    text: &'a [u8],
-) -> Result<(Counts, &'a [u8]), Uncounted>
+fn count_params<'a>(memory: Option<Memory>, dialect: Dialect, text: &'a [u8]) -> Counted<'a>
     ensures { IfOk result (λ r. CountsParams dialect text.now r.1.now r.0.nodes r.0.bytes) }
 {
     if strip_byte(text, b';').is_none() {
@@ -167,14 +264,15 @@ fn count_params<'a>(
 
 /// As [`count_params`].
 #[inline(never)]
-fn count_each_param<'a>(
-    memory: Option<Memory>,
-    dialect: Dialect,
-    text: &'a [u8],
-) -> Result<(Counts, &'a [u8]), Uncounted>
+#[tactic(auto, using(crate::proofs::KeyMarks::no_keys))]
+fn count_each_param<'a>(memory: Option<Memory>, dialect: Dialect, text: &'a [u8]) -> Counted<'a>
     ensures { IfOk result (λ r. CountsParams dialect text.now r.1.now r.0.nodes r.0.bytes) }
 {
-    match params_by_marks(dialect, text) {
+    let mut tally = ByMarks {
+        counts: Counts::NONE,
+        marks: Marks::NONE,
+    };
+    match params_in(&mut tally, dialect, text) {
         Err(Uncounted::Repeated) => return more_params(memory, dialect, text),
         counted => return counted,
     }
@@ -182,50 +280,65 @@ fn count_each_param<'a>(
 
 /// The same of parameters of which two have the same mark.
 #[inline(never)]
-fn more_params<'a>(
-    memory: Option<Memory>,
-    dialect: Dialect,
-    text: &'a [u8],
-) -> Result<(Counts, &'a [u8]), Uncounted>
+fn more_params<'a>(memory: Option<Memory>, dialect: Dialect, text: &'a [u8]) -> Counted<'a>
     ensures { IfOk result (λ r. CountsParams dialect text.now r.1.now r.0.nodes r.0.bytes) }
 {
     let mut crowded = false;
-    match few_params(dialect, text, &mut crowded) {
+    match params_by_table::<FEW>(dialect, text, &mut crowded) {
         Err(Uncounted::Repeated) => {}
         counted => return counted,
     }
     if crowded {
-        match many_params(dialect, text) {
+        match params_by_table::<MANY>(dialect, text, &mut crowded) {
             Err(Uncounted::Repeated) => {}
             counted => return counted,
         }
     }
-    let Some(memory) = memory else {
+    let Some(Memory { alloc, seed }) = memory else {
         return Err(Uncounted::Repeated);
     };
-    params_by_map(memory, dialect, text)
+    let kept = Entries::new(alloc, seed);
+    params_in(&mut ByMap { alloc, kept }, dialect, text)
 }
 
-/// Parameters whose keys differ by their marks.
+/// Parameters, added to an empty tally.
 #[inline(always)]
-fn params_by_marks<'a>(dialect: Dialect, text: &'a [u8]) -> Result<(Counts, &'a [u8]), Uncounted>
+fn params_in<'a, T: Tally>(tally: &mut T, dialect: Dialect, text: &'a [u8]) -> Counted<'a>
+    requires { T.has tally.old [] }
     ensures { IfOk result (λ r. CountsParams dialect text.now r.1.now r.0.nodes r.0.bytes) }
 {
     let mut rest = text;
-    let mut counts = Counts::NONE;
-    let mut marks = Marks::NONE;
     while let Some(more) = strip_byte(rest, b';') {
         let Some((key, bare, left)) = read_param(dialect, more) else {
             return Err(Uncounted::Declined);
         };
-        marks = marks.with(mark(key));
-        if marks.bits == u64::MAX {
-            return Err(Uncounted::Repeated);
-        }
-        counts = with_entry(counts, key, of_bare(bare))?;
+        tally.add(key, of_bare(bare))?;
         rest = left;
     }
-    Ok((counts, rest))
+    Ok((tally.total()?, rest))
+}
+
+/// Parameters of which a table of so many slots has the keys; the flag is set if it has so many
+/// that one may have found no slot. It is not inlined, nor are the other functions with a table: a
+/// function reserves stack for it on entry.
+#[inline(never)]
+#[tactic(auto, using(crate::proofs::KeyMarks::no_keys))]
+fn params_by_table<'a, const SLOTS: usize>(
+    dialect: Dialect,
+    text: &'a [u8],
+    crowded: &mut bool,
+) -> Counted<'a>
+    requires { SLOTS ≤ 16384 }
+    ensures { IfOk result (λ r. CountsParams dialect text.now r.1.now r.0.nodes r.0.bytes) }
+{
+    let mut table = [0u32; SLOTS];
+    let mut tally = ByTable {
+        counts: Counts::NONE,
+        table: &mut table,
+    };
+    let counted = params_in(&mut tally, dialect, text);
+    *crowded = tally.counts.nodes >= PROBES;
+    counted
 }
 
 /// The numbers of a bare item.
@@ -253,84 +366,9 @@ fn with_entry(counts: Counts, key: &[u8], value: Counts) -> Result<Counts, Uncou
     counts.more(value.nodes, bytes)
 }
 
-/// Parameters of which a small table has the keys; if it may have too few slots, the flag is set. It
-/// is not inlined, nor are the other functions with a table: a function reserves stack for it on
-/// entry.
-#[inline(never)]
-fn few_params<'a>(
-    dialect: Dialect,
-    text: &'a [u8],
-    crowded: &mut bool,
-) -> Result<(Counts, &'a [u8]), Uncounted>
-    ensures { IfOk result (λ r. CountsParams dialect text.now r.1.now r.0.nodes r.0.bytes) }
-{
-    let mut table = [0u32; FEW];
-    params_by_table(dialect, text, &mut table, crowded)
-}
-
-/// The same with a large table.
-#[inline(never)]
-fn many_params<'a>(dialect: Dialect, text: &'a [u8]) -> Result<(Counts, &'a [u8]), Uncounted>
-    ensures { IfOk result (λ r. CountsParams dialect text.now r.1.now r.0.nodes r.0.bytes) }
-{
-    let mut table = [0u32; MANY];
-    let mut crowded = false;
-    params_by_table(dialect, text, &mut table, &mut crowded)
-}
-
-/// Parameters whose keys differ by a table of their tags. If it has so many that one may have found
-/// no slot, the flag is set.
-fn params_by_table<'a>(
-    dialect: Dialect,
-    text: &'a [u8],
-    table: &mut [u32],
-    crowded: &mut bool,
-) -> Result<(Counts, &'a [u8]), Uncounted>
-    ensures { IfOk result (λ r. CountsParams dialect text.now r.1.now r.0.nodes r.0.bytes) }
-{
-    let mut rest = text;
-    let mut counts = Counts::NONE;
-    while let Some(more) = strip_byte(rest, b';') {
-        let Some((key, bare, left)) = read_param(dialect, more) else {
-            return Err(Uncounted::Declined);
-        };
-        if !enter(table, tag(key)) {
-            *crowded = counts.nodes >= PROBES;
-            return Err(Uncounted::Repeated);
-        }
-        counts = with_entry(counts, key, of_bare(bare))?;
-        rest = left;
-    }
-    Ok((counts, rest))
-}
-
-/// Parameters of which one is repeated: the last value of a key counts.
-#[inline(never)]
-fn params_by_map<'a>(
-    memory: Memory,
-    dialect: Dialect,
-    text: &'a [u8],
-) -> Result<(Counts, &'a [u8]), Uncounted>
-    ensures { IfOk result (λ r. CountsParams dialect text.now r.1.now r.0.nodes r.0.bytes) }
-{
-    let mut rest = text;
-    let mut kept = Entries::new(memory.alloc, memory.seed);
-    while let Some(more) = strip_byte(rest, b';') {
-        let Some((key, bare, left)) = read_param(dialect, more) else {
-            return Err(Uncounted::Declined);
-        };
-        let Ok(_) = kept.set_named(memory.alloc, key, of_bare(bare)) else {
-            return Err(Uncounted::Repeated);
-        };
-        rest = left;
-    }
-    Ok((sum(&kept)?, rest))
-}
-
 /// The sum of what is kept at keys, and of their bytes.
 fn sum(kept: &Entries<Counts>) -> Result<Counts, Uncounted>
-    ensures nodes { IfOk result (λ c. c.nodes ≡ sum_nodes kept.now) }
-    ensures bytes { IfOk result (λ c. c.bytes ≡ sum_bytes kept.now) }
+    ensures { IfOk result (λ c. IsSum c kept.now) }
 {
     let mut counts = Counts::NONE;
     for (key, value) in kept {
@@ -341,11 +379,7 @@ fn sum(kept: &Entries<Counts>) -> Result<Counts, Uncounted>
 
 /// An Item.
 #[inline(always)]
-fn count_item<'a>(
-    memory: Option<Memory>,
-    dialect: Dialect,
-    text: &'a [u8],
-) -> Result<(Counts, &'a [u8]), Uncounted>
+fn count_item<'a>(memory: Option<Memory>, dialect: Dialect, text: &'a [u8]) -> Counted<'a>
     ensures { IfOk result (λ r. CountsItem dialect text.now r.1.now r.0.nodes r.0.bytes) }
 {
     let Some((bare, after)) = read_bare(dialect, text) else {
@@ -358,11 +392,7 @@ fn count_item<'a>(
 }
 
 /// The Items of an Inner List, and its closing bracket.
-fn count_items<'a>(
-    memory: Option<Memory>,
-    dialect: Dialect,
-    text: &'a [u8],
-) -> Result<(Counts, &'a [u8]), Uncounted>
+fn count_items<'a>(memory: Option<Memory>, dialect: Dialect, text: &'a [u8]) -> Counted<'a>
     ensures { IfOk result (λ r. CountsItems dialect 0 text.now r.1.now r.0.nodes r.0.bytes) }
 {
     let mut rest = after_spaces(text);
@@ -384,11 +414,7 @@ fn count_items<'a>(
 }
 
 /// An Inner List.
-fn count_inner<'a>(
-    memory: Option<Memory>,
-    dialect: Dialect,
-    text: &'a [u8],
-) -> Result<(Counts, &'a [u8]), Uncounted>
+fn count_inner<'a>(memory: Option<Memory>, dialect: Dialect, text: &'a [u8]) -> Counted<'a>
     ensures { IfOk result (λ r. CountsInner dialect text.now r.1.now r.0.nodes r.0.bytes) }
 {
     let Some(inside) = strip_byte(text, b'(') else {
@@ -403,11 +429,7 @@ fn count_inner<'a>(
 
 /// A member of a List, or of a Dictionary after its key and =.
 #[inline(always)]
-fn count_member<'a>(
-    memory: Option<Memory>,
-    dialect: Dialect,
-    text: &'a [u8],
-) -> Result<(Counts, &'a [u8]), Uncounted>
+fn count_member<'a>(memory: Option<Memory>, dialect: Dialect, text: &'a [u8]) -> Counted<'a>
     ensures { IfOk result (λ r. CountsMember dialect text.now r.1.now r.0.nodes r.0.bytes) }
 {
     if strip_byte(text, b'(').is_some() {
@@ -473,118 +495,80 @@ fn count_list(memory: Option<Memory>, dialect: Dialect, text: &[u8]) -> Result<C
 }
 
 /// A Dictionary.
+#[tactic(auto, using(crate::proofs::KeyMarks::no_keys))]
 fn count_dict(memory: Option<Memory>, dialect: Dialect, text: &[u8]) -> Result<Counts, Uncounted>
     ensures { IfOk result (HasCounts dialect kind_is.Dict text.now) }
 {
-    match dict_by_marks(memory, dialect, text) {
-        Err(Uncounted::Repeated) => return more_entries(memory, dialect, text),
+    let mut tally = ByMarks {
+        counts: Counts::NONE,
+        marks: Marks::NONE,
+    };
+    match members_in(&mut tally, memory, dialect, text) {
+        Err(Uncounted::Repeated) => return more_members(memory, dialect, text),
         counted => return counted,
     }
 }
 
 /// The same of a Dictionary of which two keys have the same mark.
 #[inline(never)]
-fn more_entries(memory: Option<Memory>, dialect: Dialect, text: &[u8]) -> Result<Counts, Uncounted>
+fn more_members(memory: Option<Memory>, dialect: Dialect, text: &[u8]) -> Result<Counts, Uncounted>
     ensures { IfOk result (HasCounts dialect kind_is.Dict text.now) }
 {
     // A member takes at least two bytes, so at most half of the slots of a small table are used.
     let counted = if text.len() <= FEW {
-        few_entries(memory, dialect, text)
+        members_by_table::<FEW>(memory, dialect, text)
     } else {
-        many_entries(memory, dialect, text)
+        members_by_table::<MANY>(memory, dialect, text)
     };
     match counted {
         Err(Uncounted::Repeated) => {}
         counted => return counted,
     }
-    let Some(memory) = memory else {
+    let Some(Memory { alloc, seed }) = memory else {
         return Err(Uncounted::Repeated);
     };
-    dict_by_map(memory, dialect, text)
+    let kept = Entries::new(alloc, seed);
+    members_in(&mut ByMap { alloc, kept }, memory, dialect, text)
 }
 
-/// A Dictionary whose keys differ by their marks.
+/// The members of a Dictionary, added to an empty tally.
 #[inline(always)]
-fn dict_by_marks(memory: Option<Memory>, dialect: Dialect, text: &[u8]) -> Result<Counts, Uncounted>
-    ensures { IfOk result (HasCounts dialect kind_is.Dict text.now) }
-{
-    let mut start = first_start(text);
-    let mut counts = Counts::NONE;
-    let mut marks = Marks::NONE;
-    while let Some(rest) = start {
-        let (key, member, after) = count_entry(memory, dialect, rest)?;
-        marks = marks.with(mark(key));
-        if marks.bits == u64::MAX {
-            return Err(Uncounted::Repeated);
-        }
-        counts = with_entry(counts, key, member)?;
-        let Some(next) = next_start(after) else {
-            return Err(Uncounted::Declined);
-        };
-        start = next;
-    }
-    Ok(counts)
-}
-
-/// A Dictionary of which a small table has the keys.
-#[inline(never)]
-fn few_entries(memory: Option<Memory>, dialect: Dialect, text: &[u8]) -> Result<Counts, Uncounted>
-    ensures { IfOk result (HasCounts dialect kind_is.Dict text.now) }
-{
-    let mut table = [0u32; FEW];
-    dict_by_table(memory, dialect, text, &mut table)
-}
-
-/// The same with a large table.
-#[inline(never)]
-fn many_entries(memory: Option<Memory>, dialect: Dialect, text: &[u8]) -> Result<Counts, Uncounted>
-    ensures { IfOk result (HasCounts dialect kind_is.Dict text.now) }
-{
-    let mut table = [0u32; MANY];
-    dict_by_table(memory, dialect, text, &mut table)
-}
-
-/// A Dictionary whose keys differ by a table of their tags.
-fn dict_by_table(
+fn members_in<T: Tally>(
+    tally: &mut T,
     memory: Option<Memory>,
     dialect: Dialect,
     text: &[u8],
-    table: &mut [u32],
 ) -> Result<Counts, Uncounted>
+    requires { T.has tally.old [] }
     ensures { IfOk result (HasCounts dialect kind_is.Dict text.now) }
 {
     let mut start = first_start(text);
-    let mut counts = Counts::NONE;
     while let Some(rest) = start {
         let (key, member, after) = count_entry(memory, dialect, rest)?;
-        if !enter(table, tag(key)) {
-            return Err(Uncounted::Repeated);
-        }
-        counts = with_entry(counts, key, member)?;
+        tally.add(key, member)?;
         let Some(next) = next_start(after) else {
             return Err(Uncounted::Declined);
         };
         start = next;
     }
-    Ok(counts)
+    tally.total()
 }
 
-/// A Dictionary in which a key is repeated: its last value counts.
+/// A Dictionary of which a table of so many slots has the keys.
 #[inline(never)]
-fn dict_by_map(memory: Memory, dialect: Dialect, text: &[u8]) -> Result<Counts, Uncounted>
+#[tactic(auto, using(crate::proofs::KeyMarks::no_keys))]
+fn members_by_table<const SLOTS: usize>(
+    memory: Option<Memory>,
+    dialect: Dialect,
+    text: &[u8],
+) -> Result<Counts, Uncounted>
+    requires { SLOTS ≤ 16384 }
     ensures { IfOk result (HasCounts dialect kind_is.Dict text.now) }
 {
-    let mut start = first_start(text);
-    let mut kept = Entries::new(memory.alloc, memory.seed);
-    while let Some(rest) = start {
-        let (key, member, after) = count_entry(Some(memory), dialect, rest)?;
-        let Ok(_) = kept.set_named(memory.alloc, key, member) else {
-            return Err(Uncounted::Repeated);
-        };
-        let Some(next) = next_start(after) else {
-            return Err(Uncounted::Declined);
-        };
-        start = next;
-    }
-    sum(&kept)
+    let mut table = [0u32; SLOTS];
+    let mut tally = ByTable {
+        counts: Counts::NONE,
+        table: &mut table,
+    };
+    members_in(&mut tally, memory, dialect, text)
 }

@@ -5,18 +5,17 @@ ghost use Rattle.std.specs.Prelude.{IfOk, IfErr, IfSome, IsTrue};
 ghost use Rattle.sf_value.specs.declared.dialect.Dialect.{Dialect as Which};
 ghost use Rattle.sf_value.specs.declared.value.Kind.TheVariants as kind_is;
 ghost use Rattle.sf_view.specs.Accepts.{Accepts, IsListed, AreEntries};
-ghost use Rattle.sf_view.specs.Scans.{ScansMember, ScansEntry, DistinguishKeys};
 ghost use Rattle.sf_view.specs.Settling.{HasParts};
 ghost use Rattle.sf_view.specs.Views.{IsViewed};
 
 use crate::buffer::most_nodes;
-use crate::item::{KeyPlace, NO_KEY, Scan, scan_entry, scan_member};
+use crate::item::Scan;
 use crate::keys::Marks;
 use crate::node::Node;
-use crate::series::{scan_parts, whole_item};
+use crate::series::{DictScan, dict_from, list_from, scan_parts, whole_item};
 use crate::settling::{settle_into, settled_nodes};
 use crate::view::View;
-use sf_value::classes::{after_ows, after_spaces, ends, strip_byte};
+use sf_value::classes::{after_spaces, ends};
 use sf_value::{Dialect, Kind, OutOfMemory};
 use std::alloc::Global;
 
@@ -86,92 +85,6 @@ fn grown_item(
     Ok(None)
 }
 
-/// Reads a member, whose nodes go after the first `count`. These stay as they are, whether or not
-/// there is a member.
-#[inline(always)]
-fn member_after<'a>(
-    dialect: Dialect,
-    text: &[u8],
-    rest: &'a [u8],
-    key: KeyPlace,
-    nodes: &mut [Node],
-    count: usize,
-) -> Option<Scan<'a>>
-    requires small { length text.now < 2 ^ 32 }
-    requires within { length rest.now ≤ length text.now }
-    requires there { count ≤ length nodes.old }
-    ensures same { length nodes.new ≡ length nodes.old }
-    ensures kept { take count nodes.new ≡ take count nodes.old }
-    ensures scans { IfSome result (λ s. ScansMember dialect text.now rest.now s.rest.now key
-        nodes.old nodes.new count s.count) }
-{
-    let (_, free) = nodes.split_at_mut(count);
-    let scan = scan_member(dialect, text, rest, key, free, 0)?;
-    Some(Scan {
-        rest: scan.rest,
-        count: count + scan.count,
-    })
-}
-
-/// As [`member_after`], for a member of a Dictionary; also returns the mark of its key.
-#[inline(always)]
-fn entry_after<'a>(
-    dialect: Dialect,
-    text: &[u8],
-    rest: &'a [u8],
-    nodes: &mut [Node],
-    count: usize,
-) -> Option<(Scan<'a>, u32)>
-    requires small { length text.now < 2 ^ 32 }
-    requires within { length rest.now ≤ length text.now }
-    requires there { count ≤ length nodes.old }
-    ensures same { length nodes.new ≡ length nodes.old }
-    ensures kept { take count nodes.new ≡ take count nodes.old }
-    ensures scans { IfSome result (λ r. ScansEntry dialect text.now rest.now r.0.rest.now r.1
-        nodes.old nodes.new count r.0.count) }
-{
-    let (_, free) = nodes.split_at_mut(count);
-    let (scan, mark) = scan_entry(dialect, text, rest, free, 0)?;
-    let after = Scan {
-        rest: scan.rest,
-        count: count + scan.count,
-    };
-    Some((after, mark))
-}
-
-/// Reads the members of a List from this place on, after this many nodes. Returns the number of all
-/// nodes, or the place and the number of nodes before the member that is malformed or for which
-/// there are too few nodes.
-fn list_from<'a>(
-    dialect: Dialect,
-    text: &'a [u8],
-    from: Scan<'a>,
-    nodes: &mut [Node],
-) -> Result<usize, Scan<'a>>
-    requires small { length text.now < 2 ^ 32 }
-    requires so_far { IsListed dialect text.now from.rest.now nodes.old from.count }
-    ensures same { length nodes.new ≡ length nodes.old }
-    ensures accepts { IfOk result (λ n. Accepts dialect kind_is.List text.now nodes.new n) }
-    ensures stopped { IfErr result (λ s. IsListed dialect text.now s.rest.now nodes.new s.count) }
-{
-    let mut rest = from.rest;
-    let mut count = from.count;
-    loop {
-        let Some(scan) = member_after(dialect, text, rest, NO_KEY, nodes, count) else {
-            return Err(Scan { rest, count });
-        };
-        let white = after_ows(scan.rest);
-        if ends(white) {
-            return Ok(scan.count);
-        }
-        let Some(more) = strip_byte(white, b',') else {
-            return Err(Scan { rest, count });
-        };
-        rest = after_ows(more);
-        count = scan.count;
-    }
-}
-
 /// The nodes of a List. If there were too few, reading goes on with more, from the member that
 /// needed them.
 fn grown_list(
@@ -202,85 +115,6 @@ fn grown_list(
         lengthen(nodes, most)?;
     }
     Ok(None)
-}
-
-/// Where a scan of a Dictionary is: the rest of the text, the number of nodes before it, the marks
-/// of the keys of these nodes, and whether the nodes were settled.
-#[derive(Clone, Copy, Drop)]
-struct DictScan<'a> {
-    rest: &'a [u8],
-    count: usize,
-    marks: Marks,
-    settled: bool,
-}
-
-/// Whether no members were settled, and the keys of these nodes differ. If members were settled, a
-/// key was repeated.
-#[inline]
-fn are_apart(settled: bool, marks: Marks, text: &[u8], nodes: &[Node]) -> bool
-    ensures { IsTrue result → DistinguishKeys marks text.now nodes.now }
-{
-    if settled {
-        return false;
-    }
-    marks.differ(text, nodes)
-}
-
-/// Reads the members of a Dictionary from this place on. Returns the number of all nodes, or the
-/// place before the member that is malformed or for which there are too few nodes. If a key is
-/// repeated or, rarely, there are too many keys to find out, `repeated` is set, and keys may be
-/// repeated in the members that the nodes describe.
-#[inline]
-fn dict_from<'a>(
-    dialect: Dialect,
-    text: &'a [u8],
-    from: DictScan<'a>,
-    repeated: &mut bool,
-    nodes: &mut [Node],
-) -> Result<usize, DictScan<'a>>
-    requires small { length text.now < 2 ^ 32 }
-    requires unset { repeated.old ≡ false }
-    requires so_far { AreEntries dialect text.now from.rest.now from.marks nodes.old from.count }
-    ensures same { length nodes.new ≡ length nodes.old }
-    ensures parts { IfOk result
-        (λ n. HasParts dialect kind_is.Dict text.now nodes.new n repeated.new) }
-    ensures stopped { IfErr result
-        (λ s. AreEntries dialect text.now s.rest.now s.marks nodes.new s.count) }
-    ensures still_unset { IfErr result (λ _. repeated.new ≡ false) }
-{
-    let mut rest = from.rest;
-    let mut count = from.count;
-    let mut marks = from.marks;
-    loop {
-        let Some((scan, mark)) = entry_after(dialect, text, rest, nodes, count) else {
-            return Err(DictScan {
-                rest,
-                count,
-                marks,
-                settled: from.settled,
-            });
-        };
-        let later_marks = marks.with(mark);
-        let white = after_ows(scan.rest);
-        if ends(white) {
-            if are_apart(from.settled, later_marks, text, &nodes[..scan.count]) {
-                return Ok(scan.count);
-            }
-            *repeated = true;
-            return Ok(scan.count);
-        }
-        let Some(more) = strip_byte(white, b',') else {
-            return Err(DictScan {
-                rest,
-                count,
-                marks,
-                settled: from.settled,
-            });
-        };
-        rest = after_ows(more);
-        count = scan.count;
-        marks = later_marks;
-    }
 }
 
 /// Settles the members that were read, if they are many and at most half of them stay: then the

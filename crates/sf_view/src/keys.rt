@@ -206,43 +206,17 @@ fn all_enter(table: &mut [u32], source: &[u8], nodes: &[Node]) -> bool
     true
 }
 
-/// Whether the keys differ, by a table for up to about a hundred keys.
+/// Whether the keys differ, by a table with so many slots.
 #[inline(never)]
-fn by_small_table(source: &[u8], nodes: &[Node]) -> bool
+fn by_table_of<const SLOTS: usize>(source: &[u8], nodes: &[Node]) -> bool
+    requires { SLOTS ≤ 16384 }
     ensures { IsTrue result → AreApart source.now nodes.now }
 {
-    let mut table = [0u32; 256];
+    let mut table = [0u32; SLOTS];
     all_enter(&mut table, source, nodes)
 }
 
-/// Whether the keys differ, by a larger table.
-#[inline(never)]
-fn by_middle_table(source: &[u8], nodes: &[Node]) -> bool
-    ensures { IsTrue result → AreApart source.now nodes.now }
-{
-    let mut table = [0u32; 1024];
-    all_enter(&mut table, source, nodes)
-}
-
-/// Whether the keys differ, by a table for up to about three thousand keys.
-#[inline(never)]
-fn by_large_table(source: &[u8], nodes: &[Node]) -> bool
-    ensures { IsTrue result → AreApart source.now nodes.now }
-{
-    let mut table = [0u32; 4096];
-    all_enter(&mut table, source, nodes)
-}
-
-/// Whether the keys differ, by the largest table, for up to about twelve thousand keys.
-#[inline(never)]
-fn by_largest_table(source: &[u8], nodes: &[Node]) -> bool
-    ensures { IsTrue result → AreApart source.now nodes.now }
-{
-    let mut table = [0u32; 16_384];
-    all_enter(&mut table, source, nodes)
-}
-
-/// Whether the keys differ, by a table. It is not inlined, nor are the functions for each size: a
+/// Whether the keys differ, by a table. It is not inlined, nor is the function for each size: a
 /// function reserves stack for all its tables on entry.
 #[inline(never)]
 fn by_table(source: &[u8], nodes: &[Node]) -> bool
@@ -250,15 +224,15 @@ fn by_table(source: &[u8], nodes: &[Node]) -> bool
 {
     let count = nodes.len();
     if count <= 96 {
-        return by_small_table(source, nodes);
+        return by_table_of::<256>(source, nodes);
     }
     if count <= 384 {
-        return by_middle_table(source, nodes);
+        return by_table_of::<1024>(source, nodes);
     }
     if count <= 3072 {
-        return by_large_table(source, nodes);
+        return by_table_of::<4096>(source, nodes);
     }
-    by_largest_table(source, nodes)
+    by_table_of::<16_384>(source, nodes)
 }
 
 /// Whether the keys of the parts differ; `false` also if there are too many, or two have the same

@@ -1,10 +1,12 @@
 //! Whole texts.
-ghost use Rattle.std.specs.Prelude.{◌≡◌, ◌≤◌, ◌<◌, ◌+◌, ◌*◌, ◌^◌, length, take, IfSome, false};
+ghost use Rattle.std.specs.Prelude.{◌≡◌, ◌≤◌, ◌<◌, ◌+◌, ◌*◌, ◌^◌, length, false};
+ghost use Rattle.std.specs.Prelude.{IfOk, IfErr, IfSome, IsTrue};
 ghost use Rattle.sf_value.specs.declared.value.Kind.TheVariants as kind_is;
-ghost use Rattle.sf_view.specs.Accepts.{Accepts};
+ghost use Rattle.sf_view.specs.Accepts.{Accepts, IsListed, AreEntries};
+ghost use Rattle.sf_view.specs.Scans.{DistinguishKeys};
 ghost use Rattle.sf_view.specs.Settling.{HasParts};
 
-use crate::item::{NO_KEY, scan_entry, scan_item, scan_member};
+use crate::item::{NO_KEY, Scan, scan_entry, scan_item, scan_member};
 use crate::keys::Marks;
 use crate::node::Node;
 use crate::node_types::Role;
@@ -26,6 +28,40 @@ pub(crate) fn whole_item(dialect: Dialect, text: &[u8], nodes: &mut [Node]) -> O
     None
 }
 
+/// Reads the members of a List from this place on, after this many nodes. Returns the number of all
+/// nodes, or the place and the number of nodes before the member that is malformed or for which
+/// there are too few nodes.
+#[inline(always)]
+pub(crate) fn list_from<'a>(
+    dialect: Dialect,
+    text: &'a [u8],
+    from: Scan<'a>,
+    nodes: &mut [Node],
+) -> Result<usize, Scan<'a>>
+    requires small { length text.now < 2 ^ 32 }
+    requires so_far { IsListed dialect text.now from.rest.now nodes.old from.count }
+    ensures same { length nodes.new ≡ length nodes.old }
+    ensures accepts { IfOk result (λ n. Accepts dialect kind_is.List text.now nodes.new n) }
+    ensures stopped { IfErr result (λ s. IsListed dialect text.now s.rest.now nodes.new s.count) }
+{
+    let mut rest = from.rest;
+    let mut count = from.count;
+    loop {
+        let Some(scan) = scan_member(dialect, text, rest, NO_KEY, nodes, count) else {
+            return Err(Scan { rest, count });
+        };
+        let white = after_ows(scan.rest);
+        if ends(white) {
+            return Ok(scan.count);
+        }
+        let Some(more) = strip_byte(white, b',') else {
+            return Err(Scan { rest, count });
+        };
+        rest = after_ows(more);
+        count = scan.count;
+    }
+}
+
 /// A List.
 #[inline]
 fn whole_list(dialect: Dialect, text: &[u8], nodes: &mut [Node]) -> Option<usize>
@@ -33,19 +69,92 @@ fn whole_list(dialect: Dialect, text: &[u8], nodes: &mut [Node]) -> Option<usize
     ensures same { length nodes.new ≡ length nodes.old }
     ensures accepts { IfSome result (λ n. Accepts dialect kind_is.List text.now nodes.new n) }
 {
-    let mut rest = after_spaces(text);
-    let mut count = 0;
+    let rest = after_spaces(text);
     if ends(rest) {
         return Some(0);
     }
+    match list_from(dialect, text, Scan { rest, count: 0 }, nodes) {
+        Ok(count) => return Some(count),
+        Err(_) => return None,
+    }
+}
+
+/// Where a scan of a Dictionary is: the rest of the text, the number of nodes before it, the marks
+/// of the keys of these nodes, and whether the nodes were settled.
+#[derive(Clone, Copy, Drop)]
+pub(crate) struct DictScan<'a> {
+    pub rest: &'a [u8],
+    pub count: usize,
+    pub marks: Marks,
+    pub settled: bool,
+}
+
+/// Whether no members were settled, and the keys of these nodes differ. If members were settled, a
+/// key was repeated.
+#[inline]
+fn are_apart(settled: bool, marks: Marks, text: &[u8], nodes: &[Node]) -> bool
+    ensures { IsTrue result → DistinguishKeys marks text.now nodes.now }
+{
+    if settled {
+        return false;
+    }
+    marks.differ(text, nodes)
+}
+
+/// Reads the members of a Dictionary from this place on. Returns the number of all nodes, or the
+/// place before the member that is malformed or for which there are too few nodes. If a key is
+/// repeated or, rarely, there are too many keys to find out, `repeated` is set, and keys may be
+/// repeated in the members that the nodes describe.
+#[inline(always)]
+pub(crate) fn dict_from<'a>(
+    dialect: Dialect,
+    text: &'a [u8],
+    from: DictScan<'a>,
+    repeated: &mut bool,
+    nodes: &mut [Node],
+) -> Result<usize, DictScan<'a>>
+    requires small { length text.now < 2 ^ 32 }
+    requires unset { repeated.old ≡ false }
+    requires so_far { AreEntries dialect text.now from.rest.now from.marks nodes.old from.count }
+    ensures same { length nodes.new ≡ length nodes.old }
+    ensures parts { IfOk result
+        (λ n. HasParts dialect kind_is.Dict text.now nodes.new n repeated.new) }
+    ensures stopped { IfErr result
+        (λ s. AreEntries dialect text.now s.rest.now s.marks nodes.new s.count) }
+    ensures still_unset { IfErr result (λ _. repeated.new ≡ false) }
+{
+    let mut rest = from.rest;
+    let mut count = from.count;
+    let mut marks = from.marks;
     loop {
-        let scan = scan_member(dialect, text, rest, NO_KEY, nodes, count)?;
+        let Some((scan, mark)) = scan_entry(dialect, text, rest, nodes, count) else {
+            return Err(DictScan {
+                rest,
+                count,
+                marks,
+                settled: from.settled,
+            });
+        };
+        let later_marks = marks.with(mark);
         let white = after_ows(scan.rest);
         if ends(white) {
-            return Some(scan.count);
+            if are_apart(from.settled, later_marks, text, &nodes[..scan.count]) {
+                return Ok(scan.count);
+            }
+            *repeated = true;
+            return Ok(scan.count);
         }
-        rest = after_ows(strip_byte(white, b',')?);
+        let Some(more) = strip_byte(white, b',') else {
+            return Err(DictScan {
+                rest,
+                count,
+                marks,
+                settled: from.settled,
+            });
+        };
+        rest = after_ows(more);
         count = scan.count;
+        marks = later_marks;
     }
 }
 
@@ -64,25 +173,19 @@ fn whole_dict(
     ensures parts { IfSome result
         (λ n. HasParts dialect kind_is.Dict text.now nodes.new n repeated.new) }
 {
-    let mut rest = after_spaces(text);
-    let mut count = 0;
-    let mut marks = Marks::NONE;
+    let rest = after_spaces(text);
     if ends(rest) {
         return Some(0);
     }
-    loop {
-        let (scan, mark) = scan_entry(dialect, text, rest, nodes, count)?;
-        marks = marks.with(mark);
-        let white = after_ows(scan.rest);
-        if ends(white) {
-            if marks.differ(text, &nodes[..scan.count]) {
-                return Some(scan.count);
-            }
-            *repeated = true;
-            return Some(scan.count);
-        }
-        rest = after_ows(strip_byte(white, b',')?);
-        count = scan.count;
+    let from = DictScan {
+        rest,
+        count: 0,
+        marks: Marks::NONE,
+        settled: false,
+    };
+    match dict_from(dialect, text, from, repeated, nodes) {
+        Ok(count) => return Some(count),
+        Err(_) => return None,
     }
 }
 

@@ -9,7 +9,7 @@ ghost use Rattle.sf_view.specs.Scans.{Puts};
 ghost use Rattle.sf_view.specs.View.{DescribesEntries};
 ghost use Rattle.sf_view.specs.Keys.{tag_of};
 ghost use Rattle.sf_view.specs.Settling.{key_from, run_from, runs_of, RunsDescribe};
-ghost use Rattle.sf_view.specs.Settling.{IsPlace, HoldsPlace, HoldsPlaces, IsIndex};
+ghost use Rattle.sf_view.specs.Settling.{IsPlace, HoldsPlace, HoldsPlaces, IsIndex, Settles};
 
 use crate::item::put;
 use crate::keys::{bytes_at, tag};
@@ -254,10 +254,7 @@ fn settle(
 ) -> Option<usize>
     ensures same { length nodes.new ≡ length nodes.old }
     ensures within { IfSome result (λ n. n ≤ length nodes.new) }
-    ensures settled { (d : Which) (ps : Pairs Member)
-        → DescribesEntries d source.now raw.now ps
-        → IfSome result (λ n. DescribesEntries d source.now (take n nodes.new)
-        (settled_pairs ps)) }
+    ensures settled { Settles source.now raw.now nodes.new result }
 {
     let searches = searches_for(raw, source.len());
     let members = put_order(source, raw, order, table, searches)?;
@@ -270,10 +267,7 @@ fn settle(
 pub(crate) fn settle_few(source: &[u8], raw: &[Node], nodes: &mut [Node]) -> Option<usize>
     ensures same { length nodes.new ≡ length nodes.old }
     ensures within { IfSome result (λ n. n ≤ length nodes.new) }
-    ensures settled { (d : Which) (ps : Pairs Member)
-        → DescribesEntries d source.now raw.now ps
-        → IfSome result (λ n. DescribesEntries d source.now (take n nodes.new)
-        (settled_pairs ps)) }
+    ensures settled { Settles source.now raw.now nodes.new result }
 {
     if raw.len() <= PAIRWISE {
         let mut order = [0u32; PAIRWISE];
@@ -288,10 +282,7 @@ pub(crate) fn settle_few(source: &[u8], raw: &[Node], nodes: &mut [Node]) -> Opt
 fn settle_more(source: &[u8], raw: &[Node], nodes: &mut [Node]) -> Option<usize>
     ensures same { length nodes.new ≡ length nodes.old }
     ensures within { IfSome result (λ n. n ≤ length nodes.new) }
-    ensures settled { (d : Which) (ps : Pairs Member)
-        → DescribesEntries d source.now raw.now ps
-        → IfSome result (λ n. DescribesEntries d source.now (take n nodes.new)
-        (settled_pairs ps)) }
+    ensures settled { Settles source.now raw.now nodes.new result }
 {
     let mut order = [0u32; STACK_NODES];
     let mut table = [0u32; STACK_SLOTS];
@@ -363,10 +354,7 @@ pub(crate) fn settle_into(
     requires there { count ≤ length nodes.old }
     ensures same { length nodes.new ≡ length nodes.old }
     ensures within { IfSome result (λ n. n ≤ length nodes.new) }
-    ensures settled { (d : Which) (ps : Pairs Member)
-        → DescribesEntries d source.now (take count nodes.old) ps
-        → IfSome result (λ n. DescribesEntries d source.now (take n nodes.new)
-        (settled_pairs ps)) }
+    ensures settled { Settles source.now (take count nodes.old) nodes.new result }
 {
     if count <= STACK_NODES {
         return settle_copies(source, nodes, count);
@@ -383,10 +371,7 @@ fn settle_copies(source: &[u8], nodes: &mut [Node], count: usize) -> Option<usiz
     requires there { count ≤ length nodes.old }
     ensures same { length nodes.new ≡ length nodes.old }
     ensures within { IfSome result (λ n. n ≤ length nodes.new) }
-    ensures settled { (d : Which) (ps : Pairs Member)
-        → DescribesEntries d source.now (take count nodes.old) ps
-        → IfSome result (λ n. DescribesEntries d source.now (take n nodes.new)
-        (settled_pairs ps)) }
+    ensures settled { Settles source.now (take count nodes.old) nodes.new result }
 {
     let mut few = [Node::NONE; STACK_NODES];
     let copied = put_run(&nodes[..count], &mut few, 0)?;

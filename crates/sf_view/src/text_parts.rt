@@ -1,7 +1,7 @@
 //! Parts of a text, read without nodes.
 ghost use Rattle.std.specs.Prelude.{◌∷◌, ⊤, IfSome};
 ghost use Rattle.sf_value.specs.Ascii.{semicolon};
-ghost use Rattle.sf_value.specs.Grammar.Parameters.{SpellsRaw};
+ghost use Rattle.sf_value.specs.Grammar.Parameters.{SpellsParams};
 ghost use Rattle.sf_value.specs.Grammar.Items.{SpellsItem};
 ghost use Rattle.sf_value.specs.Grammar.InnerLists.{SpellsInner};
 ghost use Rattle.sf_value.specs.declared.dialect.Dialect.{Dialect as Which};
@@ -122,7 +122,7 @@ pub(crate) fn read_param<'a>(
 /// The rest after parameters. It costs a call only if the text begins with a semicolon.
 #[inline(always)]
 pub(crate) fn after_params(dialect: Dialect, text: &[u8]) -> Option<&[u8]>
-    ensures { IfSome result (λ rest. Reads (SpellsRaw dialect) text.now rest.now) }
+    ensures { IfSome result (λ rest. Reads (SpellsParams dialect) text.now rest.now) }
 {
     if strip_byte(text, b';').is_none() {
         return Some(text);
@@ -134,7 +134,7 @@ pub(crate) fn after_params(dialect: Dialect, text: &[u8]) -> Option<&[u8]>
 /// As [`after_params`].
 #[inline(never)]
 fn after_each_param(dialect: Dialect, text: &[u8]) -> Option<&[u8]>
-    ensures { IfSome result (λ rest. Reads (SpellsRaw dialect) text.now rest.now) }
+    ensures { IfSome result (λ rest. Reads (SpellsParams dialect) text.now rest.now) }
 {
     let mut rest = text;
     while let Some(more) = strip_byte(rest, b';') {

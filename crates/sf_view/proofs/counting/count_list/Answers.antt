@@ -8,7 +8,7 @@ loop-start-init c = list_none _ _ _ c.first_start-start.ensures
 
 pub loop-start-smaller : goal.loop-start-smaller
 loop-start-smaller c =
-    let e = c.in_ok-member.ensures in
+    let e = c.in_ok-member.ensures.reads in
     rw c.in-Some.is (less_left _ e.prefix _ _ e.split c.in-Some-next_start.ensures)
 
 pub loop-start-preserved : goal.loop-start-preserved

@@ -1,24 +1,24 @@
 use Rattle.std.proofs.Common.{◌≡◌, None}
 use Rattle.sf_value.specs.Grammar.Fields.{SpellsEntry}
-use Rattle.sf_view.proofs.Cursors.{less_left, reached_first, reached_next, dict_only}
+use Rattle.sf_view.proofs.Cursors.{less_left, done_none, done_more, dict_only}
 use Rattle.sf_view.proofs.cursor.is_dict.Goals as goal
 
 pub loop-start-init : goal.loop-start-init
-loop-start-init c = reached_first (SpellsEntry c.args.dialect) _ _ c.first_start-start.ensures
+loop-start-init c = done_none (SpellsEntry c.args.dialect) _ _ c.first_start-start.ensures
 
 pub loop-start-smaller : goal.loop-start-smaller
 loop-start-smaller c =
-    let e = c.in_ok-after.ensures in
+    let e = c.in_ok-after.ensures.reads in
     rw c.in-Some.is (less_left _ e.prefix _ _ e.split c.in_ok-start.ensures)
 
 pub loop-start-preserved : goal.loop-start-preserved
 loop-start-preserved c =
-    let e = c.in_ok-after.ensures in
-    reached_next (SpellsEntry c.args.dialect) _ _ e.prefix _ _ _
+    let e = c.in_ok-after.ensures.reads in
+    done_more (SpellsEntry c.args.dialect) _ _ e.prefix _ _ _
     (rw c.in-Some.is at c.loop-start.invariant) e.split e.spelled c.in_ok-start.ensures
 
 pub returns : goal.returns
 returns c =
     let is = c.in_default.is in
     let none : c.loop-start.start ≡ None = cc in
-    dict_only _ _ (rw none at c.loop-start.invariant)
+    (_, dict_only _ _ (rw none at c.loop-start.invariant))

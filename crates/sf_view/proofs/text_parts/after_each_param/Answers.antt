@@ -1,17 +1,12 @@
-use Rattle.std.proofs.Common.{subst, sym}
-use Rattle.sf_value.specs.Grammar.Parameters.{SpellsRaw}
-use Rattle.sf_view.specs.Reads.{Reads}
-use Rattle.sf_view.proofs.ReadParts.{raw_end, raw_then}
+use Rattle.sf_view.proofs.ReadParts.{raw_end, raw_more, params_of}
 use Rattle.sf_view.proofs.text_parts.after_each_param.Goals as goal
 
 pub loop-more-init : goal.loop-more-init
-loop-more-init c = λ s r. r
+loop-more-init c = raw_end _ _
 
 pub loop-more-preserved : goal.loop-more-preserved
-loop-more-preserved c = λ s r.
-    c.loop-more.invariant s
-    (subst (λ y. Reads (SpellsRaw c.args.dialect) y s) (sym c.in-Some.ensures)
-    (raw_then _ _ _ _ _ _ c.in_ok-left.ensures r))
+loop-more-preserved c =
+    raw_more _ _ _ _ _ _ _ c.loop-more.invariant c.in-Some.ensures c.in_ok-left.ensures
 
 pub returns : goal.returns
-returns c = c.loop-more.invariant _ (raw_end _ _)
+returns c = params_of _ _ _ c.loop-more.invariant

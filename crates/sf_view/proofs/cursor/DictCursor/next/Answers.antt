@@ -8,10 +8,10 @@ use Rattle.sf_view.proofs.cursor.DictCursor.next.Goals as goal
 pub returns-clause-next : goal.returns-clause-next
 returns-clause-next c =
     let P = SpellsEntry c.args.self.now.dialect in
-    let e = c.in_ok-key.ensures in
+    let e = c.in_ok-key.ensures.reads in
     let p : List ℕ × Member = (c.in_ok-key.key.now, e.value) in (
       e.value,
-      e.shows,
+      c.in_ok-key.ensures.shows,
       λ ps r.
           subst (λ o. Remains P (option_copied o) (p ∷ ps)) (sym c.in-Some.is)
           (remains_then P _ e.prefix _ _ p ps e.split e.spelled c.in_ok-self.ensures r),
@@ -19,6 +19,6 @@ returns-clause-next c =
 
 pub returns-clause-fewer : goal.returns-clause-fewer
 returns-clause-fewer c =
-    let e = c.in_ok-key.ensures in
+    let e = c.in_ok-key.ensures.reads in
     subst (λ o. left_in (option_copied c.in_ok-self.field-0) < left_in (option_copied o))
     (sym c.in-Some.is) (less_left _ e.prefix _ _ e.split c.in_ok-self.ensures)

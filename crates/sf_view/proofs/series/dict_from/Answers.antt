@@ -1,12 +1,12 @@
 use Rattle.std.proofs.Common.{refl}
 use Rattle.sf_view.proofs.Members.{dict_more, dict_last, dict_raw, parts_whole, parts_raw}
 use Rattle.sf_view.proofs.Members.{so_far_kept, so_far_same}
-use Rattle.sf_view.proofs.growing.dict_from.Goals as goal
+use Rattle.sf_view.proofs.series.dict_from.Goals as goal
 
 pub returns-in_default-clause-stopped : goal.returns-in_default-clause-stopped
 returns-in_default-clause-stopped c =
-    so_far_kept _ _ _ _ _ _ c.loop-scan.invariant.so_far c.entry_after.ensures.kept
-    c.entry_after.ensures.same
+    so_far_kept _ _ _ _ _ _ c.loop-scan.invariant.so_far c.scan_entry.ensures.kept
+    c.scan_entry.ensures.same
 
 pub returns-then-are_apart-clause-parts : goal.returns-then-are_apart-clause-parts
 returns-then-are_apart-clause-parts c =
@@ -23,8 +23,8 @@ returns-then-ends-clause-parts c =
 
 pub returns-in_default-strip_byte-clause-stopped : goal.returns-in_default-strip_byte-clause-stopped
 returns-in_default-strip_byte-clause-stopped c =
-    so_far_kept _ _ _ _ _ _ c.loop-scan.invariant.so_far c.entry_after.ensures.kept
-    c.entry_after.ensures.same
+    so_far_kept _ _ _ _ _ _ c.loop-scan.invariant.so_far c.scan_entry.ensures.kept
+    c.scan_entry.ensures.same
 
 pub loop-scan-preserved : goal.loop-scan-preserved
 loop-scan-preserved c = record {

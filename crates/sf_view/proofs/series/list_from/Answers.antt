@@ -1,11 +1,11 @@
 use Rattle.std.proofs.Common.{refl}
 use Rattle.sf_view.proofs.Members.{list_more, list_last, so_far_kept, so_far_same}
-use Rattle.sf_view.proofs.growing.list_from.Goals as goal
+use Rattle.sf_view.proofs.series.list_from.Goals as goal
 
 pub returns-in_default-clause-stopped : goal.returns-in_default-clause-stopped
 returns-in_default-clause-stopped c =
-    so_far_kept _ _ _ _ _ _ c.loop-scan.invariant c.member_after.ensures.kept
-    c.member_after.ensures.same
+    so_far_kept _ _ _ _ _ _ c.loop-scan.invariant c.scan_member.ensures.kept
+    c.scan_member.ensures.same
 
 pub returns-then-ends-clause-accepts : goal.returns-then-ends-clause-accepts
 returns-then-ends-clause-accepts c =
@@ -14,8 +14,8 @@ returns-then-ends-clause-accepts c =
 
 pub returns-in_default-strip_byte-clause-stopped : goal.returns-in_default-strip_byte-clause-stopped
 returns-in_default-strip_byte-clause-stopped c =
-    so_far_kept _ _ _ _ _ _ c.loop-scan.invariant c.member_after.ensures.kept
-    c.member_after.ensures.same
+    so_far_kept _ _ _ _ _ _ c.loop-scan.invariant c.scan_member.ensures.kept
+    c.scan_member.ensures.same
 
 pub loop-scan-preserved : goal.loop-scan-preserved
 loop-scan-preserved c =

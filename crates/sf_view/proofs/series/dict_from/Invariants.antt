@@ -1,6 +1,6 @@
 use Rattle.std.proofs.Common.{◌≡◌, length, false}
 use Rattle.sf_view.specs.Accepts.{AreEntries}
-use Rattle.sf_view.proofs.growing.dict_from.Given as goal
+use Rattle.sf_view.proofs.series.dict_from.Given as goal
 
 abbrev pub invariant-loop-scan : goal.invariant-loop-scan
 invariant-loop-scan l = record {
