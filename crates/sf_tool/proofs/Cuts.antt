@@ -1,6 +1,7 @@
 -- The first line of a text, and how long lines are.
 use Rattle.std.proofs.Common.{◌≡◌, ℕ, ◌<◌, ◌≤◌, ◌⊎◌, inl, inr, false, not, List, [], ◌∷◌, length}
 use Rattle.std.proofs.Common.{◌-◌, length-drop, length-take, refl, ◌∙◌, ap, arith}
+use Rattle.std.proofs.Common.{Bool, ◌==◌}
 use Rattle.std.specs.Prelude.{All}
 use Rattle.std.specs.List.{prefix_len, suffix_len, slice_split, position_or_len}
 use Rattle.std.specs.List.{before_first, after_first}
@@ -9,8 +10,12 @@ use Rattle.std.proofs.lemmas.List.Splits.{slice_split_first, slice_split_none, l
 use Rattle.std.proofs.lemmas.Bool.{cases_lt}
 use Rattle.std.proofs.lemmas.List.Sums.{fails_before_first, prefix_len-le-length}
 use Rattle.std.proofs.Math.Dec.{eqb-suc-zero}
+use Rattle.sf_value.specs.Ascii.{line_feed}
 use Rattle.sf_value.specs.Grammar.Classes.{is_ows}
-use Rattle.sf_tool.specs.Lines.{is_line_feed, without_lead, trim}
+use Rattle.sf_tool.specs.Lines.{without_lead, trim}
+
+abbrev pub is_line_feed : ℕ → Bool
+is_line_feed b = b == line_feed
 
 -- before a further part, the first part is a line
 lines_of_parts-first : (part : List ℕ) (parts : List (List ℕ)) → 0 < length parts

@@ -14,11 +14,11 @@ use Rattle.sf_value.specs.Grammar.Lines.{join}
 use Rattle.sf_parse.specs.declared.refusal.Refusal.{Refusal}
 use Rattle.sf_field.specs.Lines.{ParsesLines}
 use Rattle.sf_field.proofs.Feeding.{behind, joined}
-use Rattle.sf_tool.specs.Lines.{is_line_feed, trim, lines_of}
+use Rattle.sf_tool.specs.Lines.{trim, lines_of}
 use Rattle.sf_field.specs.Asking.{Asks}
 use Rattle.sf_field.specs.declared.asking.AskFault.{AskFault}
 use Rattle.sf_tool.specs.Run.{input_limit, IsOfText, IsAskOfText}
-use Rattle.sf_tool.proofs.Cuts.{lines-first, lines-last, length-trim}
+use Rattle.sf_tool.proofs.Cuts.{is_line_feed, lines-first, lines-last, length-trim}
 use Rattle.sf_tool.proofs.Reports.{is_of_text, is_ask_of_text}
 
 length-strip : (l : List ℕ) → length (strip_carriage_return l) ≤ length l

@@ -1,13 +1,8 @@
 -- The field lines of an input.
-use Rattle.std.specs.Prelude.{ℕ, ◌-◌, Bool, List, ◌∷◌, map, length, take, drop, ◌==◌}
-use Rattle.std.specs.Prelude.{Option, Some, None}
+use Rattle.std.specs.Prelude.{ℕ, ◌-◌, List, ◌∷◌, map, length, take, drop, Option, Some, None}
 use Rattle.std.specs.List.{prefix_len, suffix_len}
 use Rattle.std.specs.Str.Lines.{lines}
-use Rattle.sf_value.specs.Ascii.{line_feed}
 use Rattle.sf_value.specs.Grammar.Classes.{is_ows}
-
-abbrev pub is_line_feed : ℕ → Bool
-is_line_feed b = b == line_feed
 
 abbrev pub without_lead : List ℕ → List ℕ
 without_lead bytes = drop (prefix_len is_ows bytes) bytes

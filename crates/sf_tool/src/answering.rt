@@ -62,6 +62,30 @@ pub(crate) enum View {
     Canonical,
 }
 
+/// A request for the field of the input.
+#[derive(Clone, Copy)]
+pub(crate) struct FieldRequest {
+    /// How the field is printed.
+    pub view: View,
+    /// The dialect by which it is read.
+    pub dialect: Dialect,
+    /// The kind as which it is read.
+    pub kind: Kind,
+}
+
+impl FieldRequest {
+    /// Returns the request for this view of a field.
+    pub fn new(view: View, dialect: Dialect, kind: Kind) -> FieldRequest
+        ensures { result ≡ record { view = view; dialect = dialect; kind = kind } }
+    {
+        FieldRequest {
+            view,
+            dialect,
+            kind,
+        }
+    }
+}
+
 /// Writes a view of a field after what was sent before.
 fn put_view<W: Sink>(view: View, field: &Field, before: Sent, out: &mut W) -> Sent
     ensures { Follows W.state W.send_gives out.old out.new before result
@@ -104,26 +128,26 @@ fn answer_viewed<W: Sink>(nodes: &sf_view::View, kind: Kind, sink: &mut W) -> St
 /// nothing was written.
 pub(crate) fn answer_scanned<W: Sink>(
     alloc: Global,
-    view: View,
-    dialect: Dialect,
-    kind: Kind,
+    request: FieldRequest,
     text: &[u8],
     sink: &mut W,
 ) -> Option<Status>
     // Accepted if the whole text was written; Stopped if a write failed after a prefix of it.
     ensures { MatchOption result (W.state sink.new ≡ W.state sink.old)
-        (λ status. ReportsOnly (view_text view) dialect kind text.now
+        (λ status. ReportsOnly (view_text request.view) request.dialect request.kind text.now
         (W.state sink.old) (W.state sink.new) status) }
 {
-    match view {
+    match request.view {
         View::Tree => return None,
         View::Verdict => {
-            if accepts(dialect, kind, text) {
+            if accepts(request.dialect, request.kind, text) {
                 return Some(answer_made(b"accepted\n", Status::Accepted, sink));
             }
             return None;
         }
-        View::Canonical => return answer_nodes(alloc, dialect, kind, text, sink),
+        View::Canonical => {
+            return answer_nodes(alloc, request.dialect, request.kind, text, sink);
+        }
     }
 }
 

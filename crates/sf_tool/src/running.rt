@@ -17,7 +17,7 @@ ghost use Rattle.sf_tool.specs.Run.{Runs, Reports, ReportsInputFault, ReportsTex
 ghost use Rattle.sf_tool.specs.Run.{input_limit, joined, view_request, IsOfText, IsAskOfText};
 
 use crate::answering::{
-    View, answer_ask_fault, answer_chosen, answer_fallback, answer_made, answer_path,
+    FieldRequest, View, answer_ask_fault, answer_chosen, answer_fallback, answer_made, answer_path,
     answer_priority, answer_refusal, answer_refused_line, answer_scanned, answer_too_long,
     answer_view,
 };
@@ -149,23 +149,21 @@ fn parse_scanned(
 fn answer_field<W: Sink>(
     alloc: Global,
     seed: &RandomState,
-    view: View,
-    dialect: Dialect,
-    kind: Kind,
+    request: FieldRequest,
     input: &[u8],
     sink: &mut W,
 ) -> Status
     requires { length input.now ≤ input_limit }
     // The whole answer was written; or a prefix of it, and a write failed; or nothing.
-    ensures { Reports (view_request view dialect kind) input.now
+    ensures { Reports (view_request request.view request.dialect request.kind) input.now
         (W.state sink.old) (W.state sink.new) result }
 {
-    if matches!(view, View::Tree) {
-        return answer_parsed(alloc, seed, view, dialect, kind, input, None, sink);
+    if matches!(request.view, View::Tree) {
+        return answer_parsed(alloc, seed, request, input, None, sink);
     }
     match only_line(input) {
-        Some(line) => return answer_text(alloc, seed, view, dialect, kind, input, line, sink),
-        None => return answer_lines(alloc, seed, view, dialect, kind, input, sink),
+        Some(line) => return answer_text(alloc, seed, request, input, line, sink),
+        None => return answer_lines(alloc, seed, request, input, sink),
     }
 }
 
@@ -173,24 +171,22 @@ fn answer_field<W: Sink>(
 fn answer_lines<W: Sink>(
     alloc: Global,
     seed: &RandomState,
-    view: View,
-    dialect: Dialect,
-    kind: Kind,
+    request: FieldRequest,
     input: &[u8],
     sink: &mut W,
 ) -> Status
     requires { length input.now ≤ input_limit }
     // The whole answer was written; or a prefix of it, and a write failed; or nothing.
-    ensures { Reports (view_request view dialect kind) input.now
+    ensures { Reports (view_request request.view request.dialect request.kind) input.now
         (W.state sink.old) (W.state sink.new) result }
 {
-    let Some(stop) = first_stop(dialect, kind, input) else {
-        return answer_accepted(alloc, seed, view, dialect, kind, input, sink);
+    let Some(stop) = first_stop(request.dialect, request.kind, input) else {
+        return answer_accepted(alloc, seed, request, input, sink);
     };
-    match parse_from_stop(alloc, seed, dialect, kind, input, stop) {
-        Some(Ok(())) => return answer_accepted(alloc, seed, view, dialect, kind, input, sink),
+    match parse_from_stop(alloc, seed, request.dialect, request.kind, input, stop) {
+        Some(Ok(())) => return answer_accepted(alloc, seed, request, input, sink),
         Some(Err(refusal)) => return answer_refusal(refusal, sink),
-        None => return answer_parsed(alloc, seed, view, dialect, kind, input, None, sink),
+        None => return answer_parsed(alloc, seed, request, input, None, sink),
     }
 }
 
@@ -198,21 +194,19 @@ fn answer_lines<W: Sink>(
 fn answer_accepted<W: Sink>(
     alloc: Global,
     seed: &RandomState,
-    view: View,
-    dialect: Dialect,
-    kind: Kind,
+    request: FieldRequest,
     input: &[u8],
     sink: &mut W,
 ) -> Status
     requires short { length input.now ≤ input_limit }
-    requires accepted { (v : FieldValue) × IsOnly dialect kind (joined input.now) v }
+    requires accepted { (v : FieldValue) × IsOnly request.dialect request.kind (joined input.now) v }
     // The whole answer was written; or a prefix of it, and a write failed; or nothing.
-    ensures { Reports (view_request view dialect kind) input.now
+    ensures { Reports (view_request request.view request.dialect request.kind) input.now
         (W.state sink.old) (W.state sink.new) result }
 {
-    match view {
+    match request.view {
         View::Verdict => return answer_made(b"accepted\n", Status::Accepted, sink),
-        _ => return answer_joined(alloc, seed, view, dialect, kind, input, sink),
+        _ => return answer_joined(alloc, seed, request, input, sink),
     }
 }
 
@@ -220,31 +214,20 @@ fn answer_accepted<W: Sink>(
 fn answer_joined<W: Sink>(
     alloc: Global,
     seed: &RandomState,
-    view: View,
-    dialect: Dialect,
-    kind: Kind,
+    request: FieldRequest,
     input: &[u8],
     sink: &mut W,
 ) -> Status
     requires { length input.now ≤ input_limit }
     // The whole answer was written; or a prefix of it, and a write failed; or nothing.
-    ensures { Reports (view_request view dialect kind) input.now
+    ensures { Reports (view_request request.view request.dialect request.kind) input.now
         (W.state sink.old) (W.state sink.new) result }
 {
     match join_lines(alloc, input) {
         Ok(text) => {
-            return answer_text(
-                alloc,
-                seed,
-                view,
-                dialect,
-                kind,
-                input,
-                text.as_slice(),
-                sink,
-            );
+            return answer_text(alloc, seed, request, input, text.as_slice(), sink);
         }
-        Err(_) => return answer_parsed(alloc, seed, view, dialect, kind, input, None, sink),
+        Err(_) => return answer_parsed(alloc, seed, request, input, None, sink),
     }
 }
 
@@ -252,9 +235,7 @@ fn answer_joined<W: Sink>(
 fn answer_text<W: Sink>(
     alloc: Global,
     seed: &RandomState,
-    view: View,
-    dialect: Dialect,
-    kind: Kind,
+    request: FieldRequest,
     input: &[u8],
     text: &[u8],
     sink: &mut W,
@@ -262,12 +243,12 @@ fn answer_text<W: Sink>(
     requires short { length input.now ≤ input_limit }
     requires text { text.now ≡ joined input.now }
     // The whole answer was written; or a prefix of it, and a write failed; or nothing.
-    ensures { Reports (view_request view dialect kind) input.now
+    ensures { Reports (view_request request.view request.dialect request.kind) input.now
         (W.state sink.old) (W.state sink.new) result }
 {
-    match answer_scanned(alloc, view, dialect, kind, text, sink) {
+    match answer_scanned(alloc, request, text, sink) {
         Some(status) => return status,
-        None => return answer_parsed(alloc, seed, view, dialect, kind, input, Some(text), sink),
+        None => return answer_parsed(alloc, seed, request, input, Some(text), sink),
     }
 }
 
@@ -276,9 +257,7 @@ fn answer_text<W: Sink>(
 fn answer_parsed<W: Sink>(
     alloc: Global,
     seed: &RandomState,
-    view: View,
-    dialect: Dialect,
-    kind: Kind,
+    request: FieldRequest,
     input: &[u8],
     declined: Option<&[u8]>,
     sink: &mut W,
@@ -286,11 +265,11 @@ fn answer_parsed<W: Sink>(
     requires short { length input.now ≤ input_limit }
     requires declined { IfSome declined (λ text. text.now ≡ joined input.now) }
     // The whole answer was written; or a prefix of it, and a write failed; or nothing.
-    ensures { Reports (view_request view dialect kind) input.now
+    ensures { Reports (view_request request.view request.dialect request.kind) input.now
         (W.state sink.old) (W.state sink.new) result }
 {
-    match parse_input(alloc, seed, dialect, kind, input, declined) {
-        Ok(field) => answer_view(view, field, sink),
+    match parse_input(alloc, seed, request.dialect, request.kind, input, declined) {
+        Ok(field) => answer_view(request.view, field, sink),
         Err(refusal) => answer_refusal(refusal, sink),
     }
 }
@@ -426,13 +405,16 @@ fn answer<W: Sink>(
 {
     match request {
         Request::Show(dialect, kind) => {
-            answer_field(alloc, seed, View::Tree, *dialect, *kind, input, sink)
+            let field = FieldRequest::new(View::Tree, *dialect, *kind);
+            answer_field(alloc, seed, field, input, sink)
         }
         Request::Check(dialect, kind) => {
-            answer_field(alloc, seed, View::Verdict, *dialect, *kind, input, sink)
+            let field = FieldRequest::new(View::Verdict, *dialect, *kind);
+            answer_field(alloc, seed, field, input, sink)
         }
         Request::Normalise(dialect, kind) => {
-            answer_field(alloc, seed, View::Canonical, *dialect, *kind, input, sink)
+            let field = FieldRequest::new(View::Canonical, *dialect, *kind);
+            answer_field(alloc, seed, field, input, sink)
         }
         Request::CacheStatus => cache_status(alloc, seed, input, sink),
         Request::Targeted(names) => targeted(alloc, seed, names, input, sink),
@@ -507,8 +489,8 @@ fn answer_in_parts<W: Sink>(
     ensures { Reports request.now input.now (W.state sink.old) (W.state sink.new) result }
 {
     if let Request::Normalise(dialect, kind) = request {
-        let view = View::Canonical;
-        return answer_parsed(alloc, seed, view, *dialect, *kind, input, None, sink);
+        let field = FieldRequest::new(View::Canonical, *dialect, *kind);
+        return answer_parsed(alloc, seed, field, input, None, sink);
     }
     answer(alloc, seed, request, input, sink)
 }

@@ -50,12 +50,6 @@ abbrev pub IsChosenIn : Dialect → Seq (Seq ℕ) → Headers → Choice → Typ
 IsChosenIn dialect = IsChosenFromIn dialect 0
 
 -- the same by RFC 9651
-abbrev pub Usable : Headers → Seq ℕ → Dict → Type 0
-Usable headers name d = UsableIn Rfc9651 headers name d
-
-abbrev pub IsOffer : Headers → Seq ℕ → Option Policy → Type 0
-IsOffer headers name offered = IsOfferIn Rfc9651 headers name offered
-
 abbrev pub IsChosenFrom : ℕ → Seq (Seq ℕ) → Headers → Choice → Type 0
 IsChosenFrom index names headers c = IsChosenFromIn Rfc9651 index names headers c
 
