@@ -2,7 +2,7 @@
 use Rattle.std.proofs.Common.{◌≡◌, ℕ, ℤ, pos, ◌<◌, ◌≤◌, ◌∷◌, ◌++◌, Bool, true, false, List, []}
 use Rattle.std.proofs.Common.{Option, None, Some, refl, sym, ap, subst, ◌∙◌, append-nil}
 use Rattle.std.proofs.Common.{append_assoc, arith, rules}
-use Rattle.std.specs.Prelude.{codes, ◌||◌, ◌^◌}
+use Rattle.std.specs.Prelude.{codes, IfSome, ◌^◌}
 use Rattle.std.specs.Int.RustNames.{FitsSigned}
 use Rattle.std.proofs.Common.{w64}
 use Rattle.sf_use.specs.Ranges.{IsUrgency}
@@ -27,7 +27,6 @@ use Rattle.sf_value.specs.Grammar.Words.{Each}
 use Rattle.sf_parse.specs.Parsers.{IsOnly}
 use Rattle.sf_view.specs.declared.view.View.{View}
 use Rattle.sf_view.specs.Views.{IsViewed}
-use Rattle.sf_view.specs.declared.node.Node.{Node}
 use Rattle.sf_view.specs.Parts.{SplitsOff}
 use Rattle.sf_view.specs.View.{DescribesEntries, DescribesField, DescribesMember}
 use Rattle.sf_value.specs.Devices.{SinkState}
@@ -46,7 +45,7 @@ use Rattle.sf_c.specs.Priorities.{params_of_flags, urgency_at}
 use Rattle.sf_c.specs.PriorityChanges.{ChangesBy}
 use Rattle.sf_c.specs.PriorityChanges as change
 use Rattle.sf_c.specs.PriorityParts.{changed, incremental_member, inserted, inserted_at}
-use Rattle.sf_c.specs.PriorityParts.{separator, unless}
+use Rattle.sf_c.specs.PriorityParts.{only_if, replaced, separator, unless}
 use Rattle.sf_c.specs.PriorityParts.{series_text, urgency_member, with_i, with_u}
 use Rattle.sf_c.specs.TextBuffers.{PutsText, Writes}
 use Rattle.sf_c.proofs.NodeTexts.{changes_priority}
@@ -83,6 +82,32 @@ first_inserted u i p ps =
     by (Some n) None false false e f = rw (e, f)
     by (Some n) (Some b) false false e f = rw (e, f)
 
+-- what is written at a key
+changed_is : (u : Option ℕ) (i : Option Bool) (k : List ℕ) (m : Member)
+    → changed u i (k, m)
+    ≡ replaced (only_if (bytes_eq (codes "u") k) u) (only_if (bytes_eq (codes "i") k) i) (k, m)
+changed_is u i k m = by u (bytes_eq (codes "u") k) (bytes_eq (codes "i") k) refl refl
+  where
+    by : (u : Option ℕ) (x y : Bool) → bytes_eq (codes "u") k ≡ x → bytes_eq (codes "i") k ≡ y
+        → changed u i (k, m)
+        ≡ replaced (only_if (bytes_eq (codes "u") k) u) (only_if (bytes_eq (codes "i") k) i) (k, m)
+    by u true true e f = let never = not_both k e in absurd cc
+    by None true false e f = rw (e, f) refl
+    by (Some n) true false e f = rw e refl
+    by u false true e f = rw (e, f) refl
+    by u false false e f = rw (e, f) refl
+
+-- what is set is written only at its key
+named_if : {X : Type 0} (name k : List ℕ) (x y : Option X) → y ≡ only_if (bytes_eq name k) x
+    → IfSome y (λ _. k ≡ name)
+named_if {X = X} name k x y e =
+    subst (λ o. IfSome o (λ _. k ≡ name)) (sym e) (by (bytes_eq name k) refl x)
+  where
+    by : (b : Bool) → bytes_eq name k ≡ b → (z : Option X) → IfSome (only_if b z) (λ _. k ≡ name)
+    by true f None = tt
+    by true f (Some z) = sym (key_is name k f)
+    by false f z = tt
+
 pub first_text : (first : Bool) (p : List ℕ × Member) (ps : Pairs Member)
     → series_text first (p ∷ ps) ≡ separator first ++ (canon_entry p ++ series_text false ps)
 first_text true p ps = refl
@@ -117,8 +142,8 @@ pub record Unput (view : View) (R : List ℕ → Type 0) (first : Bool) (u : Opt
 module _ {S : Type 0} {state : S → SinkState} {gives : S → List ℕ → S → Type 0} where
   -- one more is written
   pub unput_less : {start now mid next : S} {before sent separated after : Result ℕ WriteFault}
-      {all : List ℕ} (view part others : View) (first : Bool) (u v : Option ℕ)
-      (i j : Option Bool) (key : List ℕ)
+      {all : List ℕ} (view part others : View) (first : Bool) (u v x : Option ℕ)
+      (i j y : Option Bool) (key : List ℕ)
       → Unput view (Remains state gives start now before sent all) first u i
       → (part.text.now ≡ view.text.now) × (others.text.now ≡ view.text.now)
       → ((ps : Pairs Member) → DescribesEntries Rfc9651 view.text.now view.nodes.now ps
@@ -127,20 +152,35 @@ module _ {S : Type 0} {state : S → SinkState} {gives : S → List ℕ → S �
       → Follows state gives now mid sent separated (separator first)
       → ((k : List ℕ) (m : Member)
       → DescribesMember Rfc9651 part.text.now k part.nodes.now m
-      → Follows state gives mid next separated after (canon_entry (changed u i (k, m))))
+      → IfSome x (λ _. k ≡ codes "u") → IfSome y (λ _. k ≡ codes "i")
+      → Follows state gives mid next separated after (canon_entry (replaced x y (k, m))))
       → ((k : List ℕ) (m : Member)
       → DescribesMember Rfc9651 part.text.now k part.nodes.now m → key ≡ k)
+      → x ≡ only_if (bytes_eq (codes "u") key) u → y ≡ only_if (bytes_eq (codes "i") key) i
       → v ≡ unless (bytes_eq (codes "u") key) u → j ≡ unless (bytes_eq (codes "i") key) i
       → Unput others (Remains state gives start next before after all) false v j
-  unput_less view part others first u v i j key w text splits apart write named a b =
+  unput_less {mid = mid} {next = next} {separated = separated} {after = after}
+      view part others first u v x i j y key w text splits apart write named p q a b =
       let h = splits w.rest w.describes in
-      let d : DescribesMember Rfc9651 part.text.now h.value.0 part.nodes.now h.value.1 =
-      rw text.0 h.first in
-      let same : key ≡ h.value.0 = named h.value.0 h.value.1 d in
-      let u' : Option ℕ = unless (bytes_eq (codes "u") h.value.0) u in
-      let i' : Option Bool = unless (bytes_eq (codes "i") h.value.0) i in
+      let k : List ℕ = h.value.0 in
+      let m : Member = h.value.1 in
+      let d : DescribesMember Rfc9651 part.text.now k part.nodes.now m = rw text.0 h.first in
+      let same : key ≡ k = named k m d in
+      let u' : Option ℕ = unless (bytes_eq (codes "u") k) u in
+      let i' : Option Bool = unless (bytes_eq (codes "i") k) i in
       let c : u' ≡ v = ap (λ k. unless (bytes_eq (codes "u") k) u) (sym same) ∙ sym a in
       let e : i' ≡ j = ap (λ k. unless (bytes_eq (codes "i") k) i) (sym same) ∙ sym b in
+      let x' : x ≡ only_if (bytes_eq (codes "u") k) u =
+      p ∙ ap (λ k. only_if (bytes_eq (codes "u") k) u) same in
+      let y' : y ≡ only_if (bytes_eq (codes "i") k) i =
+      q ∙ ap (λ k. only_if (bytes_eq (codes "i") k) i) same in
+      let is : replaced x y (k, m) ≡ changed u i h.value =
+      ap (λ o. replaced o y (k, m)) x'
+      ∙ ap (λ o. replaced (only_if (bytes_eq (codes "u") k) u) o (k, m)) y'
+      ∙ sym (changed_is u i k m) in
+      let written : Follows state gives mid next separated after (canon_entry (changed u i h.value)) =
+      subst (λ z. Follows state gives mid next separated after (canon_entry z)) is
+      (write k m d (named_if (codes "u") k u x x') (named_if (codes "i") k i y y')) in
       let chunk : List ℕ = separator first ++ canon_entry (changed u i h.value) in
       let split : series_text first (inserted u i w.rest)
       ≡ chunk ++ series_text false (inserted v j h.others) =
@@ -154,7 +194,7 @@ module _ {S : Type 0} {state : S → SinkState} {gives : S → List ℕ → S �
       record {
         rest = h.others;
         describes = rw text.1 h.rest;
-        unwritten = remains_less w.unwritten split (then apart (write h.value.0 h.value.1 d));
+        unwritten = remains_less w.unwritten split (then apart written);
       }
 
   -- all are written
@@ -168,23 +208,6 @@ module _ {S : Type 0} {state : S → SinkState} {gives : S → List ℕ → S �
       w.unwritten.finish end r
       (subst (λ ps. Follows state gives now end sent r (series_text first (inserted u i ps)))
       (sym (none w.rest w.describes)) write)
-
-pub unput_at : {R : List ℕ → Type 0} (view : View) (first : Bool) (u v : Option ℕ)
-    (i j : Option Bool) → v ≡ u → j ≡ i → Unput view R first u i → Unput view R first v j
-unput_at {R = R} view first u v i j e f w =
-    subst (λ x. Unput view R first x j) (sym e) (subst (λ y. Unput view R first u y) (sym f) w)
-
--- what is still to be put after one more member
-pub still : {X : Type 0} (named taken now : Bool) (x y : Option X) → now ≡ (named || taken)
-    → y ≡ unless taken x → unless now x ≡ unless named y
-still true taken now x y e f = rw e refl
-still false true now x y e f = rw (e, f) refl
-still false false now x y e f = rw (e, f) refl
-
--- one member alone
-pub described_alone : (source k : List ℕ) (ns : List Node) (m : Member)
-    → DescribesMember Rfc9651 source k ns m → DescribesEntries Rfc9651 source ns ((k, m) ∷ [])
-described_alone source k ns m d = (ns, [], sym (append-nil ns), d, refl)
 
 pub urgency_fits : (z : ℤ) (n : ℕ) → z ≡ pos n → IsUrgency n → FitsSigned w64 z
 urgency_fits z n e h = small_fits z (rw e (omega (arith, h)))

@@ -54,6 +54,16 @@ changed u i p =
     if bytes_eq (codes "u") p.0 then set_u u p
     else (if bytes_eq (codes "i") p.0 then set_i i p else p)
 
+-- what is set, if a member has its key
+abbrev pub only_if : {X : Type 0} → Bool → Option X → Option X
+only_if true x = x
+only_if false x = None
+
+-- a member, or what is set at its key
+abbrev pub replaced : Option ℕ → Option Bool → List ℕ × Member → List ℕ × Member
+replaced None i p = set_i i p
+replaced (Some n) i p = (p.0, urgency_member n)
+
 -- what is still to be put, unless a member took it
 abbrev pub unless : {X : Type 0} → Bool → Option X → Option X
 unless true x = None

@@ -1,6 +1,6 @@
 //! A Priority field with another priority, written member by member from its nodes. It does not
 //! allocate.
-ghost use Rattle.std.specs.Prelude.{◌≡◌, ℕ, List, [], true, Ok, codes};
+ghost use Rattle.std.specs.Prelude.{◌≡◌, ℕ, List, [], true, Ok, IfSome, codes};
 ghost use Rattle.std.specs.Str.{bytes_eq};
 ghost use Rattle.sf_value.specs.declared.dialect.Dialect.TheVariants.{Rfc9651};
 ghost use Rattle.sf_value.specs.declared.value.Member.{Member};
@@ -8,15 +8,15 @@ ghost use Rattle.sf_value.specs.Grammar.Canonical.{canon_entry};
 ghost use Rattle.sf_value.specs.Grammar.Pairs.{Pairs};
 ghost use Rattle.sf_write.specs.Writing.{Follows};
 ghost use Rattle.sf_view.specs.View.{DescribesEntries, DescribesMember};
-ghost use Rattle.sf_c.specs.PriorityParts.{SpellsChange, changed, incremental_member, inserted};
-ghost use Rattle.sf_c.specs.PriorityParts.{separator, series_text, set_i, set_u, urgency_member};
-ghost use Rattle.sf_c.specs.PriorityParts.{unless, with_i};
+ghost use Rattle.sf_c.specs.PriorityParts.{SpellsChange, incremental_member, inserted, only_if};
+ghost use Rattle.sf_c.specs.PriorityParts.{replaced, separator, series_text, set_i};
+ghost use Rattle.sf_c.specs.PriorityParts.{unless, urgency_member, with_i};
 
 use crate::filling::Parts;
 use crate::priority_text::digit;
 use sf_use::{Asked, Urgency};
-use sf_value::{Kind, Sink};
-use sf_view::{View, put_view};
+use sf_value::Sink;
+use sf_view::{View, put_entry_view};
 use sf_write::{Sent, put};
 
 /// The nodes of a Priority field, and what is put into it.
@@ -52,61 +52,33 @@ fn put_members<W: Sink>(view: View, asked: &Asked, out: &mut W) -> Sent
 {
     let mut sent = Ok(0);
     let mut first = true;
-    let mut has_urgency = false;
-    let mut has_incremental = false;
+    let mut urgency = asked.urgency;
+    let mut incremental = asked.incremental;
     let mut rest = view;
     loop {
         let Some((member, others)) = rest.split_first() else {
-            let last_urgency = urgency_left(has_urgency, asked);
-            let last_incremental = incremental_left(has_incremental, asked);
-            return put_new(last_urgency, last_incremental, first, sent, out);
+            return put_new(urgency, incremental, first, sent, out);
         };
-        let new_urgency = urgency_left(has_urgency, asked);
-        let new_incremental = incremental_left(has_incremental, asked);
         // The key is compared before anything is sent: after that it would be read again.
         let key = member.key();
-        let is_urgency = is_named(b"u", key);
-        let is_incremental = is_named(b"i", key);
-        let keys = KeyTests {
-            is_urgency,
-            is_incremental,
-        };
+        let new_urgency = take_if(is_named(b"u", key), &mut urgency);
+        let new_incremental = take_if(is_named(b"i", key), &mut incremental);
         sent = put_separator(first, sent, out);
-        sent = put_member(member, keys, new_urgency, new_incremental, sent, out);
-        has_urgency = is_urgency | has_urgency;
-        has_incremental = is_incremental | has_incremental;
+        sent = put_member(member, new_urgency, new_incremental, sent, out);
         first = false;
         rest = others;
     }
 }
 
-/// Which of the two keys a member has, if it has one of them.
-#[derive(Clone, Copy, Drop)]
-struct KeyTests {
-    /// Whether its key is `u`.
-    is_urgency: bool,
-    /// Whether its key is `i`.
-    is_incremental: bool,
-}
-
-/// The urgency that is set, unless a member took it.
-fn urgency_left(is_taken: bool, asked: &Asked) -> Option<Urgency>
-    ensures { result ≡ unless is_taken asked.now.urgency }
+/// Takes what is set if the member has its key, so that it is put once.
+fn take_if<T: Copy>(is_named: bool, set: &mut Option<T>) -> Option<T>
+    ensures taken { result ≡ only_if is_named set.old }
+    ensures left { set.new ≡ unless is_named set.old }
 {
-    if is_taken {
-        return None;
+    if is_named {
+        return set.take();
     }
-    asked.urgency
-}
-
-/// The flag that is set, unless a member took it.
-fn incremental_left(is_taken: bool, asked: &Asked) -> Option<bool>
-    ensures { result ≡ unless is_taken asked.now.incremental }
-{
-    if is_taken {
-        return None;
-    }
-    asked.incremental
+    None
 }
 
 /// Whether a key has this name.
@@ -127,10 +99,10 @@ fn put_separator<W: Sink>(first: bool, before: Sent, out: &mut W) -> Sent
     put(b", ", before, out)
 }
 
-/// Writes a member, or what is set at its key.
+/// Writes a member, or what is set at its key: an urgency only if that is `u`, a flag only if it is
+/// `i`.
 fn put_member<W: Sink>(
     member: View,
-    key: KeyTests,
     urgency: Option<Urgency>,
     incremental: Option<bool>,
     before: Sent,
@@ -138,54 +110,28 @@ fn put_member<W: Sink>(
 ) -> Sent
     ensures { (k : List ℕ) (m : Member)
         → DescribesMember Rfc9651 member.entry.text.now k member.entry.nodes.now m
-        → key.is_urgency ≡ bytes_eq (codes "u") k → key.is_incremental ≡ bytes_eq (codes "i") k
+        → IfSome urgency (λ _. k ≡ codes "u") → IfSome incremental (λ _. k ≡ codes "i")
         → Follows W.state W.send_gives out.old out.new before result
-        (canon_entry (changed urgency incremental (k, m))) }
-{
-    if key.is_urgency {
-        return put_at_u(member, urgency, before, out);
-    }
-    if key.is_incremental {
-        return put_at_i(member, incremental, before, out);
-    }
-    put_entry(member, before, out)
-}
-
-/// Writes the member `u`, or the urgency that is set.
-fn put_at_u<W: Sink>(member: View, urgency: Option<Urgency>, before: Sent, out: &mut W) -> Sent
-    ensures { (k : List ℕ) (m : Member)
-        → DescribesMember Rfc9651 member.entry.text.now k member.entry.nodes.now m
-        → bytes_eq (codes "u") k ≡ true
-        → Follows W.state W.send_gives out.old out.new before result
-        (canon_entry (set_u urgency (k, m))) }
+        (canon_entry (replaced urgency incremental (k, m))) }
 {
     match urgency {
         Some(urgency) => return put_urgency(urgency, before, out),
-        None => return put_entry(member, before, out),
+        None => return put_at_i(member, incremental, before, out),
     }
 }
 
-/// Writes the member `i`, or the flag that is set.
+/// Writes a member, or the flag that is set at its key.
 fn put_at_i<W: Sink>(member: View, incremental: Option<bool>, before: Sent, out: &mut W) -> Sent
     ensures { (k : List ℕ) (m : Member)
         → DescribesMember Rfc9651 member.entry.text.now k member.entry.nodes.now m
-        → bytes_eq (codes "i") k ≡ true
+        → IfSome incremental (λ _. k ≡ codes "i")
         → Follows W.state W.send_gives out.old out.new before result
         (canon_entry (set_i incremental (k, m))) }
 {
     match incremental {
         Some(incremental) => return put_incremental(incremental, before, out),
-        None => return put_entry(member, before, out),
+        None => return put_entry_view(&member, before, out),
     }
-}
-
-/// Writes a member as it is.
-fn put_entry<W: Sink>(member: View, before: Sent, out: &mut W) -> Sent
-    ensures { (k : List ℕ) (m : Member)
-        → DescribesMember Rfc9651 member.entry.text.now k member.entry.nodes.now m
-        → Follows W.state W.send_gives out.old out.new before result (canon_entry (k, m)) }
-{
-    put_view(&member, Kind::Dict, before, out)
 }
 
 /// Writes the member `u`.

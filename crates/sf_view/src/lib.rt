@@ -48,4 +48,4 @@ pub use node_types::{NodeType, Role};
 pub use normal::{canonical_text, normalise, settled_text, view_text};
 pub use series::scan_text;
 pub use view::{BareView, Slice, Unviewed, View};
-pub use writing::{put_bare_view, put_view, write_view};
+pub use writing::{put_bare_view, put_entry_view, put_view, write_view};

@@ -75,6 +75,24 @@ pub fn write_view<W: Sink>(view: &View, kind: Kind, out: &mut W) -> Result<u64, 
     put_view(view, kind, Ok(0), out)
 }
 
+/// Writes the canonical text of the member of a Dictionary that a view shows, with its key, after
+/// what was sent before, as [`sf_write::put`] does. Does not allocate.
+///
+/// ```
+/// let (member, others) = view.split_first()?;
+/// let sent = put_entry_view(&member, Ok(0), &mut out);
+/// let sent = put(b", x", sent, &mut out);
+/// ```
+#[inline(always)]
+pub fn put_entry_view<W: Sink>(view: &View, before: Sent, out: &mut W) -> Sent
+    // Whatever member the nodes describe, its canonical text follows.
+    ensures { (d : Which) (k : Seq ℕ) (m : MemberValue)
+        → DescribesMember d view.now.text.now k view.now.nodes.now m
+        → Follows W.state W.send_gives out.old out.new before result (canon_entry (k, m)) }
+{
+    put_entry(*view, before, out)
+}
+
 /// Writes the canonical text of a bare item that borrows a text after what was sent before, as
 /// [`sf_write::put_bare`] does of a bare item. Does not allocate.
 ///

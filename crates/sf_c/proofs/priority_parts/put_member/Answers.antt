@@ -1,20 +1,16 @@
-use Rattle.std.proofs.Common.{◌≡◌, codes, false, sym, true, ◌∙◌}
-use Rattle.std.specs.Str.{bytes_eq}
+use Rattle.std.proofs.Common.{sym, subst}
+use Rattle.sf_value.specs.Grammar.Canonical.{canon_entry}
+use Rattle.sf_write.specs.Writing.{Follows}
+use Rattle.sf_c.specs.PriorityParts.{urgency_member}
 use Rattle.sf_c.proofs.priority_parts.put_member.Goals as goal
 
-pub returns-then-key : goal.returns-then-key
-returns-then-key g c = λ k m d p q.
-    let u : bytes_eq (codes "u") k ≡ true = sym p ∙ c.if-key.true in
-    rw u (c.put_at_u.ensures k m d u)
+pub returns-in-Some : goal.returns-in-Some
+returns-in-Some g c = λ k m d e f.
+    let named = rw c.in-Some.is at e in
+    rw c.in-Some.is
+    (subst (λ q. Follows g.W.Sink.state g.W.Sink.send_gives c.args.out.now c.put_urgency.new.out
+    c.args.before c.put_urgency.result (canon_entry (q, urgency_member c.in-Some.urgency)))
+    (sym named) c.put_urgency.ensures)
 
-pub returns-then-key-2 : goal.returns-then-key-2
-returns-then-key-2 g c = λ k m d p q.
-    let u : bytes_eq (codes "u") k ≡ false = sym p ∙ c.if-key.false in
-    let i : bytes_eq (codes "i") k ≡ true = sym q ∙ c.if-key-2.true in
-    rw (u, i) (c.put_at_i.ensures k m d i)
-
-pub returns : goal.returns
-returns g c = λ k m d p q.
-    let u : bytes_eq (codes "u") k ≡ false = sym p ∙ c.if-key.false in
-    let i : bytes_eq (codes "i") k ≡ false = sym q ∙ c.if-key-2.false in
-    rw (u, i) (c.put_entry.ensures k m d)
+pub returns-in-None : goal.returns-in-None
+returns-in-None g c = λ k m d e f. rw c.in-None.is (c.put_at_i.ensures k m d f)
