@@ -24,6 +24,7 @@ pub mod Flattening
 pub mod Exceeding
 pub mod Decodings
 pub mod Hops
+pub mod HopReading
 pub mod ScannedHops
 pub mod Paths
 pub mod Selecting
