@@ -2318,7 +2318,7 @@ static inline size_t sf_date_part_length(sf_text text, char part) {
   case 'D':
     return text.length > 1 && text.at[0] == ' ' && text.at[1] > '0' && text.at[1] <= '9'
                ? 2
-               : sf_pair_length(text, 10, 31);
+               : sf_pair_length(text, 1, 31);
   case 'y':
     return sf_pair_length(text, 0, 99);
   case 'Y':

@@ -184,7 +184,7 @@ static void checking(void) {
   CHECK(sf_show_refusal(&context.refusal, sf_cstr("1 2"), &small) == SF_SHORT);
   CHECK(small.length == 0 && small.required == in_text.length);
   CHECK(sf_show_excerpt(&context.refusal, sf_cstr("1 2"), 2, &out) == SF_OK);
-  CHECK(is(sf_written(&out), FIRST_LINE "\n 2\n ^"));
+  CHECK(is(sf_written(&out), FIRST_LINE "\n... 2\n    ^"));
   CHECK(sf_show_excerpt(&context.refusal, sf_cstr("1 2"), 2, &small) == SF_SHORT);
   CHECK(small.required == out.length && small.length == 0);
   /* an excerpt of one line of several; lines from 1 and places from 0 */
@@ -220,16 +220,16 @@ static void checking(void) {
     refused.offset = 15;
     location = sf_locate_in_lines(&refused, received, 3);
     CHECK(sf_show_excerpt_of_line(&location, 4, &out) == SF_OK);
-    CHECK(is(sf_written(&out), HEAD("7") "line 3, place 7:\n e, \n  ^"));
+    CHECK(is(sf_written(&out), HEAD("7") "line 3, place 7:\n... e, ...\n     ^"));
     CHECK(sf_show_excerpt_of_line(&location, 4, &small) == SF_SHORT);
     CHECK(small.required == out.length && small.length == 0);
     location.number = UINT64_MAX; /* as the caller counts */
     CHECK(sf_show_excerpt_of_line(&location, 4, &out) == SF_OK);
-    CHECK(is(sf_written(&out), HEAD("7") "line 18446744073709551615, place 7:\n e, \n  ^"));
+    CHECK(is(sf_written(&out), HEAD("7") "line 18446744073709551615, place 7:\n... e, ...\n     ^"));
     refused.offset = 99;
     location = sf_locate_in_lines(&refused, received, 3);
     CHECK(sf_show_excerpt_of_line(&location, 4, &out) == SF_OK);
-    CHECK(is(sf_written(&out), HEAD("10") "line 3, place 10:\ne, f\n    ^"));
+    CHECK(is(sf_written(&out), HEAD("10") "line 3, place 10:\n...e, f\n       ^"));
     location = sf_locate_in_lines(&refused, NULL, 0);
     CHECK(sf_show_excerpt_of_line(&location, 4, &out) == SF_OK);
     CHECK(is(sf_written(&out), "the text ended at place 0, expected a space\nline 1, place 0:\n\n^"));
@@ -2121,7 +2121,8 @@ static void parts_of_dates(void) {
       {"Sunday, 06-Nov-1994 08:49:37 GMT", 17, "a space in "},
       {"Sunday, 06-Nov-9 08:49:37 GMT", 15, "the year in "},
       {"Sun Nov 6 08:49:37 1994", 8, "the day in "},
-      {"Sun Nov 06 08:49:37 1994", 8, "the day in "},
+      {"Sun Nov 06 08:49:37 1994", -1, ""},
+      {"Sun Nov 00 08:49:37 1994", 8, "the day in "},
       {"Sun Nov  6 08:49:37 94", 20, "the year in "},
       {"Sun Nov  6 08:49:37 1994 GMT", 24, "the end of "},
       {"Sun Nov  6 1994 08:49:37", 11, "the time in "},

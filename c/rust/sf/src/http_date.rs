@@ -65,7 +65,7 @@ fn part_length(text: &[u8], part: u8) -> Option<usize> {
         b'm' => name_length(text, &MONTHS),
         b'd' => pair(text, 1, 31),
         b'D' if matches!(text, [b' ', b'1'..=b'9', ..]) => Some(2),
-        b'D' => pair(text, 10, 31),
+        b'D' => pair(text, 1, 31),
         b'y' => pair(text, 0, 99),
         b'Y' => pair(text, 0, 99).and_then(|at| Some(at + pair(&text[at..], 0, 99)?)),
         b't' => time(text),

@@ -652,7 +652,7 @@ fn parts_of_dates() {
         ("Sunday, 06 Nov 1994 08:49:37 GMT", 10, "a hyphen in "),
         ("Sunday, 06-Nov-9 08:49:37 GMT", 15, "the year in "),
         ("Sun Nov 6 08:49:37 1994", 8, "the day in "),
-        ("Sun Nov 06 08:49:37 1994", 8, "the day in "),
+        ("Sun Nov 00 08:49:37 1994", 8, "the day in "),
         ("Sun Nov  6 08:49:37 94", 20, "the year in "),
         ("Sun Nov  6 08:49:37 1994 GMT", 24, "the end of "),
         ("Sun \u{e9}", 4, "the month in "),
