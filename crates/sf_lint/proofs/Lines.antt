@@ -7,7 +7,7 @@ use Rattle.std.proofs.lemmas.List.Folds.{list_any_none, list_any_at}
 use Rattle.std.proofs.lemmas.List.Sums.{fails_before_first, passes_at_first}
 use Rattle.sf_value.specs.Grammar.Classes.{is_ows}
 use Rattle.sf_tool.specs.Fields.{is_colon, is_header_name, has_name, word_of, name_of}
-use Rattle.sf_lint.specs.Head.{is_start, is_named, line_of, IsRepeated}
+use Rattle.sf_lint.specs.Head.{is_like_start, is_start, is_named, line_of, IsRepeated}
 use Rattle.sf_lint.specs.declared.head.Line.TheVariants.{Field, Nameless}
 
 pub colon : (line : List ℕ) → position_or_len is_colon line < length line
@@ -20,32 +20,32 @@ pub no-colon : (line : List ℕ) → position_or_len is_colon line ≡ length li
 no-colon line e =
     list_any_none is_colon line (λ k d h. fails_before_first is_colon line k d (omega arith))
 
--- a line that is not empty, and neither folded nor a start line
+-- a line that is not empty, and neither folded nor like a start line
 nameless : (line : List ℕ) → 0 < length line → is_ows (get_or line 0 0) ≡ false
-    → is_start line ≡ false → has_name line ≡ false → Nameless ≡ line_of line
+    → is_like_start line ≡ false → has_name line ≡ false → Nameless ≡ line_of line
 nameless [] some blank start name = absurd (omega arith)
 nameless (b ∷ bs) some blank start name = rw (blank, start, name) refl
 
 pub nameless-colon : (line : List ℕ) → 0 < length line → is_ows (get_or line 0 0) ≡ false
-    → is_start line ≡ false → position_or_len is_colon line ≡ length line
+    → is_like_start line ≡ false → position_or_len is_colon line ≡ length line
     → Nameless ≡ line_of line
 nameless-colon line some blank start none =
     nameless line some blank start (rw (no-colon line none) refl)
 
 pub nameless-word : (line : List ℕ) → 0 < length line → is_ows (get_or line 0 0) ≡ false
-    → is_start line ≡ false → position_or_len is_colon line < length line
+    → is_like_start line ≡ false → position_or_len is_colon line < length line
     → is_header_name (word_of line) ≡ false → Nameless ≡ line_of line
 nameless-word line some blank start at bad =
     nameless line some blank start (rw (colon line at, bad) refl)
 
 named : (line name : List ℕ) → 0 < length line → is_ows (get_or line 0 0) ≡ false
-    → is_start line ≡ false → has_name line ≡ true → name ≡ name_of line
+    → is_like_start line ≡ false → has_name line ≡ true → name ≡ name_of line
     → Field name ≡ line_of line
 named [] name some blank start has e = absurd (omega arith)
 named (b ∷ bs) name some blank start has e = rw (blank, start, has, e) refl
 
 pub field-line : (line name : List ℕ) → 0 < length line → is_ows (get_or line 0 0) ≡ false
-    → is_start line ≡ false → position_or_len is_colon line < length line
+    → is_like_start line ≡ false → position_or_len is_colon line < length line
     → is_header_name (word_of line) ≡ true → name ≡ name_of line → Field name ≡ line_of line
 field-line line name some blank start at good e =
     named line name some blank start (rw (colon line at, good) refl) e

@@ -15,12 +15,13 @@ use Rattle.sf_parse.specs.Spots.{LinePlace, marked_text, printed}
 use Rattle.sf_field.specs.Lines.{ParsesLines}
 use Rattle.sf_tool.specs.Marks.{name_end}
 use Rattle.sf_lint.specs.declared.head.Line.{Line}
-use Rattle.sf_lint.specs.declared.head.Line.TheVariants.{Empty, Folded, Start, Field, Nameless}
+use Rattle.sf_lint.specs.declared.head.Line.TheVariants.{Empty, Folded, Start, BadStart}
+use Rattle.sf_lint.specs.declared.head.Line.TheVariants.{Field, Nameless}
 use Rattle.sf_lint.specs.declared.colours.Verdict.TheVariants as verdict
 use Rattle.sf_lint.specs.declared.settings.FieldType.{FieldType}
 use Rattle.sf_lint.specs.declared.settings.Settings.{Settings}
 use Rattle.sf_lint.specs.Colours.{verdict_text}
-use Rattle.sf_lint.specs.Head.{IsRepeated, line_of, message_from, values_in}
+use Rattle.sf_lint.specs.Head.{IsRepeated, line_of, message_from, start_end, values_in}
 use Rattle.sf_lint.specs.Marks.{mark_in}
 use Rattle.sf_lint.specs.Meanings.{meaning_of}
 use Rattle.sf_lint.specs.Settings.{type_of}
@@ -156,6 +157,9 @@ ReportsLine s lines n Empty = IsReport [] false 0
 ReportsLine s lines n Folded =
     ReportsBadLine s (n + 1) (codes "obsolete line folding") 0 (get_or lines n [])
 ReportsLine s lines n Start = IsReport (shown s (printed (get_or lines n []) ++ codes "\n")) false 0
+ReportsLine s lines n BadStart =
+    ReportsBadLine s (n + 1) (codes "a CR or NUL in a start line") (start_end (get_or lines n []))
+    (get_or lines n [])
 ReportsLine s lines n (Field name) = ReportsNamed s lines n name (type_of s name)
 ReportsLine s lines n Nameless =
     ReportsBadLine s (n + 1) (codes "not a field line") (name_end (get_or lines n []))

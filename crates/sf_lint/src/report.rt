@@ -20,7 +20,7 @@ ghost use Rattle.sf_lint.specs.declared.colours.Verdict.TheVariants as verdict;
 ghost use Rattle.sf_lint.specs.declared.head.Line.TheVariants as line;
 
 use crate::colours::Verdict;
-use crate::head::{Line, is_named, is_start, read_line, split_lines, value_of};
+use crate::head::{Line, is_named, is_start, read_line, split_lines, start_end, value_of};
 use crate::heads::decisions_if;
 use crate::marking::find_mark;
 use crate::meaning::{concatenated, meaning};
@@ -460,6 +460,14 @@ fn report_line(
                 refused: false,
                 others: 0,
             });
+        }
+        Line::BadStart => {
+            let spot = Spot {
+                line: n + 1,
+                place: start_end(lines[n]),
+                text: lines[n],
+            };
+            return report_bad_line(alloc, settings, "a CR or NUL in a start line", spot);
         }
         Line::Field(name) => return report_named(alloc, seed, settings, &name, lines, n),
         Line::Nameless => {

@@ -248,7 +248,7 @@ fn whole_outputs(rt: HostRuntime) -> Result<(), Fail> {
     let mut targets = one(&rt, HeaderName::from_static("examplecdn-cache-control"))?;
     targets.push(HeaderName::from_static("cdn-cache-control"))?;
     let options = deciding(&rt, targets, None, false);
-    let rows: [(&'static [u8], &'static [u8], Status); 9] = [
+    let rows: [(&'static [u8], &'static [u8], Status); 10] = [
         (b"", b"other fields: 0\n", Status::Accepted),
         (b"\r\n\n", b"other fields: 0\n", Status::Accepted),
         (
@@ -311,6 +311,14 @@ fn whole_outputs(rt: HostRuntime) -> Result<(), Fail> {
             b"HTTP/1.1 200 OK\nCache-Control: max-age=60\nno-store, x HTTP/1.1\n",
             b"HTTP/1.1 200 OK\nrefused line 3: not a field line\nline 3, place 8:\nno-store, x HTTP/1.1\n        ^\n\
               decision none: line 3 is no field line\nother fields: 1\n",
+            Status::Refused,
+        ),
+        // nor is the status line one with a bare CR: what caches decide is not known
+        (
+            b"HTTP/1.1 200 OK\r\r\nCache-Control: max-age=60\r\n",
+            b"refused line 1: a CR or NUL in a start line\nline 1, place 15:\n\
+              HTTP/1.1 200 OK?\n\x20              ^\n\
+              decision none: line 1 is no field line\nother fields: 1\n",
             Status::Refused,
         ),
         (

@@ -34,7 +34,7 @@ fn expect_with(rt: &(impl Abort + AllocGlobal), seed: &RandomState, settings: Se
 #[test]
 fn heads(rt: HostRuntime) -> Result<(), Fail> {
     let seed = RandomState::new(&rt)?;
-    let rows: [Row; 7] = [
+    let rows: [Row; 8] = [
         (b"", b"other fields: 0\n", Status::Accepted),
         (
             b"HTTP/2 200 \r\ncache-status: OriginCache; hit; ttl=1100\r\npriority: u=1,i\r\nserver: x\r\n\r\n",
@@ -59,6 +59,22 @@ fn heads(rt: HostRuntime) -> Result<(), Fail> {
               refused line 3: not a field line\nline 3, place 0:\n: x\n^\n\
               refused line 4: obsolete line folding\nline 4, place 0:\n??: x\n^\n\
               refused line 5: not a field line\nline 5, place 1:\nh??: x\n ^\nother fields: 0\n",
+            Status::Refused,
+        ),
+        // No start line has a CR or NUL, so none of these lines begins a message. Of two CRs before an
+        // LF, the first is in the line, and so is one that no LF follows.
+        (
+            b"HTTP/1.1 200 O\rK\nPriority: u=1\nHTTP/1.1 200 OK\r\r\npriority: i\n\
+              GET /\0 HTTP/1.1\r\nHTTP/1.1 200 OK\r",
+            b"refused line 1: a CR or NUL in a start line\nline 1, place 14:\n\
+              HTTP/1.1 200 O?K\n\x20             ^\n\
+              ok priority: u=1, i\nurgency 1 incremental true\n\
+              refused line 3: a CR or NUL in a start line\nline 3, place 15:\n\
+              HTTP/1.1 200 OK?\n\x20              ^\n\
+              refused line 5: a CR or NUL in a start line\nline 5, place 5:\n\
+              GET /? HTTP/1.1\n\x20    ^\n\
+              refused line 6: a CR or NUL in a start line\nline 6, place 15:\n\
+              HTTP/1.1 200 OK?\n\x20              ^\nother fields: 0\n",
             Status::Refused,
         ),
         (
