@@ -27,7 +27,6 @@ use Rattle.sf_use.proofs.CacheStatusLemmas.Views.{all_parts, no_parts}
 use Rattle.sf_value.proofs.Settling.{key_is}
 use Rattle.sf_value.specs.Lookups.{as_boolean, as_integer, as_text, as_token}
 use Rattle.sf_view.proofs.Overwriting.{overwritten_other}
-use Rattle.sf_c.specs.declared.hop_reading.HopTexts.{HopTexts}
 use Rattle.sf_c.specs.declared.hop_reading.KeptParams.{KeptParams}
 use Rattle.sf_c.specs.declared.hop_reading.NameBytes.{NameBytes}
 use Rattle.sf_c.specs.declared.hops.HopNode.{HopNode}

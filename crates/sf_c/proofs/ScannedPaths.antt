@@ -1,8 +1,8 @@
 -- Hops that were read from a text into buffers, one after another.
-use Rattle.std.proofs.Common.{◌≡◌, ◌≢◌, ℕ, ◌+◌, ◌<◌, ◌≤◌, Bool, true, false, List as Seq, [], ◌∷◌}
+use Rattle.std.proofs.Common.{◌≡◌, ◌≢◌, ℕ, ◌+◌, ◌<◌, ◌≤◌, true, false, List as Seq, [], ◌∷◌}
 use Rattle.std.proofs.Common.{◌++◌, length, take, set, map, Option, Some, None, Ok, refl, sym, ap}
 use Rattle.std.proofs.Common.{◌∙◌, subst, arith, append_assoc}
-use Rattle.std.proofs.Common.{option_copied, length-append, ◌⊎◌, ⊎_elim, inl, inr}
+use Rattle.std.proofs.Common.{length-append, ◌⊎◌, ⊎_elim, inl, inr}
 use Rattle.std.specs.Prelude.{position, is_none, is_some, unwrap_or, IfSome}
 use Rattle.std.specs.List.{filter_map, position_or_len}
 use Rattle.std.proofs.lemmas.Bool.Decides.{nat_tests}

@@ -1,5 +1,5 @@
 -- Hops that are read from the text of a field into their structs.
-use Rattle.std.specs.Prelude.{◌≡◌, ℕ, ℤ, pos, Bool, false, List as Seq, [], ◌∷◌, is_some}
+use Rattle.std.specs.Prelude.{◌≡◌, ℕ, pos, false, List as Seq, [], ◌∷◌, is_some}
 use Rattle.std.specs.Prelude.{codes, unwrap_or, Option, Some, None}
 use Rattle.std.specs.Option.{option_copied}
 use Rattle.std.specs.Str.{bytes_eq}
@@ -9,7 +9,6 @@ use Rattle.sf_value.specs.declared.value.Member.{Member}
 use Rattle.sf_value.specs.Grammar.Pairs.{Pairs, settle}
 use Rattle.sf_view.specs.declared.item_cursor.ItemCursor.{ItemCursor}
 use Rattle.sf_view.specs.declared.item_cursor.ParamCursor.{ParamCursor}
-use Rattle.sf_view.specs.declared.view.Slice.{Slice}
 use Rattle.sf_view.specs.Decoding.{HasBytes}
 use Rattle.sf_view.specs.ItemCursors.{RemainsInList, RemainsInItem}
 use Rattle.sf_use.specs.declared.cache_status.hop.Hop.{Hop}
