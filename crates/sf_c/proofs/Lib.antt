@@ -7,7 +7,7 @@ pub mod ParsedNodes
 pub mod HopLemmas
 pub mod OneHop
 pub mod HopBound
-pub mod HopReading
+pub mod ShownHops
 pub mod ScannedPaths
 pub mod GivenTexts
 pub mod GivenHops

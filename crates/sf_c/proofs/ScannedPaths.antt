@@ -1,8 +1,8 @@
 -- Hops that were read from a text into buffers, one after another.
-use Rattle.std.proofs.Common.{◌≡◌, ◌≢◌, ℕ, ◌+◌, ◌<◌, ◌≤◌, true, false, List as Seq, [], ◌∷◌}
+use Rattle.std.proofs.Common.{◌≡◌, ◌≢◌, ℕ, ◌+◌, ◌<◌, ◌≤◌, Bool, true, false, List as Seq, [], ◌∷◌}
 use Rattle.std.proofs.Common.{◌++◌, length, take, set, map, Option, Some, None, Ok, refl, sym, ap}
 use Rattle.std.proofs.Common.{◌∙◌, subst, arith, append_assoc}
-use Rattle.std.proofs.Common.{length-append, ◌⊎◌, ⊎_elim, inl, inr}
+use Rattle.std.proofs.Common.{option_copied, length-append, ◌⊎◌, ⊎_elim, inl, inr}
 use Rattle.std.specs.Prelude.{position, is_none, is_some, unwrap_or, IfSome}
 use Rattle.std.specs.List.{filter_map, position_or_len}
 use Rattle.std.proofs.lemmas.Bool.Decides.{nat_tests}
@@ -16,23 +16,26 @@ use Rattle.sf_value.specs.Grammar.Fields.{list_of, SpellsField}
 use Rattle.sf_value.specs.Grammar.InnerLists.{SpellsMember}
 use Rattle.sf_value.specs.Grammar.Series.{SpellsWhole}
 use Rattle.sf_parse.proofs.GrammarLaws.{one_value}
-use Rattle.sf_view.specs.declared.item_cursor.ItemCursor.{ItemCursor}
-use Rattle.sf_view.specs.declared.item_cursor.ItemView.{ItemView}
-use Rattle.sf_view.specs.ItemCursors.{ReadsNextItem, RemainsInList}
+use Rattle.sf_view.specs.declared.view.Slice.{Slice}
 use Rattle.sf_view.specs.Decoding.{HasBytes}
+use Rattle.sf_view.specs.Reads.{ShowsText}
 use Rattle.sf_use.specs.declared.cache_status.hop.Hop.{Hop}
+use Rattle.sf_use.specs.declared.cache_status.hop.Name.{Name}
 use Rattle.sf_use.specs.declared.cache_status.hop.Outcome.{Outcome}
 use Rattle.sf_use.specs.declared.cache_status.hop.Outcome.TheVariants.{Hit, Forwarded, Conflict}
 use Rattle.sf_use.specs.declared.cache_status.hop.Outcome.TheVariants.{Unsaid}
+use Rattle.sf_use.specs.declared.cache_status.view.HopCursor.{HopCursor}
+use Rattle.sf_use.specs.declared.cache_status.view.HopView.{HopView}
 use Rattle.sf_use.specs.CacheStatus.Hops.{member_hop, unless}
 use Rattle.sf_use.specs.CacheStatus.Members.{is_hit, passed_by}
 use Rattle.sf_use.specs.CacheStatus.Served.{served}
+use Rattle.sf_use.specs.CacheStatus.Views.{BorrowsName, ReadsNextHop, RemainsInPath, ShowsHop}
+use Rattle.sf_use.specs.CacheStatus.Views.{ShowsName}
 use Rattle.sf_c.specs.declared.cache_status.Path.{Path}
 use Rattle.sf_c.specs.declared.hop_scan.PathSizes.{PathSizes}
 use Rattle.sf_c.specs.declared.hops.HopNode.{HopNode}
 use Rattle.sf_c.specs.declared.span.Span.{Span}
 use Rattle.sf_c.specs.Hops.{bytes_of, detail_bytes, end_of, hops_size, outcome_number, says_by}
-use Rattle.sf_c.specs.Hops.{says_of}
 use Rattle.sf_c.specs.Hops.{hop_content, hop_content_by, hop_size, why_token, PutsSpan}
 use Rattle.sf_c.specs.Laws.{HopsAreFew, HopBytesAreFew}
 use Rattle.sf_c.specs.Paths.{IsShort, ReportsPath}
@@ -40,12 +43,11 @@ use Rattle.sf_c.specs.declared.refusal.SyntaxRefusal.{SyntaxRefusal}
 use Rattle.sf_c.specs.declared.status.Status.TheVariants.{Answered, Short}
 use Rattle.sf_c.specs.Refusals.{flag_number}
 use Rattle.sf_c.specs.declared.hop_scan.ScannedPath.{ScannedPath}
-use Rattle.sf_c.specs.declared.hop_reading.HopTexts.{HopTexts}
-use Rattle.sf_c.specs.HopReading.{HasTexts, ReadsHopTo}
-use Rattle.sf_c.specs.ScannedHops.{CountedSoFar, HasPathSizes, IsCountedTo, IsHopPut}
-use Rattle.sf_c.specs.ScannedHops.{IsPathBy, IsPathOf, IsPutTo, IsScannedPath}
+use Rattle.sf_c.specs.ScannedHops.{says_in, CountedSoFar, HasPathSizes, IsCountedTo, IsHopPut}
+use Rattle.sf_c.specs.ScannedHops.{IsPathBy, IsPathOf, IsPutTo, IsReadBy, IsReadTo, IsScannedPath}
 use Rattle.sf_c.specs.ScannedHops.{PathSoFar, PutsAfter}
 use Rattle.sf_c.proofs.HopLemmas.{prefix_of, hop_held, hop_content_is, PutsHop, TextsOf}
+use Rattle.sf_c.proofs.ShownHops.{says_shown, token_shown}
 
 -- bytes that were put after those that were used
 pub put_after : (old new free t : Seq ℕ) (used count : ℕ) (p : Span) → used ≤ length old
@@ -62,8 +64,8 @@ put_after old new free t used count p fits e small is at long =
       long ∙ sym (length-take-le count free small) ∙ ap length is,
     )
 
-pub none_read : (k : Dialect) (text : Seq ℕ) (c : ItemCursor) (nodes : Seq HopNode) (bytes : Seq ℕ)
-    → ((ms : Seq Member) → RemainsInList c ms → SpellsWhole (SpellsMember k) text ms)
+pub none_read : (k : Dialect) (text : Seq ℕ) (c : HopCursor) (nodes : Seq HopNode) (bytes : Seq ℕ)
+    → ((ms : Seq Member) → RemainsInPath c ms → SpellsWhole (SpellsMember k) text ms)
     → PathSoFar k text c nodes bytes 0 0 None
 none_read k text c nodes bytes h = record {
   members = [];
@@ -116,17 +118,16 @@ put_hop old new used n h p =
     record { name = p.name; why = p.why; key = p.key; detail = p.detail }
 
 -- one more hop
-pub hop_read : (k : Dialect) (text : Seq ℕ) (c e : ItemCursor) (m : HopNode) (t : HopTexts)
-    (nodes : Seq HopNode) (old new : Seq ℕ) (count used : ℕ) (n : HopNode) (last next : Option ℕ)
-    → PathSoFar k text c nodes old count used last → ReadsHopTo c e m t
+pub hop_read : (k : Dialect) (text : Seq ℕ) (c e : HopCursor) (v : HopView) (nodes : Seq HopNode)
+    (old new : Seq ℕ) (count used : ℕ) (n : HopNode) (last next : Option ℕ)
+    → PathSoFar k text c nodes old count used last → ReadsNextHop c e (Some v)
     → count < length nodes
-    → ((h : Hop) → HasTexts t h → says_by m ≡ says_of h → IsHopPut old new used n h)
-    → end_of n.detail ≤ length new → (m.outcome ≡ 1 → next ≡ Some count)
-    → (m.outcome ≢ 1 → next ≡ last)
+    → ((h : Hop) → ShowsHop v h → IsHopPut old new used n h) → end_of n.detail ≤ length new
+    → (n.outcome ≡ 1 → next ≡ Some count) → (n.outcome ≢ 1 → next ≡ last)
     → PathSoFar k text e (set nodes count n) new (count + 1) (end_of n.detail) next
-hop_read k text c e m t nodes old new count used n last next s r small put within hit other =
-    let h = r.hop in
-    let p = put h r.texts r.says in
+hop_read k text c e v nodes old new count used n last next s (m, h, means, shown, remains) small put
+    within hit other =
+    let p = put h shown in
     let texts : TextsOf h (bytes_of h.name) (why_token (passed_by h.outcome)) (unwrap_or h.key [])
     (detail_bytes h.detail) = record { name = refl; why = refl; key = refl; detail = refl } in
     let pushed = take_more_set nodes count n small in
@@ -138,12 +139,12 @@ hop_read k text c e m t nodes old new count used n last next s r small put withi
     let hop = put_hop old new used n h p in
     let contents = hop_content_is hop texts p.says (take count nodes) _ pushed s.held.0 in
     record {
-      members = s.members ++ r.member ∷ [];
+      members = s.members ++ m ∷ [];
       path = s.path ++ h ∷ [];
       means =
-          map-append member_hop s.members (r.member ∷ [])
-          ∙ ap (λ y. y ++ member_hop r.member ∷ []) s.means
-          ∙ ap (λ y. map Some s.path ++ y ∷ []) r.means
+          map-append member_hop s.members (m ∷ [])
+          ∙ ap (λ y. y ++ member_hop m ∷ []) s.means
+          ∙ ap (λ y. map Some s.path ++ y ∷ []) means
           ∙ sym (map-append Some s.path (h ∷ []));
       fits = omega arith;
       within = within;
@@ -153,12 +154,11 @@ hop_read k text c e m t nodes old new count used n last next s r small put withi
           ∙ sym (map-append hop_content s.path (h ∷ []));
       held = hop_held hop texts p.says (take count nodes) _ pushed s.held;
       place =
-          served_more s.path h m.outcome count last next (ap (λ y. y.outcome) r.says) many s.place
+          served_more s.path h n.outcome count last next (ap (λ y. y.outcome) p.says) many s.place
           hit other;
-      reads = λ ms left.
-          subst (SpellsWhole (SpellsMember k) text)
-          (sym (append_assoc s.members (r.member ∷ []) ms))
-          (s.reads (r.member ∷ ms) (r.remains ms left));
+      reads = λ ms r.
+          subst (SpellsWhole (SpellsMember k) text) (sym (append_assoc s.members (m ∷ []) ms))
+          (s.reads (m ∷ ms) (remains ms r));
     }
 
 -- members that each have a hop
@@ -185,12 +185,12 @@ each_meant (m ∷ ms) (h ∷ hs) e =
 each_meant ms hs e = absurd cc
 
 -- the path of a text that was read to its end
-pub path_read : (k : Dialect) (text : Seq ℕ) (c : ItemCursor) (o : Option ItemView)
+pub path_read : (k : Dialect) (text : Seq ℕ) (c e : HopCursor) (o : Option HopView)
     (nodes : Seq HopNode)
     (bytes : Seq ℕ) (s : PathSizes) → PathSoFar k text c nodes bytes s.hops s.bytes s.served
-    → ReadsNextItem c o → o ≡ None → IsPathOf k text nodes bytes s
-path_read k text c o nodes bytes z s r none =
-    let left : RemainsInList c [] = subst (ReadsNextItem c) none r in
+    → ReadsNextHop c e o → o ≡ None → IsPathOf k text nodes bytes s
+path_read k text c e o nodes bytes z s r none =
+    let left : RemainsInPath c [] = subst (ReadsNextHop c e) none r in
     let spelled : SpellsField k List text (list_of s.members) =
     subst (SpellsWhole (SpellsMember k) text) (append-nil s.members) (s.reads [] left) in
     let used : length (take z.bytes bytes) ≡ z.bytes = length-take-le z.bytes bytes s.within in
@@ -216,21 +216,35 @@ path_read k text c o nodes bytes z s r none =
     }
 
 -- a hop whose bytes were put, each after those before it
-pub hop_is_put : (t : HopTexts) (h : Hop) (b0 b1 b2 b3 b4 : Seq ℕ) (used e1 e2 e3 : ℕ)
-    (name why key detail : Span) (m n : HopNode) → HasTexts t h → says_by m ≡ says_of h
-    → ((d : Dialect) (x : Seq ℕ) → HasBytes d t.name x → PutsAfter b0 b1 used x name)
-    → ((d : Dialect) (x : Seq ℕ) → HasBytes d t.why_token x → PutsAfter b1 b2 e1 x why)
-    → ((d : Dialect) (x : Seq ℕ) → HasBytes d t.key x → PutsAfter b2 b3 e2 x key)
-    → ((d : Dialect) (x : Seq ℕ) → HasBytes d t.detail x → PutsAfter b3 b4 e3 x detail)
+pub hop_is_put : (v : HopView) (h : Hop) (b0 b1 b2 b3 b4 : Seq ℕ) (used e1 e2 e3 : ℕ)
+    (name why key detail : Span) (n : HopNode) (s1 s2 s3 s4 : Slice) → ShowsHop v h
+    → ((d : Dialect) (m : Name) → BorrowsName d v.name m → HasBytes d s1 (bytes_of m))
+    → ((d : Dialect) → HasBytes d s2 (unwrap_or (option_copied v.params.fwd) []))
+    → ((d : Dialect) (t : Option (Seq ℕ)) → ShowsText d v.params.key t
+    → HasBytes d s3 (unwrap_or t []))
+    → ((d : Dialect) (m : Option Name) → ShowsName d v.params.detail m
+    → HasBytes d s4 (detail_bytes m))
+    → ((d : Dialect) (t : Seq ℕ) → HasBytes d s1 t → PutsAfter b0 b1 used t name)
+    → ((d : Dialect) (t : Seq ℕ) → HasBytes d s2 t → PutsAfter b1 b2 e1 t why)
+    → ((d : Dialect) (t : Seq ℕ) → HasBytes d s3 t → PutsAfter b2 b3 e2 t key)
+    → ((d : Dialect) (t : Seq ℕ) → HasBytes d s4 t → PutsAfter b3 b4 e3 t detail)
     → e1 ≡ end_of name → e2 ≡ end_of why → e3 ≡ end_of key → n.name ≡ name → n.why_token ≡ why
-    → n.key ≡ key → n.detail ≡ detail → says_by n ≡ says_by m → IsHopPut b0 b4 used n h
-hop_is_put t h b0 b1 b2 b3 b4 used e1 e2 e3 name why key detail m n s is p1 p2 p3 p4 x1 x2 x3 y1 y2
-    y3 y4 says =
+    → n.key ≡ key → n.detail ≡ detail → says_by n ≡ says_in v → IsHopPut b0 b4 used n h
+hop_is_put v h b0 b1 b2 b3 b4 used e1 e2 e3 name why key detail n s1 s2 s3 s4 s f1 f2 f3 f4 p1 p2 p3
+    p4 x1 x2 x3 y1 y2 y3 y4 says =
     let d = s.dialect in
-    let q1 = p1 d (bytes_of h.name) s.name in
-    let q2 = p2 d (why_token (passed_by h.outcome)) s.why_token in
-    let q3 = p3 d (unwrap_or h.key []) s.key in
-    let q4 = p4 d (detail_bytes h.detail) s.detail in
+    let q1 : PutsAfter b0 b1 used (bytes_of h.name) name =
+    subst (λ x. PutsAfter b0 b1 used (bytes_of x.name) name) (sym s.made)
+    (p1 d (bytes_of s.name) (f1 d s.name s.shows_name)) in
+    let q2 : PutsAfter b1 b2 e1 (why_token (passed_by h.outcome)) why =
+    subst (λ t. PutsAfter b1 b2 e1 t why) (token_shown v h s)
+    (p2 d (unwrap_or (option_copied v.params.fwd) []) (f2 d)) in
+    let q3 : PutsAfter b2 b3 e2 (unwrap_or h.key []) key =
+    subst (λ x. PutsAfter b2 b3 e2 (unwrap_or x.key []) key) (sym s.made)
+    (p3 d (unwrap_or s.parts.key []) (f3 d s.parts.key s.shows_parts.key)) in
+    let q4 : PutsAfter b3 b4 e3 (detail_bytes h.detail) detail =
+    subst (λ x. PutsAfter b3 b4 e3 (detail_bytes x.detail) detail) (sym s.made)
+    (p4 d (detail_bytes s.parts.detail) (f4 d s.parts.detail s.shows_parts.detail)) in
     record {
       with_name = take (end_of name) b1;
       with_why = take (end_of why) b2;
@@ -248,7 +262,7 @@ hop_is_put t h b0 b1 b2 b3 b4 used e1 e2 e3 name why key detail m n s is p1 p2 p
           subst
           (λ p. PutsSpan (take (end_of key) b3) (take (end_of p) b4) (detail_bytes h.detail) p)
           (sym y4) (subst (λ e. PutsAfter b3 b4 e (detail_bytes h.detail) detail) x3 q4);
-      says = says ∙ is;
+      says = says ∙ says_shown v h s;
     }
 
 -- the struct of a path after its sizes were set
@@ -272,20 +286,38 @@ read_few k t nodes bytes s p nameless few small r e =
     let b = small k List t r.value r.path r.only.spelled r.means in
     (omega arith, omega arith)
 
--- the lengths of the texts of a hop together, after others
-pub hop_long : (t : HopTexts) (h : Hop) (n n1 n2 n3 n4 : ℕ) → HasTexts t h
-    → ((d : Dialect) (x : Seq ℕ) → HasBytes d t.name x → n1 ≡ n + length x)
-    → ((d : Dialect) (x : Seq ℕ) → HasBytes d t.why_token x → n2 ≡ n1 + length x)
-    → ((d : Dialect) (x : Seq ℕ) → HasBytes d t.key x → n3 ≡ n2 + length x)
-    → ((d : Dialect) (x : Seq ℕ) → HasBytes d t.detail x → n4 ≡ n3 + length x)
-    → n4 ≡ n + hop_size (hop_content h)
-hop_long t h n n1 n2 n3 n4 s p1 p2 p3 p4 =
+-- the lengths of the texts of a hop together
+pub hop_long : (v : HopView) (h : Hop) (n1 n2 n3 n4 : ℕ) (s1 s2 s3 s4 : Slice) → ShowsHop v h
+    → ((d : Dialect) (m : Name) → BorrowsName d v.name m → HasBytes d s1 (bytes_of m))
+    → ((d : Dialect) → HasBytes d s2 (unwrap_or (option_copied v.params.fwd) []))
+    → ((d : Dialect) (t : Option (Seq ℕ)) → ShowsText d v.params.key t
+    → HasBytes d s3 (unwrap_or t []))
+    → ((d : Dialect) (m : Option Name) → ShowsName d v.params.detail m
+    → HasBytes d s4 (detail_bytes m))
+    → ((d : Dialect) (t : Seq ℕ) → HasBytes d s1 t → n1 ≡ length t)
+    → ((d : Dialect) (t : Seq ℕ) → HasBytes d s2 t → n2 ≡ length t)
+    → ((d : Dialect) (t : Seq ℕ) → HasBytes d s3 t → n3 ≡ length t)
+    → ((d : Dialect) (t : Seq ℕ) → HasBytes d s4 t → n4 ≡ length t)
+    → n1 + n2 + n3 + n4 ≡ hop_size (hop_content h)
+hop_long v h n1 n2 n3 n4 s1 s2 s3 s4 s f1 f2 f3 f4 p1 p2 p3 p4 =
     let d = s.dialect in
-    let q1 = p1 d (bytes_of h.name) s.name in
-    let q2 = p2 d (why_token (passed_by h.outcome)) s.why_token in
-    let q3 = p3 d (unwrap_or h.key []) s.key in
-    let q4 = p4 d (detail_bytes h.detail) s.detail in
+    let q1 : n1 ≡ length (bytes_of h.name) =
+    p1 d (bytes_of s.name) (f1 d s.name s.shows_name)
+    ∙ ap (λ x. length (bytes_of x.name)) (sym s.made) in
+    let q2 : n2 ≡ length (why_token (passed_by h.outcome)) =
+    p2 d (unwrap_or (option_copied v.params.fwd) []) (f2 d) ∙ ap length (token_shown v h s) in
+    let q3 : n3 ≡ length (unwrap_or h.key []) =
+    p3 d (unwrap_or s.parts.key []) (f3 d s.parts.key s.shows_parts.key)
+    ∙ ap (λ x. length (unwrap_or x.key [])) (sym s.made) in
+    let q4 : n4 ≡ length (detail_bytes h.detail) =
+    p4 d (detail_bytes s.parts.detail) (f4 d s.parts.detail s.shows_parts.detail)
+    ∙ ap (λ x. length (detail_bytes x.detail)) (sym s.made) in
     omega arith
+
+-- the number of what the cache did
+pub outcome_shown : (v : HopView) (h : Hop) → ShowsHop v h
+    → (says_in v).outcome ≡ outcome_number h.outcome
+outcome_shown v h s = ap (λ y. y.outcome) (says_shown v h s)
 
 hops_size_push : (hs : Seq Hop) (h : Hop)
     → hops_size (map hop_content (hs ++ h ∷ []))
@@ -293,8 +325,8 @@ hops_size_push : (hs : Seq Hop) (h : Hop)
 hops_size_push [] h = omega arith
 hops_size_push (g ∷ hs) h = let i = hops_size_push hs h in omega arith
 
-pub none_counted : (k : Dialect) (text : Seq ℕ) (c : ItemCursor) (z : PathSizes)
-    → ((ms : Seq Member) → RemainsInList c ms → SpellsWhole (SpellsMember k) text ms)
+pub none_counted : (k : Dialect) (text : Seq ℕ) (c : HopCursor) (z : PathSizes)
+    → ((ms : Seq Member) → RemainsInPath c ms → SpellsWhole (SpellsMember k) text ms)
     → z.hops ≡ 0 → z.bytes ≡ 0 → z.served ≡ None → CountedSoFar k text c z
 none_counted k text c z h e f g = record {
   members = [];
@@ -306,40 +338,38 @@ none_counted k text c z h e f g = record {
   reads = h;
 }
 
-pub hop_counted : (k : Dialect) (text : Seq ℕ) (c e : ItemCursor) (m : HopNode) (t : HopTexts)
-    (old new : PathSizes) → CountedSoFar k text c old → ReadsHopTo c e m t
-    → new.hops ≡ old.hops + 1
-    → ((h : Hop) → HasTexts t h → new.bytes ≡ old.bytes + hop_size (hop_content h))
-    → (m.outcome ≡ 1 → new.served ≡ Some old.hops) → (m.outcome ≢ 1 → new.served ≡ old.served)
+pub hop_counted : (k : Dialect) (text : Seq ℕ) (c e : HopCursor) (v : HopView) (old new : PathSizes)
+    → CountedSoFar k text c old → ReadsNextHop c e (Some v) → new.hops ≡ old.hops + 1
+    → ((h : Hop) → ShowsHop v h → new.bytes ≡ old.bytes + hop_size (hop_content h))
+    → ((h : Hop) → ShowsHop v h → outcome_number h.outcome ≡ 1 → new.served ≡ Some old.hops)
+    → ((h : Hop) → ShowsHop v h → outcome_number h.outcome ≢ 1 → new.served ≡ old.served)
     → CountedSoFar k text e new
-hop_counted k text c e m t old new s r more bytes hit other =
-    let h = r.hop in
+hop_counted k text c e v old new s (m, h, means, shown, remains) more bytes hit other =
     let i = s.count in
     let j = s.size in
     let long = length-append s.path (h ∷ []) in
-    let own = bytes h r.texts in
+    let own = bytes h shown in
     let sum = hops_size_push s.path h in
     record {
-      members = s.members ++ r.member ∷ [];
+      members = s.members ++ m ∷ [];
       path = s.path ++ h ∷ [];
       means =
-          map-append member_hop s.members (r.member ∷ [])
-          ∙ ap (λ y. y ++ member_hop r.member ∷ []) s.means
-          ∙ ap (λ y. map Some s.path ++ y ∷ []) r.means
+          map-append member_hop s.members (m ∷ [])
+          ∙ ap (λ y. y ++ member_hop m ∷ []) s.means
+          ∙ ap (λ y. map Some s.path ++ y ∷ []) means
           ∙ sym (map-append Some s.path (h ∷ []));
       count = omega arith;
       size = omega arith;
       place =
-          served_more s.path h m.outcome old.hops old.served new.served
-          (ap (λ y. y.outcome) r.says) s.count s.place hit other;
-      reads = λ ms left.
-          subst (SpellsWhole (SpellsMember k) text)
-          (sym (append_assoc s.members (r.member ∷ []) ms))
-          (s.reads (r.member ∷ ms) (r.remains ms left));
+          served_more s.path h (outcome_number h.outcome) old.hops old.served new.served refl
+          s.count s.place (hit h shown) (other h shown);
+      reads = λ ms r.
+          subst (SpellsWhole (SpellsMember k) text) (sym (append_assoc s.members (m ∷ []) ms))
+          (s.reads (m ∷ ms) (remains ms r));
     }
 
 -- what was put is counted
-pub put_counted : (k : Dialect) (text : Seq ℕ) (c : ItemCursor) (nodes : Seq HopNode)
+pub put_counted : (k : Dialect) (text : Seq ℕ) (c : HopCursor) (nodes : Seq HopNode)
     (bytes : Seq ℕ) (z : PathSizes) → IsPutTo k text c nodes bytes z → IsCountedTo k text c z
 put_counted k text c nodes bytes z s = record {
   members = s.members;
@@ -355,11 +385,28 @@ put_counted k text c nodes bytes z s = record {
   reads = s.reads;
 }
 
-pub path_counted : (k : Dialect) (text : Seq ℕ) (c : ItemCursor) (o : Option ItemView)
-    (z : PathSizes) → CountedSoFar k text c z → ReadsNextItem c o → o ≡ None
+-- whatever was put or counted is counted
+pub read_counted : (k : Dialect) (text : Seq ℕ) (c : HopCursor) (nodes : Seq HopNode)
+    (bytes : Seq ℕ) (s : ScannedPath) → IsReadTo k text c nodes bytes s
+    → IsCountedTo k text c s.sizes
+read_counted k text c nodes bytes s r = by s.is_put r
+  where
+    by : (b : Bool) → IsReadBy b k text c nodes bytes s.sizes → IsCountedTo k text c s.sizes
+    by true r = put_counted k text c nodes bytes s.sizes r
+    by false r = r
+
+-- there is room for more bytes only where those before are put
+pub room_left : (k : Dialect) (text : Seq ℕ) (c : HopCursor) (nodes : Seq HopNode)
+    (bytes : Seq ℕ) (s : ScannedPath) → IsReadTo k text c nodes bytes s → s.is_put ≡ true
+    → s.sizes.bytes ≤ length bytes
+room_left k text c nodes bytes s r e =
+    (subst (λ b. IsReadBy b k text c nodes bytes s.sizes) e r).within
+
+pub path_counted : (k : Dialect) (text : Seq ℕ) (c e : HopCursor) (o : Option HopView)
+    (z : PathSizes) → CountedSoFar k text c z → ReadsNextHop c e o → o ≡ None
     → HasPathSizes k text z
-path_counted k text c o z s r none =
-    let left : RemainsInList c [] = subst (ReadsNextItem c) none r in
+path_counted k text c e o z s r none =
+    let left : RemainsInPath c [] = subst (ReadsNextHop c e) none r in
     let spelled : SpellsField k List text (list_of s.members) =
     subst (SpellsWhole (SpellsMember k) text) (append-nil s.members) (s.reads [] left) in
     record {
@@ -377,15 +424,25 @@ path_counted k text c o z s r none =
       place = s.place;
     }
 
--- a path of which the rest was counted
-pub rest_counted : (o : Option ScannedPath) (k : Dialect) (text : Seq ℕ) (c : ItemCursor)
-    (nodes : Seq HopNode) (bytes : Seq ℕ) (z : PathSizes) → IsCountedTo k text c z
-    → IfSome o (λ s. (s.is_put ≡ false) × ((d : Dialect) (t : Seq ℕ) → IsCountedTo d t c z
-    → HasPathSizes d t s.sizes))
-    → IfSome o (IsScannedPath k text nodes bytes)
-rest_counted None k text c nodes bytes z r h = tt
-rest_counted (Some s) k text c nodes bytes z r h =
-    subst (λ b. IsPathBy b k text nodes bytes s.sizes) (sym h.0) (h.1 k text r)
+pub path_scanned : (k : Dialect) (text : Seq ℕ) (c e : HopCursor) (o : Option HopView)
+    (nodes : Seq HopNode) (bytes : Seq ℕ) (s : ScannedPath) → IsReadTo k text c nodes bytes s
+    → ReadsNextHop c e o → o ≡ None → IsScannedPath k text nodes bytes s
+path_scanned k text c e o nodes bytes s r n none = by s.is_put r
+  where
+    by : (b : Bool) → IsReadBy b k text c nodes bytes s.sizes
+        → IsPathBy b k text nodes bytes s.sizes
+    by true r = path_read k text c e o nodes bytes s.sizes r n none
+    by false r = path_counted k text c e o s.sizes r n none
+
+-- one more hop was counted
+pub counted_more : (o : Option ScannedPath) (v : HopView) (old : ScannedPath)
+    (nodes nodes' : Seq HopNode) (bytes bytes' : Seq ℕ) → IfSome o (λ s. (d : Dialect) (t : Seq ℕ) (c e : HopCursor) (ns : Seq HopNode) (bs : Seq ℕ)
+    → IsCountedTo d t c old.sizes → ReadsNextHop c e (Some v) → IsReadTo d t e ns bs s)
+    → IfSome o (λ s. (d : Dialect) (t : Seq ℕ) (c e : HopCursor)
+    → IsReadTo d t c nodes bytes old → ReadsNextHop c e (Some v) → IsReadTo d t e nodes' bytes' s)
+counted_more None v old nodes nodes' bytes bytes' m = tt
+counted_more (Some s) v old nodes nodes' bytes bytes' m = λ d t c e r n.
+    m d t c e nodes' bytes' (read_counted d t c nodes bytes old r) n
 
 pub counted_few : (k : Dialect) (t : Seq ℕ) (s : PathSizes) (p : Path) (nameless : ℕ)
     → HopsAreFew → HopBytesAreFew → HasPathSizes k t s → p ≡ path_by nameless s → IsShort t p

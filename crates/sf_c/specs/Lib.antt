@@ -24,7 +24,6 @@ pub mod Flattening
 pub mod Exceeding
 pub mod Decodings
 pub mod Hops
-pub mod HopReading
 pub mod ScannedHops
 pub mod Paths
 pub mod Selecting

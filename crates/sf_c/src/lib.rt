@@ -23,7 +23,6 @@ mod find;
 mod flag;
 mod hop_numbers;
 mod hop_parts;
-mod hop_reading;
 mod hop_scan;
 mod hop_text;
 mod hop_value;

@@ -1,6 +1,6 @@
 use Rattle.std.proofs.Common.{arith, codes, refl}
 use Rattle.std.proofs.lemmas.Slice.Eq.{text_from_reads}
-use Rattle.sf_c.proofs.hop_reading.reason_number.Goals as goal
+use Rattle.sf_c.proofs.hop_scan.reason_number.Goals as goal
 
 pub returns-in-bypass : goal.returns-in-bypass
 returns-in-bypass c =
