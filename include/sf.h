@@ -625,7 +625,8 @@ static inline sf_text sf_node_text(const sf_tree *tree, const sf_node *node);
 /* Returns the offset of a node of a tree that sf_read_tree read, in the text of that tree: where
  * its key begins, otherwise its Item or Inner List. If the key is repeated, the last one counts
  * (RFC 9651 section 3.2). For a node without a key, and for each node if a key is repeated, it
- * takes time in proportion to the length of the text. sf_locate_offset returns the line. */
+ * takes time in proportion to the length of the text: call it for the first wrong node of a text
+ * from outside, not for each of many. sf_locate_offset returns the line. */
 static inline size_t sf_node_offset(const sf_tree *tree, const sf_node *node);
 
 /*
@@ -1296,8 +1297,9 @@ typedef struct sf_fault {
 } sf_fault;
 
 /* A buffer for faults. A head has at most one for each line that is no field line, two for each of
- * Expires and Date, one for each other name that is looked up, one for a missing start line, one
- * for a missing end, and those of sf_add_fault. */
+ * Expires and Date, one for each other name that is looked up (two if a response is decided for
+ * both kinds of cache), one for a missing start line, one for a missing end, and those of
+ * sf_add_fault. */
 typedef struct sf_faults {
   sf_fault *at;
   size_t capacity;
@@ -1360,8 +1362,8 @@ static inline size_t sf_head_memory_size(sf_text received);
  * head. Then no call returns SF_SHORT because head.joined is too small if sf_find_field and
  * sf_find_tree look up each field at most once: they keep what they join. The other calls may look
  * up any field as often as they like. And no fault is lost if each field is looked up by one name,
- * always spelled the same, and read as one kind in one dialect, and sf_add_fault adds at most
- * eight.
+ * always spelled the same, and read as one kind in one dialect, the response is decided for one
+ * kind of cache, and sf_add_fault adds at most eight.
  *
  * If memory is NULL or not aligned, or size is less than sf_head_memory_size(received), the buffers
  * are empty: the first field line is SF_SHORT, and faults are only counted.
@@ -1625,7 +1627,8 @@ static inline void sf_note_refusal(sf_head *head, const char *name, const sf_ref
  * Adds a fault that the program finds itself: at this offset of the text of a field of a head, as
  * sf_find_field joins it, such as sf_node_offset returns, with a message of at most 900 bytes,
  * which ends with a NUL. sf_show_fault shows it, as it does other faults. The name and the message
- * are not copied: they must be valid as long as the head is used.
+ * are not copied: they must be valid as long as the head is used. It takes time in proportion to
+ * the number of lines, and adds a fault again if it is one already.
  *
  *   sf_head_line head_lines[4];
  *   sf_fault faults[4];

@@ -1545,13 +1545,14 @@ static inline const char *sf_start_fault(sf_text line, uint64_t *place) {
   return "no version";
 }
 
-/* Adds a fault to those of a head, in the order of the lines, unless it is one of them: for the
+/* Adds a fault to those of a head, in the order of the lines, unless it is one of them. One that
+ * the program found is added each time, and is not compared with those of the same line. For the
  * functions below. */
 static inline void sf_note_fault(sf_head *head, const char *field, sf_reason reason,
                                  const char *message, const sf_location *location) {
   sf_fault *faults = head->faults.at;
   size_t i = head->faults.length;
-  for (; i > 0 && faults[i - 1].location.number >= location->number; --i)
+  for (; i > 0 && reason != SF_FAULT_OWN && faults[i - 1].location.number >= location->number; --i)
     if (strcmp(faults[i - 1].field, field) == 0 && faults[i - 1].reason == (uint32_t)reason &&
         sf_is_same(sf_cstr(faults[i - 1].message), sf_cstr(message)) &&
         faults[i - 1].location.number == location->number &&

@@ -54,7 +54,7 @@ static void print_signatures(sf_context *context, sf_head *request) {
   for (const sf_node *label = nodes; label < sf_tree_end(&tree); label += label->size) {
     if (label->type != SF_INNER_LIST) {
       sf_add_fault(request, "Signature-Input", sf_node_offset(&tree, label), "not an Inner List");
-      continue;
+      return; /* what comes after it does not count */
     }
     printf("%.*s covers", SF_ARGS(sf_node_key(&tree, label)));
     for (const sf_node *item = NULL; (item = sf_next_item(label, item)) != NULL;) {

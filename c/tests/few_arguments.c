@@ -1972,10 +1972,9 @@ static void faults_of_programs(void) {
   sf_location location = sf_locate_offset(&head, "Signature-Input", sf_node_offset(&tree, created));
   CHECK(location.number == 10 && location.refusal.offset == 19 && location.index == 2);
   CHECK(location.refusal.found == 'c' && is(location.line, "signature-input: c;created=\"7\", d=()"));
-  for (int twice = 0; twice < 2; ++twice)
-    for (const sf_node *node = nodes; node < sf_tree_end(&tree); node += node->size)
-      if (node->type != SF_INNER_LIST)
-        sf_add_fault(&head, "Signature-Input", sf_node_offset(&tree, node), "not an Inner List");
+  for (const sf_node *node = nodes; node < sf_tree_end(&tree); node += node->size)
+    if (node->type != SF_INNER_LIST)
+      sf_add_fault(&head, "Signature-Input", sf_node_offset(&tree, node), "not an Inner List");
   CHECK(head.faults.length == 2 && head.faults.required == 2);
   CHECK(says_in("a.txt", &faults[0], 80,
                 "a.txt, line 8, place 41: Signature-Input: not an Inner List\n"
@@ -2012,10 +2011,12 @@ static void faults_of_programs(void) {
   head = sf_head_in_memory(malloc(size), size, rest);
   CHECK(sf_take_request(&head, &rest) == SF_OK && head.faults.length == 1);
   static const char words[] = "abcdefgh"; /* eight messages */
-  for (int twice = 0; twice < 2; ++twice)
-    for (size_t i = 0; i < 8; ++i)
-      sf_add_fault(&head, "a", i / 7, &words[i]);
+  for (size_t i = 0; i < 8; ++i)
+    sf_add_fault(&head, "a", i / 7, &words[i]);
   CHECK(head.faults.length == 9 && head.faults.required == 9 && head.faults.capacity == 11);
+  /* the same once more is one more */
+  sf_add_fault(&head, "a", 1, &words[7]);
+  CHECK(head.faults.length == 10 && strcmp(head.faults.at[9].message, "h") == 0);
   free(head.lines.at);
 
   /* the parameters of a node */

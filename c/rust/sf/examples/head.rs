@@ -62,7 +62,10 @@ fn main() -> Result<(), Box<dyn Error>> {
     for (label, member) in &signatures {
         match member.as_inner_list() {
             Some(covered) => write_signature(&mut out, label, covered)?,
-            None => request.add_fault("Signature-Input", label, "not an Inner List")?,
+            None => {
+                request.add_fault("Signature-Input", label, "not an Inner List")?;
+                break; // what comes after it does not count
+            }
         }
     }
 

@@ -619,7 +619,9 @@ impl<'a> Head<'a> {
 
     /// Adds a fault that the program finds itself to [`Head::malformed`]: at this place of a field,
     /// and with this message. If the head does not have the field, the message is one line, with the
-    /// number of the line after the last field line; if the name is empty, it is left out.
+    /// number of the line after the last field line; if the name is empty, it is left out. It takes
+    /// time in proportion to the length of the field: call it for the first wrong part of a field
+    /// from outside, not for each of many.
     ///
     /// # Errors
     ///
