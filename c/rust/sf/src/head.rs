@@ -621,7 +621,7 @@ impl<'a> Head<'a> {
     /// and with this message. If the head does not have the field, the message is one line, with the
     /// number of the line after the last field line; if the name is empty, it is left out. It takes
     /// time in proportion to the length of the field: call it for the first wrong part of a field
-    /// from outside, not for each of many.
+    /// from outside, not for each of many. It adds a fault again if it is one already.
     ///
     /// # Errors
     ///
@@ -735,15 +735,24 @@ impl<'a> Head<'a> {
         })
     }
 
-    /// Inserts a fault after those of its line and of the lines before, unless it is one of them.
+    /// Inserts a fault after those of its line and of the lines before, unless it is one of them. One
+    /// that the program found is added each time. It is compared with those of its line alone, so that
+    /// many bad lines take no time in proportion to their square.
     fn insert(&mut self, found: HeadFault<'a>) -> Result<(), Error> {
-        if self.malformed.contains(&found) {
+        let is_before = |one: &HeadFault<'_>| one.number <= found.number;
+        let after = self.malformed.iter().rposition(is_before);
+        let after = after.map_or(0, |last| last + 1);
+        let mut of_line = self.malformed[..after]
+            .iter()
+            .rev()
+            .take_while(|one| one.number == found.number);
+        if found.fault != Fault::Own
+            && of_line.any(|one| one.offset == found.offset && *one == found)
+        {
             return Ok(());
         }
-        let is_before = |one: &HeadFault<'_>| one.number <= found.number;
-        let before = self.malformed.iter().rposition(is_before);
         push(&mut self.malformed, found)?;
-        self.malformed[before.map_or(0, |last| last + 1)..].rotate_right(1);
+        self.malformed[after..].rotate_right(1);
         Ok(())
     }
 }

@@ -920,6 +920,18 @@ fn places_of_nodes() {
     }
 }
 
+/// Each of very many faults is added without looking at all others, which would take minutes.
+#[test]
+fn very_many_faults() {
+    let text = "x\n".repeat(200_000) + "\n";
+    let mut head = Head::parse(parser(), &text).unwrap();
+    assert_eq!(head.malformed().len(), 200_000);
+    for _ in 0..200_000 {
+        head.add_fault("", 0, "").unwrap();
+    }
+    assert_eq!(head.malformed().len(), 400_000);
+}
+
 /// Faults that a program finds.
 #[test]
 fn faults_of_programs() {
@@ -930,8 +942,6 @@ fn faults_of_programs() {
     let field: Dictionary = head.field(name).unwrap().unwrap();
     for (key, _) in field.iter().filter(|(_, it)| it.as_inner_list().is_none()) {
         head.add_fault(name, key, "not an Inner List").unwrap();
-        head.add_fault(name, key.as_str(), "not an Inner List")
-            .unwrap(); // once
     }
     assert_eq!(
         head.malformed()[0].excerpt_in("a.txt", 80).to_string(),
@@ -969,6 +979,10 @@ fn faults_of_programs() {
             "line 5, place 0: 1 more",
         ]
     );
+    // The same once more is one more.
+    head.add_fault("Host", 0, "an unknown host").unwrap();
+    assert_eq!(head.malformed()[3], head.malformed()[1]);
+    assert_eq!(head.malformed().len(), 8);
     assert_eq!(head.locate("Signature", 5).unwrap(), None);
     // Without lines; the faults outlive the head.
     let mut head = Head::new(parser());
