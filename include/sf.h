@@ -1393,9 +1393,10 @@ static inline sf_text sf_take_line(sf_text *rest);
  *               it no name (RFC 9110 section 5.1); it has a CR, LF or NUL within (section 5.5, and
  *               RFC 9112 section 2.2); it begins with white space, as one does that continues the
  *               line before (RFC 9112 section 5.2); or, in a request, there is white space before
- *               the colon (section 5.1), which is skipped otherwise. A cache that skips such a line
- *               may miss a directive: head->is_incomplete is 1, and head->faults has the line, and
- *               where and why. No context->refusal is written
+ *               the colon (section 5.1). In a response that is skipped, and no fault; a proxy must
+ *               remove it. A cache that skips a refused line may miss a directive:
+ *               head->is_incomplete is 1, and head->faults has the line, and where and why. No
+ *               context->refusal is written
  *   SF_SHORT    head->lines.required lines are required
  *
  * Unless SF_SHORT is returned, the line counts: head->number is one greater.
