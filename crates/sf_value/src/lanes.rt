@@ -3,8 +3,8 @@ ghost use Rattle.std.specs.Prelude.{◌≡◌, map, not};
 ghost use Rattle.std.specs.Simd.Lanes.{mask_l};
 
 use crate::classes::{
-    Base64, InKey, InToken, LaneClass, NoBackslash, NoPercent, Ows, Space, UnencodedByte, Unescaped,
-    Visible,
+    Base64, InKey, InToken, LaneClass, NoBackslash, NoPercent, Ows, Space, UnencodedByte,
+    Unescaped, Visible,
 };
 use std::simd::prelude::*;
 
