@@ -1,5 +1,4 @@
-//! Well-formed UTF-8 (RFC 3629 section 4), a byte at a time, as `Utf8State` of `sf_value` reads it.
-//! Here each place also says which digits of an escape may come.
+//! Well-formed UTF-8 (RFC 3629 section 4), a byte at a time, and which digits of an escape may come.
 ghost use Rattle.std.specs.Prelude.{◌≡◌};
 ghost use Rattle.sf_value.specs.Grammar.Utf8.{within};
 ghost use Rattle.sf_value.specs.Grammar.Words.{allow};

@@ -4,7 +4,6 @@ pub mod Ascii
 pub mod Grammar
 pub mod Runs
 pub mod Digits
-pub mod Utf8States
 pub mod Entries
 pub mod Stores
 pub mod Capacities

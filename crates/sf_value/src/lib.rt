@@ -55,7 +55,6 @@ mod table;
 mod text;
 mod token;
 mod tree;
-mod utf8;
 mod value;
 mod word;
 
@@ -78,5 +77,4 @@ pub use sequence::Sequence;
 pub use text::Text;
 pub use token::Token;
 pub use tree::{copy, same};
-pub use utf8::Utf8State;
 pub use value::{Bare, Dict, Field, Inner, Item, Kind, List, Member};
