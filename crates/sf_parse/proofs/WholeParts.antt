@@ -1,11 +1,10 @@
 -- Parts that are read whole: their texts by those of their parts.
 use Rattle.std.proofs.Common.{◌≡◌, ℕ, true, false, List, [], ◌∷◌, ◌++◌, Option, Some, None}
 use Rattle.std.proofs.Common.{refl, sym, ap, ◌∙◌, subst, append_assoc, append-nil, inl, inr, arith}
-use Rattle.std.proofs.Common.{◌≤◌, ◌<◌, ◌+◌, length, length-append, IfSome, IfOk}
+use Rattle.std.proofs.Common.{◌≤◌, ◌<◌, ◌+◌, length, length-append, IfOk}
 use Rattle.std.proofs.Common.{Result, Ok, Err}
 use Rattle.sf_value.specs.declared.dialect.Dialect.{Dialect}
 use Rattle.sf_value.specs.declared.value.Bare.{Bare}
-use Rattle.sf_value.specs.declared.value.Bare.TheVariants.{Boolean}
 use Rattle.sf_value.specs.declared.value.Item.{Item}
 use Rattle.sf_value.specs.declared.value.Inner.{Inner}
 use Rattle.sf_value.specs.declared.value.Member.{Member}
@@ -15,7 +14,7 @@ use Rattle.sf_value.specs.Grammar.Classes.{is_sp, is_ows, is_key_start}
 use Rattle.sf_value.specs.Grammar.Pairs.{Pairs, settle}
 use Rattle.sf_value.specs.Grammar.Tokens.{IsKey}
 use Rattle.sf_value.specs.Grammar.BareItems.{SpellsBare}
-use Rattle.sf_value.specs.Grammar.Parameters.{SpellsParam, SpellsParams}
+use Rattle.sf_value.specs.Grammar.Parameters.{SpellsParams}
 use Rattle.sf_value.specs.Grammar.Items.{SpellsItem, item}
 use Rattle.sf_value.specs.Grammar.InnerLists.{SpellsInner, SpellsMember, SpellsItems, inner}
 use Rattle.sf_value.specs.Grammar.Fields.{SpellsEntry, flag}
@@ -75,50 +74,6 @@ module _ {S V : Type 0} {Good : S → Type 0} {Residual : S → List ℕ → V �
 -- a bare item
 pub bare_machine : Machine BareState Bare GoodBare ResidualBare bare_step bare_finish
 bare_machine = record { reads = bare_reads; lives = bare_lives }
-
--- a parameter
-pub param_after : (d : Dialect) (text inside key rest : List ℕ) (x : Bare) → Skips is_sp text inside
-    → ReadsParam d inside key x rest → ReadsParam d text key x rest
-param_after d text inside key rest x b p = by p.spelled
-  where
-    by : SpellsParam d (59 ∷ p.prefix) key x → ReadsParam d text key x rest
-    by (gap, value, e, g, k, v) =
-        let front : p.prefix ≡ gap ++ (key ++ value) = cc in record {
-          prefix = b.prefix ++ p.prefix;
-          split =
-              b.split ∙ ap (λ y. b.prefix ++ y) p.split
-              ∙ sym (append_assoc b.prefix p.prefix rest);
-          spelled = (
-            b.prefix ++ gap,
-            value,
-            ap (λ y. 59 ∷ (b.prefix ++ y)) front
-                ∙ ap (λ y. 59 ∷ y) (sym (append_assoc b.prefix gap (key ++ value))),
-            every_append is_sp b.prefix gap b.each g,
-            k,
-            v,
-          );
-        }
-
--- a key alone, or with a bare item
-pub key_param : (d : Dialect) (text key after : List ℕ) → text ≡ key ++ after → IsKey key
-    → ReadsParam d text key (Boolean true) after
-key_param d text key after e k = record {
-  prefix = key ++ [];
-  split = e ∙ ap (λ y. y ++ after) (sym (append-nil key));
-  spelled = ([], [], refl, tt, k, inl (refl, refl));
-}
-
-pub named_param : (d : Dialect) (text key after inside rest : List ℕ) (x : Bare)
-    → text ≡ key ++ after → IsKey key → after ≡ 61 ∷ inside
-    → ReadsAs (SpellsBare d) inside x rest → ReadsParam d text key x rest
-named_param d text key after inside rest x e k f r = record {
-  prefix = key ++ 61 ∷ r.prefix;
-  split =
-      e
-      ∙ ap (λ y. key ++ y) (f ∙ ap (λ y. 61 ∷ y) r.split)
-      ∙ sym (append_assoc key (61 ∷ r.prefix) rest);
-  spelled = ([], 61 ∷ r.prefix, refl, tt, k, inr (r.prefix, refl, r.spelled));
-}
 
 -- parameters: none, or one before others
 pub params_end : (d : Dialect) (ps : Pairs Bare) (rest : List ℕ) → settle ps ≡ ps
@@ -333,12 +288,6 @@ key_begins text (b ∷ key) after e k = (b, key ++ after, e, no_space b k.0)
   where
     no_space : (b : ℕ) → is_key_start b ≡ true → is_ows b ≡ false
     no_space b h = grind arith
-
--- what follows from an answer follows from each
-pub each_some : {A : Type 0} {P Q : A → Type 0} → ((a : A) → P a → Q a) → (o : Option A)
-    → IfSome o P → IfSome o Q
-each_some f None h = h
-each_some f (Some a) h = f a h
 
 -- less is left
 pub param_shorter : (d : Dialect) (text key rest more : List ℕ) (x : Bare)

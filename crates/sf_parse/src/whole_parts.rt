@@ -25,8 +25,9 @@ ghost use Rattle.sf_parse.specs.declared.whole_parts.Unread.TheVariants as unrea
 use crate::ahead::{after_window, has_space, window};
 use crate::context::Context;
 use crate::leaf::{find_leaf, make};
+use sf_scan::bare::AsLeaf;
 use sf_scan::leaf::Leaf;
-use sf_scan::param::find_key;
+use sf_scan::param::next_param;
 use sf_value::classes::{after_spaces, split, strip_byte};
 use sf_value::{
     Bare, Dialect, Entries, Inner, Item, Key, Member, OutOfMemory, Sequence, ShortBytes,
@@ -73,17 +74,19 @@ impl From<OutOfMemory> for Unread {
     }
 }
 
-/// A key and its value, a bare item, and the rest; None if the text begins with none. The value of
-/// a key alone is Boolean true.
+/// What was found of the parameter that a text begins with, after its semicolon, and the rest; None if
+/// it begins with none.
 #[inline(always)]
-pub fn find_named(dialect: Dialect, text: &[u8]) -> Option<(Found<'_>, &[u8])>
+pub fn find_param(dialect: Dialect, text: &[u8]) -> Option<(Found<'_>, &[u8])>
     ensures key { IfSome result (λ r. IsKey r.0.key.now) }
     ensures leaf { IfSome result (λ r. IsLeaf r.0.leaf) }
     ensures param { IfSome result (λ r. ReadsParam dialect text.now r.0.key.now
         (leaf_bare r.0.leaf) r.1.now) }
 {
-    let (key, after) = find_key(text)?;
-    find_value(dialect, key, after)
+    match next_param(dialect, text, AsLeaf) {
+        Ok((key, leaf, stop)) => Some((Found { key, leaf }, stop.left)),
+        Err(_) => None,
+    }
 }
 
 /// The value of a key, a bare item, given the text after the key, and the rest; None if it can't be
@@ -97,10 +100,7 @@ pub fn find_value<'a>(
     requires { IsKey key.now }
     ensures key { IfSome result (λ r. IsKey r.0.key.now) }
     ensures leaf { IfSome result (λ r. IsLeaf r.0.leaf) }
-    // They are a parameter and, with the parameters that the rest begins with, a member of a
-    // Dictionary.
-    ensures param { IfSome result (λ r. (text : List ℕ) → text ≡ key.now ++ after.now
-        → ReadsParam dialect text r.0.key.now (leaf_bare r.0.leaf) r.1.now) }
+    // With the parameters that the rest begins with, they are a member of a Dictionary.
     ensures entry { IfSome result (λ r. (text : List ℕ) (params : Pairs Bare) (rest : List ℕ)
         → text ≡ key.now ++ after.now → ReadsAs (SpellsParams dialect) r.1.now params rest
         → ReadsAs (SpellsEntry dialect) text (found_member r.0 params) rest) }
@@ -132,7 +132,7 @@ pub fn begins_param(dialect: Dialect, text: &[u8]) -> bool {
     let Some(more) = strip_byte(text, b';') else {
         return false;
     };
-    match find_named(dialect, after_spaces(more)) {
+    match find_param(dialect, more) {
         Some((_, rest)) => matches!(split(rest), Some((b';' | b',' | b' ' | b'\t', _))),
         None => false,
     }
@@ -171,7 +171,7 @@ fn put_each_param<'a>(
 {
     let mut rest = text;
     while rest.len() >= WHOLE_PARTS {
-        let Some((found, after)) = find_named(context.dialect, after_spaces(rest)) else {
+        let Some((found, after)) = find_param(context.dialect, rest) else {
             return Ok(rest);
         };
         let Some(more) = strip_byte(after, b';') else {
@@ -239,7 +239,7 @@ fn read_each_param<'a>(
 {
     let mut rest = text;
     while let Some(more) = strip_byte(rest, b';') {
-        let Some((found, left)) = find_named(context.dialect, after_spaces(more)) else {
+        let Some((found, left)) = find_param(context.dialect, more) else {
             return Ok(rest);
         };
         let expected = if strip_byte(left, b';').is_none() {

@@ -21,6 +21,14 @@ use Rattle.sf_scan.specs.Languages.{Apart}
 use Rattle.sf_scan.specs.Places.{is_follow}
 use Rattle.sf_scan.proofs.Lists.{heads, tails, cons_nil, no_follow}
 
+-- what is before the value of a parameter
+pub before_value : (text gap named key after value : List ℕ) → text ≡ gap ++ named
+    → named ≡ key ++ after → after ≡ equals ∷ value → text ≡ (gap ++ key) ++ equals ∷ value
+before_value text gap named key after value e k s =
+    e
+    ∙ ap (λ t. gap ++ t) (k ∙ ap (λ t. key ++ t) s)
+    ∙ sym (append_assoc gap key (equals ∷ value))
+
 key_no_space : (b : ℕ) → is_key_start b ≡ true → is_sp b ≡ false
 key_no_space b h = grind arith
 

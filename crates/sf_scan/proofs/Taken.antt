@@ -8,11 +8,15 @@ use Rattle.sf_value.specs.Grammar.BareItems.{SpellsBare}
 use Rattle.sf_value.specs.Grammar.Strings.{is_unescaped}
 use Rattle.sf_value.specs.Grammar.Words.{Every}
 use Rattle.sf_scan.specs.Leaves.{leaf_bare}
+use Rattle.sf_scan.specs.Parameters.{SpellsPair, MakesParam}
+use Rattle.sf_scan.specs.Places.{in_param}
 use Rattle.sf_scan.specs.Scans.{ReadsLeaf, MakesLeaf}
+use Rattle.sf_scan.specs.Stops.{Reads}
 use Rattle.sf_scan.specs.declared.leaf.Leaf.{Leaf}
 use Rattle.sf_scan.specs.declared.place.Stop.{Stop}
 use Rattle.sf_scan.specs.declared.place.BarePlace.{BarePlace}
 use Rattle.sf_scan.specs.declared.place.BarePlace.TheVariants as place
+use Rattle.sf_scan.specs.declared.place.ParamPlace.{ParamPlace}
 use Rattle.sf_scan.proofs.Lists.{front_before}
 use Rattle.sf_scan.proofs.Escapes.{escaped_run, visible_run}
 use Rattle.sf_scan.proofs.Bares.{string_read, past_leaf}
@@ -22,6 +26,14 @@ pub leaf_read : (d : Dialect) (text : List ℕ) (r : Stop BarePlace × Leaf)
     → MakesLeaf (λ spelled leaf made. made ≡ leaf) d text r.0 r.1
     → ReadsLeaf d (SpellsBare d) text r.1 r.0
 leaf_read d text r h = subst (λ l. ReadsLeaf d (SpellsBare d) text l r.0) (sym h.made_of) h.read
+
+-- a parameter whose leaf was kept
+pub param_read : (d : Dialect) (text key : List ℕ) (leaf : Leaf) (stop : Stop ParamPlace)
+    → MakesParam (λ spelled l made. made ≡ l) d text key leaf stop
+    → Reads (SpellsPair d) (in_param d stop.place) text (key, leaf_bare leaf) stop.left.now
+param_read d text key leaf stop m =
+    subst (λ l. Reads (SpellsPair d) (in_param d stop.place) text (key, leaf_bare l) stop.left.now)
+    (sym m.made_of) m.reads
 
 -- the bytes before the stop are those that spell the leaf
 pub front_spells : (d : Dialect) (text front : List ℕ) (l : Leaf) (stop : Stop BarePlace)

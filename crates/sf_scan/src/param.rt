@@ -1,13 +1,14 @@
 //! Parameters (RFC 9651 section 4.2.3.2).
-ghost use Rattle.std.specs.Prelude.{◌≡◌, ◌++◌, MatchOption};
+ghost use Rattle.std.specs.Prelude.{◌≡◌, ◌++◌, ◌∷◌, ℕ, List, MatchOption};
+ghost use Rattle.sf_value.specs.Ascii.{equals};
 ghost use Rattle.sf_value.specs.Grammar.Classes.{is_in_key, is_key_start};
 ghost use Rattle.sf_value.specs.Grammar.Tokens.{IsKey};
 ghost use Rattle.sf_scan.specs.Parameters.{ScansParam};
 ghost use Rattle.sf_scan.specs.Makers.{ScansParams};
 ghost use Rattle.sf_value.specs.Runs.{Lacks};
 
-use crate::bare::{AsLeaf, bare};
-use crate::leaf::{Leaf, Param};
+use crate::bare::{AsLeaf, Take, bare};
+use crate::leaf::Param;
 use crate::maker::Maker;
 use crate::place::{Halt, ParamPlace, Stop};
 use sf_value::classes::{InKey, Space, any_prefix, few_prefix, split, strip_byte};
@@ -33,9 +34,9 @@ pub fn params<'a, M: Maker<'a>>(
         place: ParamPlace::Before,
     };
     while let Some(more) = strip_byte(end.left, b';') {
-        match next_param(dialect, more) {
-            Ok((found, stop)) => {
-                if let Err(fault) = maker.parameter(found) {
+        match next_param(dialect, more, AsLeaf) {
+            Ok((key, leaf, stop)) => {
+                if let Err(fault) = maker.parameter(Param { key, leaf }) {
                     return Err(Halt::Fault(fault));
                 }
                 end = stop;
@@ -46,13 +47,20 @@ pub fn params<'a, M: Maker<'a>>(
     Ok(end)
 }
 
-/// The parameter that the text begins with, after its semicolon, and where it stops.
+/// Reads the parameter that the text begins with, after its semicolon. Returns its key, what is made
+/// of its value, and where it stops. The value of a key alone is Boolean true.
+///
+/// ```text
+/// next_param(Dialect::Rfc9651, b" q=1, a", AsLeaf)?; // (b"q", Leaf::Integer(1), stop)
+/// ```
 #[inline(always)]
-fn next_param(
+pub fn next_param<'a, T: Take<'a>>(
     dialect: Dialect,
-    text: &[u8],
-) -> Result<(Param<'_>, Stop<'_, ParamPlace>), Stop<'_, ParamPlace>>
-    ensures { ScansParam dialect text.now result }
+    text: &'a [u8],
+    take: T,
+) -> Result<(&'a [u8], T::Made, Stop<'a, ParamPlace>), Stop<'a, ParamPlace>>
+    requires { (before value : List ℕ) → text.now ≡ before ++ equals ∷ value → T.fits take value }
+    ensures { ScansParam (T.makes take) dialect text.now result }
 {
     let (_, named) = few_prefix::<Space>(text);
     let Some((key, after)) = find_key(named) else {
@@ -62,22 +70,19 @@ fn next_param(
         });
     };
     let Some(value) = strip_byte(after, b'=') else {
-        let leaf = Leaf::Boolean(true);
-        return Ok((
-            Param { key, leaf },
-            Stop {
-                left: after,
-                place: ParamPlace::InKey,
-            },
-        ));
+        let end = Stop {
+            left: after,
+            place: ParamPlace::InKey,
+        };
+        return Ok((key, take.boolean(true), end));
     };
-    match bare(dialect, value, AsLeaf) {
-        Ok((stop, leaf)) => {
+    match bare(dialect, value, take) {
+        Ok((stop, made)) => {
             let end = Stop {
                 left: stop.left,
                 place: ParamPlace::InValue(stop.place),
             };
-            Ok((Param { key, leaf }, end))
+            Ok((key, made, end))
         }
         Err(stop) => Err(Stop {
             left: stop.left,

@@ -1,19 +1,23 @@
 -- Parts that are read without nodes.
 use Rattle.std.proofs.Common.{◌≡◌, ℕ, true, List, [], ◌∷◌, ◌++◌, Option, Some, None}
 use Rattle.std.proofs.Common.{refl, sym, ap, ◌∙◌, arith, append_assoc}
-use Rattle.std.proofs.Common.{append-nil, inl, inr}
+use Rattle.std.proofs.Common.{inl, inr}
 use Rattle.sf_value.specs.declared.dialect.Dialect.{Dialect}
-use Rattle.sf_value.specs.declared.value.Bare.TheVariants.{Boolean}
 use Rattle.sf_value.specs.declared.value.Member.TheVariants as member
 use Rattle.sf_value.specs.Grammar.Classes.{is_sp}
-use Rattle.sf_value.specs.Grammar.Pairs.{settle}
+use Rattle.sf_value.specs.declared.value.Bare.{Bare}
+use Rattle.sf_value.specs.Grammar.Pairs.{Pairs, settle}
 use Rattle.sf_value.specs.Grammar.Tokens.{IsKey}
 use Rattle.sf_value.specs.Grammar.BareItems.{SpellsBare}
 use Rattle.sf_value.specs.Grammar.Parameters.{SpellsRaw, SpellsParams}
 use Rattle.sf_value.specs.Grammar.Items.{SpellsItem, item}
 use Rattle.sf_value.specs.Grammar.InnerLists.{SpellsInner, SpellsMember, inner}
 use Rattle.sf_value.specs.Grammar.Fields.{SpellsEntry, flag}
+use Rattle.sf_scan.specs.Parameters.{MakesParam}
+use Rattle.sf_scan.specs.Places.{in_params}
 use Rattle.sf_scan.specs.Scans.{MakesLeaf}
+use Rattle.sf_scan.specs.Stops as Found
+use Rattle.sf_scan.specs.declared.place.ParamPlace.{ParamPlace}
 use Rattle.sf_scan.specs.declared.place.BarePlace.{BarePlace}
 use Rattle.sf_scan.specs.declared.place.Stop.{Stop}
 use Rattle.sf_scan.specs.Leaves.{leaf_bare}
@@ -41,38 +45,19 @@ bare_reads d text stop b m =
     }
 
 -- a parameter
-pub flag_reads : (d : Dialect) (text named key after : List ℕ) → Skips is_sp text named
-    → named ≡ key ++ after → IsKey key
-    → ReadsParam d (59 ∷ text) key (view_is.Boolean true) after
-flag_reads d text named key after b e k = record {
-  prefix = 59 ∷ (b.prefix ++ (key ++ []));
-  value = Boolean true;
-  split =
-      ap (λ y. 59 ∷ y)
-      (b.split
-      ∙ ap (λ y. b.prefix ++ y) (e ∙ ap (λ y. y ++ after) (sym (append-nil key)))
-      ∙ sym (append_assoc b.prefix (key ++ []) after));
-  spelled = (b.prefix, [], refl, b.each, k, inl (refl, refl));
-  borrowed = refl;
-}
-
-pub value_reads : (d : Dialect) (text named key after inside rest : List ℕ) (x : BareView)
-    → Skips is_sp text named → named ≡ key ++ after → IsKey key → after ≡ 61 ∷ inside
-    → ReadsBare d inside x rest → ReadsParam d (59 ∷ text) key x rest
-value_reads d text named key after inside rest x b e k f r = record {
-  prefix = 59 ∷ (b.prefix ++ (key ++ 61 ∷ r.prefix));
-  value = r.value;
-  split =
-      ap (λ y. 59 ∷ y)
-      (b.split
-      ∙ ap (λ y. b.prefix ++ y)
-      (e
-      ∙ ap (λ y. key ++ y) (f ∙ ap (λ y. 61 ∷ y) r.split)
-      ∙ sym (append_assoc key (61 ∷ r.prefix) rest))
-      ∙ sym (append_assoc b.prefix (key ++ 61 ∷ r.prefix) rest));
-  spelled = (b.prefix, 61 ∷ r.prefix, refl, b.each, k, inr (r.prefix, refl, r.spelled));
-  borrowed = r.borrowed;
-}
+pub param_reads : (d : Dialect) (text key : List ℕ) (b : BareView) (stop : Stop ParamPlace)
+    → MakesParam (λ spelled l view. (e : Dialect) → SpellsBare e spelled (leaf_bare l)
+    → IsBorrowed e view (leaf_bare l)) d text key b stop
+    → ReadsParam d (59 ∷ text) key b stop.left.now
+param_reads d text key b stop m =
+    let r = m.reads in
+    record {
+      prefix = 59 ∷ r.stops.prefix;
+      value = leaf_bare m.leaf;
+      split = ap (λ y. 59 ∷ y) r.stops.split;
+      spelled = r.spelled;
+      borrowed = m.made_of d m.spelled;
+    }
 
 -- the same text spells f of the value
 unfoldable pub reads_as : {X Y : Type 0} (P : List ℕ → X → Type 0) (Q : List ℕ → Y → Type 0) (f : X → Y)
@@ -102,6 +87,13 @@ unfoldable pub params_of : (d : Dialect) (text rest : List ℕ) → Reads (Spell
     → Reads (SpellsParams d) text rest
 params_of d text rest =
     reads_as (SpellsRaw d) (SpellsParams d) settle text rest (λ t ps h. (ps, refl, h))
+
+pub params_read : (d : Dialect) (text : List ℕ) (stop : Stop ParamPlace) (raw : Pairs Bare)
+    → Found.Reads (SpellsRaw d) (in_params d stop.place) text raw stop.left.now
+    → Reads (SpellsParams d) text stop.left.now
+params_read d text stop raw r =
+    params_of d text stop.left.now
+    (record { prefix = r.stops.prefix; value = raw; split = r.stops.split; spelled = r.spelled })
 
 unfoldable pub params_end : (d : Dialect) (text : List ℕ) → Reads (SpellsParams d) text text
 params_end d text =

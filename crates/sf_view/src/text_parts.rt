@@ -13,7 +13,8 @@ ghost use Rattle.sf_view.specs.Reads.{Reads, ReadsBare, ReadsParam, ReadsItems, 
 use crate::view::{BareView, Slice};
 use sf_scan::bare::{Take, bare};
 use sf_scan::leaf::Leaf;
-use sf_scan::param::find_key;
+use sf_scan::maker::Nothing;
+use sf_scan::param::{find_key, next_param, params};
 use sf_value::Dialect;
 use sf_value::classes::{after_spaces, strip_byte};
 
@@ -111,12 +112,10 @@ pub(crate) fn read_param<'a>(
 ) -> Option<(&'a [u8], BareView<'a>, &'a [u8])>
     ensures { IfSome result (λ r. ReadsParam dialect (semicolon ∷ text.now) r.0.now r.1 r.2.now) }
 {
-    let (key, after) = find_key(after_spaces(text))?;
-    let Some(value) = strip_byte(after, b'=') else {
-        return Some((key, TRUE, after));
-    };
-    let (bare, rest) = read_bare(dialect, value)?;
-    Some((key, bare, rest))
+    match next_param(dialect, text, ToView) {
+        Ok((key, view, stop)) => Some((key, view, stop.left)),
+        Err(_) => None,
+    }
 }
 
 /// The rest after parameters. It costs a call only if the text begins with a semicolon.
@@ -127,21 +126,10 @@ pub(crate) fn after_params(dialect: Dialect, text: &[u8]) -> Option<&[u8]>
     if strip_byte(text, b';').is_none() {
         return Some(text);
     }
-    let rest = after_each_param(dialect, text)?;
-    Some(rest)
-}
-
-/// As [`after_params`].
-#[inline(never)]
-fn after_each_param(dialect: Dialect, text: &[u8]) -> Option<&[u8]>
-    ensures { IfSome result (λ rest. Reads (SpellsParams dialect) text.now rest.now) }
-{
-    let mut rest = text;
-    while let Some(more) = strip_byte(rest, b';') {
-        let (_, _, left) = read_param(dialect, more)?;
-        rest = left;
+    match params(dialect, text, &mut Nothing) {
+        Ok(stop) => Some(stop.left),
+        Err(_) => None,
     }
-    Some(rest)
 }
 
 /// The rest after an Item.

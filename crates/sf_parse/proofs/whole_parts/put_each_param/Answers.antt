@@ -1,7 +1,7 @@
 use Rattle.std.proofs.Common.{refl, []}
 use Rattle.sf_parse.specs.Machine.Params.{params_step}
 use Rattle.sf_parse.proofs.Prefixes.{goes_more}
-use Rattle.sf_parse.proofs.WholeParts.{param_after, param_shorter}
+use Rattle.sf_parse.proofs.WholeParts.{param_shorter}
 use Rattle.sf_parse.proofs.WholeSteps.{param_goes}
 use Rattle.sf_parse.proofs.whole_parts.put_each_param.Goals as goal
 
@@ -12,13 +12,9 @@ pub loop-rest-preserved : goal.loop-rest-preserved
 loop-rest-preserved c =
     let d = c.args.context.now.dialect in
     goes_more (params_step d) _ _ _ _ _ _ c.loop-rest.invariant
-    (param_goes d _ _ _ _ _ _ _
-    (param_after d _ _ _ _ _ c.after_spaces.ensures c.in-Some.ensures.param)
+    (param_goes d _ _ _ _ _ _ _ c.in-Some.ensures.param
     c.in-Some-strip_byte.ensures c.in_ok-put_leaf.ensures.put)
 
 pub loop-rest-smaller : goal.loop-rest-smaller
 loop-rest-smaller c =
-    let d = c.args.context.now.dialect in
-    param_shorter d _ _ _ _ _
-    (param_after d _ _ _ _ _ c.after_spaces.ensures c.in-Some.ensures.param)
-    c.in-Some-strip_byte.ensures
+    param_shorter _ _ _ _ _ _ c.in-Some.ensures.param c.in-Some-strip_byte.ensures

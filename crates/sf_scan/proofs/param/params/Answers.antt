@@ -1,9 +1,12 @@
 use Rattle.std.proofs.Common.{append_assoc, refl, ap, sym, ◌∙◌, ◌∷◌, ◌++◌, [], subst, ◌==◌, ◌&&◌, ◌||◌}
+use Rattle.std.proofs.Common.{ℕ, List}
 use Rattle.sf_value.specs.Ascii.{semicolon}
-use Rattle.sf_scan.specs.Parameters.{pair_of}
+use Rattle.sf_value.specs.declared.value.Bare.{Bare}
+use Rattle.sf_scan.specs.Leaves.{leaf_bare}
 use Rattle.sf_scan.specs.Places.{in_param}
 use Rattle.sf_scan.proofs.Bares.{lacks_none}
 use Rattle.sf_scan.proofs.Raws.{whole_none, whole_more, raw_refused, raw_read, made_more, Whole}
+use Rattle.sf_scan.proofs.Taken.{param_read}
 use Rattle.sf_scan.proofs.param.params.Goals as goal
 
 pub loop-more-init : goal.loop-more-init
@@ -33,9 +36,9 @@ pub loop-more-preserved : goal.loop-more-preserved
 loop-more-preserved g c =
     let d = c.args.dialect in
     let i = c.loop-more.invariant in
-    let r = c.in-Ok.ensures in
-    let q = r.reads.stops in
-    let x = pair_of c.in-Ok.found in (
+    let r = param_read d _ _ _ _ c.in-Ok.ensures in
+    let q = r.stops in
+    let x : List ℕ × Bare = (c.in-Ok.key.now, leaf_bare c.in-Ok.leaf) in (
       i.0 ++ semicolon ∷ q.prefix,
       i.1 ++ x ∷ [],
       i.2
@@ -44,14 +47,15 @@ loop-more-preserved g c =
       subst
           (λ e. Whole d (in_param d c.in-Ok.stop.place) e
           (i.0 ++ semicolon ∷ q.prefix) (i.1 ++ x ∷ []))
-          (sym r.ends)
-          (whole_more d _ _ i.0 i.1 i.3 _ q.prefix x r.reads.spelled
+          (sym c.in-Ok.ensures.ends)
+          (whole_more d _ _ i.0 i.1 i.3 _ q.prefix x r.spelled
           q.followed),
       q.blocked,
-      c.in_default-parameter.ensures
-          ∙ (ap (λ m. g.M.Maker.with m x.0 x.1) i.5
+      ◌∙◌ {b = g.M.Maker.with c.loop-more.maker x.0 x.1}
+          c.in_default-parameter.ensures
+          (ap (λ m. g.M.Maker.with m x.0 x.1) i.5
           ∙ sym (made_more g.M.Maker.with c.args.maker.now i.1 x)),
-      r.ends,
+      c.in-Ok.ensures.ends,
     )
 
 pub returns : goal.returns
