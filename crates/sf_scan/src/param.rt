@@ -22,7 +22,28 @@ use sf_value::{Dialect, can_start_key};
 /// let stop = params(Dialect::Rfc9651, b";a;b=1, c", &mut all)?; // stop.left is b", c"
 /// all.params().len() // 2
 /// ```
+///
+/// It costs a call only if the text begins with a semicolon.
+#[inline(always)]
 pub fn params<'a, M: Maker<'a>>(
+    dialect: Dialect,
+    text: &'a [u8],
+    maker: &mut M,
+) -> Result<Stop<'a, ParamPlace>, Halt<'a, ParamPlace, M::Fault>>
+    ensures { ScansParams M.with dialect text.now maker.old maker.new result }
+{
+    let Some(_) = strip_byte(text, b';') else {
+        return Ok(Stop {
+            left: text,
+            place: ParamPlace::Before,
+        });
+    };
+    each_param(dialect, text, maker)
+}
+
+/// As [`params`].
+#[inline(never)]
+fn each_param<'a, M: Maker<'a>>(
     dialect: Dialect,
     text: &'a [u8],
     maker: &mut M,

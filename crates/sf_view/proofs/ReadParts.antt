@@ -1,12 +1,11 @@
 -- Parts that are read without nodes.
-use Rattle.std.proofs.Common.{◌≡◌, ℕ, true, List, [], ◌∷◌, ◌++◌, Option, Some, None}
+use Rattle.std.proofs.Common.{◌≡◌, ℕ, Bool, true, List, [], ◌∷◌, ◌++◌, Option, Some, None}
 use Rattle.std.proofs.Common.{refl, sym, ap, ◌∙◌, arith, append_assoc}
 use Rattle.std.proofs.Common.{inl, inr}
 use Rattle.sf_value.specs.declared.dialect.Dialect.{Dialect}
 use Rattle.sf_value.specs.declared.value.Member.TheVariants as member
 use Rattle.sf_value.specs.Grammar.Classes.{is_sp}
-use Rattle.sf_value.specs.declared.value.Bare.{Bare}
-use Rattle.sf_value.specs.Grammar.Pairs.{Pairs, settle}
+use Rattle.sf_value.specs.Grammar.Pairs.{settle}
 use Rattle.sf_value.specs.Grammar.Tokens.{IsKey}
 use Rattle.sf_value.specs.Grammar.BareItems.{SpellsBare}
 use Rattle.sf_value.specs.Grammar.Parameters.{SpellsRaw, SpellsParams}
@@ -14,8 +13,8 @@ use Rattle.sf_value.specs.Grammar.Items.{SpellsItem, item}
 use Rattle.sf_value.specs.Grammar.InnerLists.{SpellsInner, SpellsMember, inner}
 use Rattle.sf_value.specs.Grammar.Fields.{SpellsEntry, flag}
 use Rattle.sf_scan.specs.Parameters.{MakesParam}
-use Rattle.sf_scan.specs.Places.{in_params}
 use Rattle.sf_scan.specs.Scans.{MakesLeaf}
+use Rattle.sf_scan.specs.Settled.{Settles}
 use Rattle.sf_scan.specs.Stops as Found
 use Rattle.sf_scan.specs.declared.place.ParamPlace.{ParamPlace}
 use Rattle.sf_scan.specs.declared.place.BarePlace.{BarePlace}
@@ -88,12 +87,27 @@ unfoldable pub params_of : (d : Dialect) (text rest : List ℕ) → Reads (Spell
 params_of d text rest =
     reads_as (SpellsRaw d) (SpellsParams d) settle text rest (λ t ps h. (ps, refl, h))
 
-pub params_read : (d : Dialect) (text : List ℕ) (stop : Stop ParamPlace) (raw : Pairs Bare)
-    → Found.Reads (SpellsRaw d) (in_params d stop.place) text raw stop.left.now
-    → Reads (SpellsParams d) text stop.left.now
-params_read d text stop raw r =
-    params_of d text stop.left.now
-    (record { prefix = r.stops.prefix; value = raw; split = r.stops.split; spelled = r.spelled })
+-- what the pass of sf_scan read, as its settled value
+pub settled_reads : {V W : Type 0} (L : List ℕ → V → Type 0) (M : List ℕ → W → Type 0) (of : V → W)
+    → Settles L M of → (next : ℕ → Bool) (text left : List ℕ) (v : V)
+    → Found.Reads L next text v left → Reads M text left
+settled_reads L M of h next text left v r = record {
+  prefix = r.stops.prefix;
+  value = of v;
+  split = r.stops.split;
+  spelled = h.up r.stops.prefix v r.spelled;
+}
+
+-- the same after the first byte
+pub settled_past : {V W : Type 0} (b : ℕ) (L : List ℕ → V → Type 0) (M : List ℕ → W → Type 0)
+    (of : V → W) → Settles L M of → (next : ℕ → Bool) (text left : List ℕ) (v : V)
+    → Found.Reads (Found.Past (b ∷ []) L) next text v left → Reads M (b ∷ text) left
+settled_past b L M of h next text left v r = record {
+  prefix = b ∷ r.stops.prefix;
+  value = of v;
+  split = ap (λ t. b ∷ t) r.stops.split;
+  spelled = h.up (b ∷ r.stops.prefix) v r.spelled;
+}
 
 unfoldable pub params_end : (d : Dialect) (text : List ℕ) → Reads (SpellsParams d) text text
 params_end d text =

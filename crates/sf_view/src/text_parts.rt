@@ -1,6 +1,6 @@
 //! Parts of a text, read without nodes.
 ghost use Rattle.std.specs.Prelude.{◌∷◌, ⊤, IfSome};
-ghost use Rattle.sf_value.specs.Ascii.{semicolon};
+ghost use Rattle.sf_value.specs.Ascii.{semicolon, open_bracket};
 ghost use Rattle.sf_value.specs.Grammar.Parameters.{SpellsParams};
 ghost use Rattle.sf_value.specs.Grammar.Items.{SpellsItem};
 ghost use Rattle.sf_value.specs.Grammar.InnerLists.{SpellsInner};
@@ -8,15 +8,17 @@ ghost use Rattle.sf_value.specs.declared.dialect.Dialect.{Dialect as Which};
 ghost use Rattle.sf_value.specs.Grammar.BareItems.{SpellsBare};
 ghost use Rattle.sf_scan.specs.Leaves.{leaf_bare};
 ghost use Rattle.sf_view.specs.Views.{IsBorrowed};
-ghost use Rattle.sf_view.specs.Reads.{Reads, ReadsBare, ReadsParam, ReadsItems, ReadsMember, ReadsEntry};
+ghost use Rattle.sf_view.specs.Reads.{Reads, ReadsBare, ReadsParam, ReadsMember, ReadsEntry};
 
 use crate::view::{BareView, Slice};
 use sf_scan::bare::{Take, bare};
+use sf_scan::inner::inner_list;
+use sf_scan::item::item;
 use sf_scan::leaf::Leaf;
 use sf_scan::maker::Nothing;
 use sf_scan::param::{find_key, next_param, params};
 use sf_value::Dialect;
-use sf_value::classes::{after_spaces, strip_byte};
+use sf_value::classes::strip_byte;
 
 /// The bare item of a key without a value.
 const TRUE: BareView = BareView::Boolean(true);
@@ -123,9 +125,6 @@ pub(crate) fn read_param<'a>(
 pub(crate) fn after_params(dialect: Dialect, text: &[u8]) -> Option<&[u8]>
     ensures { IfSome result (λ rest. Reads (SpellsParams dialect) text.now rest.now) }
 {
-    if strip_byte(text, b';').is_none() {
-        return Some(text);
-    }
     match params(dialect, text, &mut Nothing) {
         Ok(stop) => Some(stop.left),
         Err(_) => None,
@@ -137,33 +136,21 @@ pub(crate) fn after_params(dialect: Dialect, text: &[u8]) -> Option<&[u8]>
 pub(crate) fn after_item(dialect: Dialect, text: &[u8]) -> Option<&[u8]>
     ensures { IfSome result (λ rest. Reads (SpellsItem dialect) text.now rest.now) }
 {
-    let (_, rest) = read_bare(dialect, text)?;
-    after_params(dialect, rest)
-}
-
-/// The rest after the Items of an Inner List and its closing bracket.
-fn after_items(dialect: Dialect, text: &[u8]) -> Option<&[u8]>
-    ensures { IfSome result (λ rest. ReadsItems dialect 0 text.now rest.now) }
-{
-    let mut rest = after_spaces(text);
-    loop {
-        if let Some(left) = strip_byte(rest, b')') {
-            return Some(left);
-        }
-        let after = after_item(dialect, rest)?;
-        let Some(more) = strip_byte(after, b' ') else {
-            return strip_byte(after, b')');
-        };
-        rest = after_spaces(more);
+    match item(dialect, text, &mut Nothing) {
+        Ok(stop) => Some(stop.left),
+        Err(_) => None,
     }
 }
 
-/// The rest after an Inner List.
-fn after_inner(dialect: Dialect, text: &[u8]) -> Option<&[u8]>
-    ensures { IfSome result (λ rest. Reads (SpellsInner dialect) text.now rest.now) }
+/// The rest after an Inner List, given what is after its opening bracket.
+fn after_inner(dialect: Dialect, inside: &[u8]) -> Option<&[u8]>
+    ensures { IfSome result (λ rest.
+        Reads (SpellsInner dialect) (open_bracket ∷ inside.now) rest.now) }
 {
-    let inside = strip_byte(text, b'(')?;
-    after_params(dialect, after_items(dialect, inside)?)
+    match inner_list(dialect, inside, &mut Nothing) {
+        Ok(stop) => Some(stop.left),
+        Err(_) => None,
+    }
 }
 
 /// A member of a List, or of a Dictionary after its key and =: its bare item, or `None` for an
@@ -175,8 +162,8 @@ pub(crate) fn read_member<'a>(
 ) -> Option<(Option<BareView<'a>>, &'a [u8])>
     ensures { IfSome result (λ r. ReadsMember dialect text.now r.0 r.1.now) }
 {
-    if strip_byte(text, b'(').is_some() {
-        return Some((None, after_inner(dialect, text)?));
+    if let Some(inside) = strip_byte(text, b'(') {
+        return Some((None, after_inner(dialect, inside)?));
     }
     let (bare, after) = read_bare(dialect, text)?;
     Some((Some(bare), after_params(dialect, after)?))

@@ -1,9 +1,10 @@
-use Rattle.sf_view.proofs.Scanned.{each_some}
-use Rattle.sf_view.proofs.ReadParts.{inner_reads}
+use Rattle.sf_scan.specs.InnerLists.{in_inner}
+use Rattle.sf_scan.proofs.Grammar.{settles_inner}
+use Rattle.sf_view.proofs.ReadParts.{settled_past}
 use Rattle.sf_view.proofs.text_parts.after_inner.Goals as goal
 
-pub returns : goal.returns
-returns c =
-    each_some
-    (λ rest r. inner_reads _ _ _ _ _ c.in_ok-inside.ensures c.in_ok-after_items.ensures r)
-    c.after_params.result c.after_params.ensures
+pub returns-in-Ok : goal.returns-in-Ok
+returns-in-Ok c =
+    let d = c.args.dialect in
+    settled_past 40 _ _ _ (settles_inner d) (in_inner d c.in-Ok.stop.place) _ _ _
+    c.in-Ok.ensures.reads

@@ -1,8 +1,10 @@
-use Rattle.sf_view.proofs.Scanned.{each_some}
-use Rattle.sf_view.proofs.ReadParts.{item_reads}
+use Rattle.sf_scan.specs.Items.{in_item}
+use Rattle.sf_scan.proofs.Grammar.{settles_item}
+use Rattle.sf_view.proofs.ReadParts.{settled_reads}
 use Rattle.sf_view.proofs.text_parts.after_item.Goals as goal
 
-pub returns : goal.returns
-returns c =
-    each_some (λ rest r. item_reads _ _ _ _ _ c.in_ok-rest.ensures r) c.after_params.result
-    c.after_params.ensures
+pub returns-in-Ok : goal.returns-in-Ok
+returns-in-Ok c =
+    let d = c.args.dialect in
+    settled_reads _ _ _ (settles_item d) (in_item d c.in-Ok.stop.place) _ _ _
+    c.in-Ok.ensures.scans.reads

@@ -1,9 +1,10 @@
-use Rattle.sf_view.proofs.ReadParts.{params_end, params_read}
+use Rattle.sf_scan.specs.Places.{in_params}
+use Rattle.sf_scan.proofs.Grammar.{settles_params}
+use Rattle.sf_view.proofs.ReadParts.{settled_reads}
 use Rattle.sf_view.proofs.text_parts.after_params.Goals as goal
-
-pub returns-then-is_none : goal.returns-then-is_none
-returns-then-is_none c = params_end _ _
 
 pub returns-in-Ok : goal.returns-in-Ok
 returns-in-Ok c =
-    let m = c.in-Ok.ensures in params_read _ _ c.in-Ok.stop m.raw m.reads
+    let d = c.args.dialect in
+    settled_reads _ _ _ (settles_params d) (in_params d c.in-Ok.stop.place) _ _ _
+    c.in-Ok.ensures.reads

@@ -5,7 +5,7 @@ use Rattle.sf_scan.specs.Makers.{made_of}
 use Rattle.sf_scan.specs.Places.{in_param, ends_params}
 use Rattle.sf_value.specs.Runs.{Lacks}
 use Rattle.sf_scan.proofs.Raws.{Whole}
-use Rattle.sf_scan.proofs.param.params.Given as goal
+use Rattle.sf_scan.proofs.param.each_param.Given as goal
 
 abbrev pub invariant-loop-more : goal.invariant-loop-more
 invariant-loop-more g l =
