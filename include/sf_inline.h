@@ -1510,25 +1510,35 @@ static inline uint32_t sf_code_of(sf_text line) {
   return code < 100 ? 0 : code;
 }
 
-/* Returns the length of the method of a request line (RFC 9112 section 3); 0 if the line is none:
- * for the functions below. */
-static inline size_t sf_method_length(sf_text line) {
-  size_t method = 0, version = line.length;
-  while (method < line.length && sf_is_tchar(line.at[method]))
-    ++method;
-  while (version > 0 && line.at[version - 1] != ' ')
+/* Returns in words why a line is no request line (RFC 9112 section 3), and sets where it can't go
+ * on as one if it begins with a method and a space. If it is one, returns NULL, and sets the length
+ * of its method. For the functions below. */
+static inline const char *sf_request_fault(sf_text line, size_t *method, uint64_t *place) {
+  size_t at = 0, version = line.length, length;
+  while (at < line.length && sf_is_tchar(line.at[at]))
+    ++at;
+  *method = at;
+  if (at == 0 || at == line.length || line.at[at] != ' ')
+    return "no method, target and version";
+  ++at;
+  while (at < line.length && strchr(" \t\v\f", line.at[at]) == NULL)
+    ++at;
+  *place = at;
+  while (version > at && line.at[version - 1] != ' ')
     --version;
-  return version > method + 2 && line.at[method] == ' ' && version < line.length &&
-                 sf_version_length(sf_text_of(line.at + version, line.length - version)) ==
-                     line.length - version
-             ? method
-             : 0;
+  length = line.length - version;
+  if (version > at && version > *method + 2 && length > 0 &&
+      sf_version_length(sf_text_of(line.at + version, length)) == length)
+    return version == at + 1 ? NULL : "white space in the target";
+  if (version > at && at > *method + 1 && line.at[at] == ' ')
+    *place += 1 + sf_version_length(sf_text_of(line.at + at + 1, line.length - at - 1));
+  return "no method, target and version";
 }
 
 /* Returns in words why a line is no start line (RFC 9112 sections 2.2, 3 and 4), and sets the
  * place, unless it is that at which the line is no field line. For the functions below. */
 static inline const char *sf_start_fault(sf_text line, uint64_t *place) {
-  size_t version = sf_version_length(line), at = 0;
+  size_t version = sf_version_length(line), at = 0, method;
   while (at < line.length && !sf_is_break(line.at[at]))
     ++at;
   if (at < line.length) {
@@ -1540,14 +1550,14 @@ static inline const char *sf_start_fault(sf_text line, uint64_t *place) {
     return "no status code of three digits";
   }
   if (line.length < 5 || memcmp(line.at, "HTTP/", 5) != 0)
-    return "no method, target and version";
+    return sf_request_fault(line, &method, place);
   *place = 5;
   return "no version";
 }
 
-/* Adds a fault to those of a head, in the order of the lines, unless it is one of them. One that
- * the program found is added each time, and is not compared with those of the same line. For the
- * functions below. */
+/* Adds a fault to those of a head, in the order of the lines, unless it is one of them. That of a
+ * line that is no field line, and one that the program found, is added each time, and is not
+ * compared with those of the same line. For the functions below. */
 static inline void sf_note_fault(sf_head *head, const char *field, sf_reason reason,
                                  const char *message, const sf_location *location) {
   sf_fault *faults = head->faults.at;
@@ -1573,10 +1583,13 @@ static inline void sf_note_fault(sf_head *head, const char *field, sf_reason rea
  * below. */
 static inline int sf_take_start_line(sf_head *head, sf_text line) {
   uint32_t status = sf_code_of(line);
-  size_t method = sf_method_length(line), i;
+  size_t method, i;
+  uint64_t place;
   for (i = 0; i < line.length; ++i)
     if (sf_is_break(line.at[i]))
       return 0;
+  if (sf_request_fault(line, &method, &place) != NULL)
+    method = 0;
   if (status == 0 && method == 0)
     return 0;
   head->start = line;
@@ -1598,7 +1611,10 @@ static inline void sf_refuse_at(sf_location *location, uint64_t place) {
                                 : (int32_t)SF_ENDED;
 }
 
-static inline sf_status sf_add_head_line(sf_head *head, sf_text line) {
+/* Adds a line to a head, that of a request or not, as sf_add_head_line does: for the functions
+ * below. */
+SF_USE_RESULT
+static inline sf_status sf_add_line_of(sf_head *head, sf_text line, int is_request) {
   sf_text name, value;
   sf_location location;
   sf_reason reason = head->is_begun ? SF_FAULT_NOT_A_LINE : SF_FAULT_NOT_A_START;
@@ -1606,12 +1622,17 @@ static inline sf_status sf_add_head_line(sf_head *head, sf_text line) {
   line.length -= line.length > 0 && line.at[line.length - 1] == '\r';
   if (!head->is_begun && sf_take_start_line(head, line))
     return SF_OK;
-  if (line.length > 0 &&
-      sf_split_line(line, head->is_request != 0, &name, &value, &location.refusal))
-    return sf_add_received(head, name, value, line);
   location.index = head->lines.length;
-  location.number = head->number++;
+  location.number = head->number;
   location.line = line;
+  if (line.length > 0 && sf_split_line(line, is_request, &name, &value, &location.refusal)) {
+    sf_status status = sf_add_received(head, name, value, line);
+    sf_refuse_at(&location, name.length);
+    if (status == SF_OK && line.at[name.length] != ':')
+      sf_note_fault(head, "", SF_FAULT_SPACE_BEFORE_COLON, NULL, &location);
+    return status;
+  }
+  ++head->number;
   if (line.length == 0)
     return SF_EMPTY;
   if (reason == SF_FAULT_NOT_A_START) {
@@ -1623,6 +1644,10 @@ static inline sf_status sf_add_head_line(sf_head *head, sf_text line) {
   head->is_incomplete = 1;
   sf_note_fault(head, "", reason, NULL, &location);
   return SF_REFUSED;
+}
+
+static inline sf_status sf_add_head_line(sf_head *head, sf_text line) {
+  return sf_add_line_of(head, line, head->is_request != 0);
 }
 
 /* Adds a fault to those of a head that has no start line of the kind that the reason is about, if
@@ -1647,16 +1672,22 @@ static inline void sf_expect_start(sf_head *head, sf_reason reason) {
 SF_USE_RESULT
 static inline sf_status sf_take_head_for(sf_head *head, sf_text *rest, sf_reason reason) {
   sf_location location;
+  location.line = sf_text_of("", 0);
   while (rest->length > 0) {
     sf_text before = *rest;
     int is_begun = head->is_begun != 0;
     sf_text line = sf_take_line(rest);
     sf_status status;
+    location.number = head->number;
+    if (line.at[line.length - 1] != '\n')
+      location.line = line; /* it is cut off, and so the last */
     if (is_begun)
       sf_expect_start(head, reason);
     if (line.length == 1 && *line.at == '\r')
       break; /* an empty line whose LF is missing */
-    status = sf_add_head_line(head, line);
+    /* the fields after a malformed request line are those of a request, too */
+    status = sf_add_line_of(head, line,
+                            head->is_request != 0 || reason == SF_FAULT_NO_REQUEST_LINE);
     if (status == SF_EMPTY && is_begun) {
       head->is_truncated = 0;
       return SF_OK;
@@ -1669,9 +1700,9 @@ static inline sf_status sf_take_head_for(sf_head *head, sf_text *rest, sf_reason
   sf_expect_start(head, reason);
   head->is_truncated = 1;
   location.index = head->lines.length;
-  location.number = head->number;
-  location.line = sf_text_of("", 0);
-  sf_refuse_at(&location, 0);
+  if (location.line.length == 0)
+    location.number = head->number;
+  sf_refuse_at(&location, location.line.length);
   sf_note_fault(head, "", SF_FAULT_NO_END, NULL, &location);
   return SF_REFUSED;
 }
@@ -1835,6 +1866,8 @@ static inline const char *sf_fault_words(uint32_t reason) {
     return "the directive had another value before";
   case SF_FAULT_NOT_A_LINE:
     return "not a field line: ";
+  case SF_FAULT_SPACE_BEFORE_COLON:
+    return "white space before the colon";
   case SF_FAULT_NO_END:
     return "the head does not end with an empty line";
   case SF_FAULT_NOT_A_START:
@@ -1887,13 +1920,16 @@ static inline sf_status sf_show_fault_in(const char *file, const sf_fault *fault
   parts[3] = sf_cstr(fault->field);
   parts[4] = sf_text_of(": ", parts[3].length == 0 ? 0 : 2);
   parts[5] = sf_cstr(words);
-  if (fault->reason == SF_FAULT_NOT_A_LINE) {
+  if (fault->reason == SF_FAULT_NO_END && location->line.length > 0) {
+    parts[5] = sf_cstr("the head is cut off: its last line has no line end");
+  } else if (fault->reason == SF_FAULT_NOT_A_LINE) {
     parts[count++] = sf_cstr(sf_line_fault(&location->refusal, 0));
   } else if (fault->reason == SF_FAULT_NOT_A_START) {
     uint64_t ignored = 0;
     sf_refusal refusal;
     sf_text name, value;
-    (void)sf_split_line(location->line, 0, &name, &value, &refusal);
+    if (sf_split_line(location->line, 0, &name, &value, &refusal)) /* a field line of a response */
+      (void)sf_split_line(location->line, 1, &name, &value, &refusal);
     parts[count++] = sf_cstr(sf_start_fault(location->line, &ignored));
     parts[count++] = sf_cstr(") nor a field line (");
     parts[count++] = sf_cstr(sf_line_fault(&refusal, 1));

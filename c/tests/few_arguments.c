@@ -654,7 +654,8 @@ static void heads(void) {
   CHECK(is(few[1].name, "Server") && is(few[1].value, "a:b"));
   CHECK(sf_add_field_line(&head, sf_cstr("Age"), sf_cstr(" 20 ")) == SF_OK);
   CHECK(is(few[6].value, "20") && few[6].number == 25 && head.number == 26);
-  CHECK(is(few[6].received, " 20 ") && head.faults.length == 0 && head.faults.required == 3);
+  /* three lines are no field lines, and two have white space before the colon */
+  CHECK(is(few[6].received, " 20 ") && head.faults.length == 0 && head.faults.required == 5);
   CHECK(sf_add_head_line(&head, sf_cstr("a: b")) == SF_SHORT && head.lines.required == 8);
   CHECK(head.number == 26 && head.lines.length == 7);
 
@@ -762,8 +763,9 @@ static void whole_heads(void) {
       {"GET / HTTP/1.1", 0, 1, "GET / HTTP/1.1", "GET"},
       {"GET http://a:80/ HTTP/1.1\n", 0, 1, "GET http://a:80/ HTTP/1.1", "GET"},
       {"OPTIONS * HTTP/1.1\r\n", 0, 1, "OPTIONS * HTTP/1.1", "OPTIONS"},
-      {"GET /a b HTTP/3", 0, 1, "GET /a b HTTP/3", "GET"},
+      {"GET / HTTP/3", 0, 1, "GET / HTTP/3", "GET"},
       {"m!~ \xe9 HTTP/1.1", 0, 1, "m!~ \xe9 HTTP/1.1", "m!~"},
+      {"HTTP/2 200", 200, 0, "HTTP/2 200", ""}, /* as curl prints it */
       {"HTTP/1.1", 0, 0, "", ""},
       {"HTTP/1.1 ", 0, 0, "", ""},
       {"HTTP/1.1 20", 0, 0, "", ""},
@@ -785,6 +787,16 @@ static void whole_heads(void) {
       {" / HTTP/1.1", 0, 0, "", ""},
       {"  HTTP/1.1", 0, 0, "", ""},
       {"ICY 200 OK", 0, 0, "", ""},
+      /* "No whitespace is allowed in the request-target" (RFC 9112 section 3.2), and what is white
+       * space for some recipients is "SP, HTAB, VT (%x0B), FF (%x0C), or bare CR" (section 3) */
+      {"GET /a b HTTP/1.1", 0, 0, "", ""},
+      {"GET /a\tb HTTP/1.1", 0, 0, "", ""},
+      {"GET /a\vb HTTP/1.1", 0, 0, "", ""},
+      {"GET /a\fb HTTP/1.1", 0, 0, "", ""},
+      {"GET  / HTTP/1.1", 0, 0, "", ""},
+      {"GET /  HTTP/1.1", 0, 0, "", ""},
+      {"GET /\t HTTP/1.1", 0, 0, "", ""},
+      {"GET  HTTP/1.1 HTTP/2", 0, 0, "", ""},
       /* "A recipient of such a bare CR MUST consider that element to be invalid" (RFC 9112 section
        * 2.2) */
       {"HTTP/1.1 200 OK\rCache-Control: no-store", 0, 0, "", ""},
@@ -860,8 +872,10 @@ static void whole_heads(void) {
     head.faults = SF_FAULTS(faults);
     CHECK(sf_add_head_line(&head, sf_cstr(is_request ? "GET / HTTP/1.1" : "HTTP/1.1 200")) == SF_OK);
     CHECK(sf_add_head_line(&head, sf_cstr("Age \t: 1")) == (is_request ? SF_REFUSED : SF_OK));
-    CHECK(is_request ? faults[0].location.refusal.offset == 3 : is(lines[0].name, "Age"));
-    CHECK(sf_add_head_line(&head, sf_cstr("Age: 1")) == SF_OK);
+    CHECK(head.faults.length == 1 && faults[0].location.refusal.offset == 3);
+    CHECK(is_request || (is(lines[0].name, "Age") && is(lines[0].value, "1")));
+    CHECK(head.is_incomplete == (uint32_t)is_request);
+    CHECK(sf_add_head_line(&head, sf_cstr("Age: 1")) == SF_OK && head.faults.required == 1);
   }
 
   /* a request line whose target has a colon is no field line */
@@ -877,7 +891,7 @@ static void whole_heads(void) {
     sf_head head = sf_head_in(SF_HEAD_LINES(lines), sf_buffer_of(NULL, 0));
     head.faults = SF_FAULTS(faults);
     CHECK(sf_take_head(&head, &rest) == SF_REFUSED && head.is_truncated == 1 && rest.length == 0);
-    CHECK(says(&faults[0], 40, "line 3, place 0: the head does not end with an empty line"));
+    CHECK(says(&faults[0], 40, "line 3, place 1: the head is cut off: its last line has no line end\n?\n ^"));
     CHECK(sf_take_head(&head, &more) == SF_OK && head.is_truncated == 0 && is(more, "rest"));
   }
 
@@ -1030,32 +1044,68 @@ static void whole_heads(void) {
        "name)\n?\n^"},
       {"a b: c", 6,
        "line 2, place 2: not a field line: no colon after the name\na b: c\n  ^",
-       "line 2, place 2: neither a start line (no method, target and version) nor a field line (no "
-       "colon after the name)\na b: c\n  ^"},
+       "line 2, place 5: neither a start line (no method, target and version) nor a field line (no "
+       "colon after the name)\na b: c\n     ^"},
       {"a", 1,
        "line 2, place 1: not a field line: no colon after the name\na\n ^",
        "line 2, place 1: neither a start line (no method, target and version) nor a field line (no "
        "colon after the name)\na\n ^"},
       {"GET /", 5,
        "line 2, place 4: not a field line: no colon after the name\nGET /\n    ^",
-       "line 2, place 4: neither a start line (no method, target and version) nor a field line (no "
-       "colon after the name)\nGET /\n    ^"},
+       "line 2, place 5: neither a start line (no method, target and version) nor a field line (no "
+       "colon after the name)\nGET /\n     ^"},
       {"GET / HTTP/1.1x", 15,
        "line 2, place 4: not a field line: no colon after the name\nGET / HTTP/1.1x\n    ^",
+       "line 2, place 14: neither a start line (no method, target and version) nor a field line (no "
+       "colon after the name)\nGET / HTTP/1.1x\n              ^"},
+      {"GET / HTTP/x", 12,
+       "line 2, place 4: not a field line: no colon after the name\nGET / HTTP/x\n    ^",
+       "line 2, place 6: neither a start line (no method, target and version) nor a field line (no "
+       "colon after the name)\nGET / HTTP/x\n      ^"},
+      {"GET / HTTP/1.1 ", 15,
+       "line 2, place 4: not a field line: no colon after the name\nGET / HTTP/1.1 \n    ^",
+       "line 2, place 14: neither a start line (no method, target and version) nor a field line (no "
+       "colon after the name)\nGET / HTTP/1.1 \n              ^"},
+      {"GET /\tHTTP/1.1", 14,
+       "line 2, place 4: not a field line: no colon after the name\nGET /?HTTP/1.1\n    ^",
+       "line 2, place 5: neither a start line (no method, target and version) nor a field line (no "
+       "colon after the name)\nGET /?HTTP/1.1\n     ^"},
+      {"GET  HTTP/1.1", 13,
+       "line 2, place 5: not a field line: no colon after the name\nGET  HTTP/1.1\n     ^",
        "line 2, place 4: neither a start line (no method, target and version) nor a field line (no "
-       "colon after the name)\nGET / HTTP/1.1x\n    ^"},
+       "colon after the name)\nGET  HTTP/1.1\n    ^"},
+      {"GET ", 4,
+       "line 2, place 4: not a field line: no colon after the name\nGET \n    ^",
+       "line 2, place 4: neither a start line (no method, target and version) nor a field line (no "
+       "colon after the name)\nGET \n    ^"},
+      {"GET /a b HTTP/1.1", 17,
+       "line 2, place 4: not a field line: no colon after the name\nGET /a b HTTP/1.1\n    ^",
+       "line 2, place 6: neither a start line (white space in the target) nor a field line (no colon "
+       "after the name)\nGET /a b HTTP/1.1\n      ^"},
+      {"GET /a\tb HTTP/1.1", 17,
+       "line 2, place 4: not a field line: no colon after the name\nGET /a?b HTTP/1.1\n    ^",
+       "line 2, place 6: neither a start line (white space in the target) nor a field line (no colon "
+       "after the name)\nGET /a?b HTTP/1.1\n      ^"},
+      {"GET  / HTTP/2", 13,
+       "line 2, place 5: not a field line: no colon after the name\nGET  / HTTP/2\n     ^",
+       "line 2, place 4: neither a start line (white space in the target) nor a field line (no colon "
+       "after the name)\nGET  / HTTP/2\n    ^"},
+      {"GET /  HTTP/1.1", 15,
+       "line 2, place 4: not a field line: no colon after the name\nGET /  HTTP/1.1\n    ^",
+       "line 2, place 5: neither a start line (white space in the target) nor a field line (no colon "
+       "after the name)\nGET /  HTTP/1.1\n     ^"},
       {"ICY 200 OK", 10,
        "line 2, place 4: not a field line: no colon after the name\nICY 200 OK\n    ^",
-       "line 2, place 4: neither a start line (no method, target and version) nor a field line (no "
-       "colon after the name)\nICY 200 OK\n    ^"},
+       "line 2, place 8: neither a start line (no method, target and version) nor a field line (no "
+       "colon after the name)\nICY 200 OK\n        ^"},
       {"HTTP", 4,
        "line 2, place 4: not a field line: no colon after the name\nHTTP\n    ^",
        "line 2, place 4: neither a start line (no method, target and version) nor a field line (no "
        "colon after the name)\nHTTP\n    ^"},
       {"HTTP 1.1", 8,
        "line 2, place 5: not a field line: no colon after the name\nHTTP 1.1\n     ^",
-       "line 2, place 5: neither a start line (no method, target and version) nor a field line (no "
-       "colon after the name)\nHTTP 1.1\n     ^"},
+       "line 2, place 8: neither a start line (no method, target and version) nor a field line (no "
+       "colon after the name)\nHTTP 1.1\n        ^"},
       {"http/1.1 200", 12,
        "line 2, place 4: not a field line: no colon after the name\nhttp/1.1 200\n    ^",
        "line 2, place 4: neither a start line (no method, target and version) nor a field line (no "
@@ -1257,7 +1307,8 @@ static void messages_of_faults(void) {
     snprintf(expected, sizeof expected, "a?, line 7, place 0: %s", whole[i].words);
     CHECK(says_in("a\n", &fault, 40, expected));
     fault.location.line = sf_cstr("b\tcd");
-    snprintf(expected, sizeof expected, "line 7, place 0: %s\nb?c...\n^", whole[i].words);
+    snprintf(expected, sizeof expected, "line 7, place 0: %s\nb?c...\n^",
+             i == 0 ? "the head is cut off: its last line has no line end" : whole[i].words);
     CHECK(says(&fault, 3, expected));
   }
 
@@ -1301,22 +1352,29 @@ static void kinds_of_heads(void) {
       {"\r\n\nGET / HTTP/1.1\n\n", NONE, 3, 0, 0, "GET / HTTP/1.1", NULL, NULL},
       {"\n\nHTTP/2 200 \n\n", 3, NONE, 0, 0, "HTTP/2 200 ", NULL, NULL},
       {"a: b\r\nc: d\r\n\r\n", 1, 1, 0, 2, "a: b", NULL, NULL},
-      {"\r\na : \xe9 \r\nc: d\r\n\r\n", 2, 2, 0, 2, "a : \xe9 ", NULL, NULL},
+      {"\r\na: \xe9 \r\nc: d\r\n\r\n", 2, 2, 0, 2, "a: \xe9 ", NULL, NULL},
       {"a: b\nGET / HTTP/1.1\n\n", 1, 1, 0, 1, "a: b",
        "line 2, place 4: not a field line: no colon after the name\nGET / HTTP/1.1\n    ^", NULL},
       {"GET /\na: b\n\n", NONE, NONE, 1, 1, NULL,
-       "line 1, place 4: neither a start line (no method, target and version) nor a field line (no colon "
-       "after the name)\nGET /\n    ^", NULL},
+       "line 1, place 5: neither a start line (no method, target and version) nor a field line (no colon "
+       "after the name)\nGET /\n     ^", NULL},
       {"HTTP/1.1 200\rx\na: b\n\n", NONE, NONE, 1, 1, NULL,
        "line 1, place 12: neither a start line (a CR, LF or NUL in it) nor a field line (no colon after "
        "the name)\nHTTP/1.1 200?x\n            ^", NULL},
       {"GET / HTTP/1.1\na: b", NONE, 1, 0, 1, "GET / HTTP/1.1", NULL,
+       "line 2, place 4: the head is cut off: its last line has no line end\na: b\n    ^"},
+      {"GET / HTTP/1.1\na: b\r", NONE, 1, 0, 1, "GET / HTTP/1.1", NULL,
+       "line 2, place 5: the head is cut off: its last line has no line end\na: b?\n     ^"},
+      {"GET / HTTP/1.1\na: b\r\n", NONE, 1, 0, 1, "GET / HTTP/1.1", NULL,
        "line 3, place 0: the head does not end with an empty line"},
       {"HTTP/1.1 200", 1, NONE, 0, 0, "HTTP/1.1 200", NULL,
-       "line 2, place 0: the head does not end with an empty line"},
-      {"a: b", 1, 1, 0, 1, "a: b", NULL, "line 2, place 0: the head does not end with an empty line"},
+       "line 1, place 12: the head is cut off: its last line has no line end\nHTTP/1.1 200\n            ^"},
+      {"a: b", 1, 1, 0, 1, "a: b", NULL,
+       "line 1, place 4: the head is cut off: its last line has no line end\na: b\n    ^"},
       {"", 0, 0, 0, 0, "", NULL, "line 1, place 0: the head does not end with an empty line"},
-      {"\r\n\n\r", 0, 0, 0, 0, "", NULL, "line 3, place 0: the head does not end with an empty line"},
+      {"\r\n", 0, 0, 0, 0, "", NULL, "line 2, place 0: the head does not end with an empty line"},
+      {"\r\n\n\r", 0, 0, 0, 0, "", NULL,
+       "line 3, place 1: the head is cut off: its last line has no line end\n?\n ^"},
   };
 #define NO_REQUEST_LINE "the head of a request begins with a request line"
 #define NO_STATUS_LINE "the head of a response begins with a status line"

@@ -23,12 +23,13 @@ fn start_lines() {
         ("HTTP/1.1 404", 404),
         ("HTTP/1.0 100 \r\n", 100),
         ("HTTP/2 999 ", 999),
+        ("HTTP/2 200", 200), // as curl prints it
     ];
     let request_lines = [
         "GET / HTTP/1.1",
         "GET http://a:80/ HTTP/1.1",
         "OPTIONS * HTTP/1.1\r\n",
-        "GET /a b HTTP/3",
+        "GET / HTTP/3",
     ];
     let others = [
         "HTTP/1.1",
@@ -52,6 +53,16 @@ fn start_lines() {
         " / HTTP/1.1",
         "  HTTP/1.1",
         "ICY 200 OK",
+        // "No whitespace is allowed in the request-target" (RFC 9112 section 3.2), and what is
+        // white space for some recipients is "SP, HTAB, VT (%x0B), FF (%x0C), or bare CR" (3).
+        "GET /a b HTTP/1.1",
+        "GET /a\tb HTTP/1.1",
+        "GET /a\x0bb HTTP/1.1",
+        "GET /a\x0cb HTTP/1.1",
+        "GET  / HTTP/1.1",
+        "GET /  HTTP/1.1",
+        "GET /\t HTTP/1.1",
+        "GET  HTTP/1.1 HTTP/2",
     ];
     let statuses = status_lines.map(|(line, status)| (line, Some(status), false));
     let requests = request_lines.map(|line| (line, None, true));
@@ -69,14 +80,15 @@ fn start_lines() {
         let is_fault_of_first =
             |one: &HeadFault<'_>| matches!(one.fault, Fault::NotAStartLine { .. });
         assert!(head.malformed().iter().all(is_fault_of_first));
-        // In a request, no white space may be before the colon (RFC 9112 section 5.1).
+        // White space before the colon: in a request the line is refused (RFC 9112 section 5.1).
         assert_eq!(head.add_line("Age \t: 1").unwrap(), !is_request);
-        // Only the first line is a start line.
         let count = head.malformed().len();
+        assert_eq!(count, 1 + usize::from(!is_start));
+        // Only the first line is a start line.
         assert!(!head.add_line(line).unwrap() && head.is_incomplete());
         assert_eq!((head.status(), head.malformed().len()), (status, count + 1));
         assert!(matches!(head.malformed()[count].fault, Fault::NotALine(_)));
-        for before in ["a: b", "a"] {
+        for before in ["a: b", "a", "a : b"] {
             let mut head = Head::new(parser());
             head.add_line(before).unwrap();
             let count = head.malformed().len();
@@ -136,7 +148,7 @@ fn start_lines_with_a_barred_byte() {
     }
     // Other bytes have no such meaning.
     for (line, method) in [
-        (&b"GET /\x0b\xe9\x7f HTTP/1.1"[..], Some(&b"GET"[..])),
+        (&b"GET /\x01\xe9\x7f HTTP/1.1"[..], Some(&b"GET"[..])),
         (b"HTTP/1.1 200 \xe9\x01\t", None),
     ] {
         let mut head = Head::new(parser());
@@ -156,10 +168,11 @@ fn what_start_lines_say() {
             Some("GET"),
         ),
         (
-            "\r\n\nget  HTTP/1.1 HTTP/2\n",
-            Some("get  HTTP/1.1 HTTP/2"),
+            "\r\n\nget HTTP/1.1 HTTP/2\n",
+            Some("get HTTP/1.1 HTTP/2"),
             Some("get"),
         ),
+        ("get  HTTP/1.1 HTTP/2\n", None, None),
         (
             "M-SEARCH * HTTP/1.1",
             Some("M-SEARCH * HTTP/1.1"),
@@ -193,6 +206,7 @@ fn heads_of_a_kind() {
     let request = "the head of a request begins with a request line";
     let response = "the head of a response begins with a status line";
     let end = "the head does not end with an empty line";
+    let cut_off = "the head is cut off: its last line has no line end";
     let no_colon = "not a field line: no colon after the name";
     let neither =
         "neither a start line (no method, target and version) nor a field line (no colon \
@@ -210,7 +224,9 @@ fn heads_of_a_kind() {
             [vec![(3, 0, request)], vec![]],
         ),
         ("Age: 1\nVia: a\n\n", both(1, vec![])),
-        ("\nAge: 1", both(2, vec![(3, 0, end)])),
+        ("\nAge: 1", both(2, vec![(2, 6, cut_off)])),
+        ("\nAge: 1\r", both(2, vec![(2, 7, cut_off)])),
+        ("\nAge: 1\r\n", both(2, vec![(3, 0, end)])),
         ("Age: 1\nAge 1\n\n", both(1, vec![(2, 4, no_colon)])),
         (
             "HTTP/1.1 200\nAge 1\n\n",
@@ -221,11 +237,11 @@ fn heads_of_a_kind() {
         ),
         (
             "GET /\nAge: 1\n\n",
-            [vec![(1, 4, neither)], vec![(1, 4, neither)]],
+            [vec![(1, 5, neither)], vec![(1, 5, neither)]],
         ),
         ("", both(1, vec![(1, 0, end)])),
         ("\r\n\n", both(3, vec![(3, 0, end)])),
-        ("\r", both(1, vec![(1, 0, end)])),
+        ("\r", both(1, vec![(1, 1, cut_off)])),
     ];
     for (text, expected) in rows {
         let head = Head::parse(parser(), text).unwrap();
@@ -552,6 +568,7 @@ fn words_of_lines() {
     let within = "a CR, LF or NUL in it";
     let no_code = "no status code of three digits";
     let at_end = "no method, target and version";
+    let in_target = "white space in the target";
     for (line, at, start, place, first, other) in [
         (" x", 0, at_end, 0, begins, continues),
         ("\t: x", 0, at_end, 0, begins, continues),
@@ -560,9 +577,20 @@ fn words_of_lines() {
         ("\u{e9}", 0, at_end, 0, "no name", "no name"),
         ("\0", 0, within, 0, "no name", "no name"),
         ("Age", 3, at_end, 3, no_colon, no_colon),
-        ("a b: c", 2, at_end, 2, no_colon, no_colon),
-        ("GET /", 4, at_end, 4, no_colon, no_colon),
-        ("GET / HTTP/", 4, at_end, 4, no_colon, no_colon),
+        ("a b: c", 5, at_end, 2, no_colon, no_colon),
+        ("GET ", 4, at_end, 4, no_colon, no_colon),
+        ("GET /", 5, at_end, 4, no_colon, no_colon),
+        ("GET / HTTP/", 6, at_end, 4, no_colon, no_colon),
+        ("GET / HTTP/1.1x", 14, at_end, 4, no_colon, no_colon),
+        ("GET / HTTP/1.1 ", 14, at_end, 4, no_colon, no_colon),
+        ("GET /\tHTTP/1.1", 5, at_end, 4, no_colon, no_colon),
+        ("GET  HTTP/1.1", 4, at_end, 5, no_colon, no_colon),
+        ("ICY 200 OK", 8, at_end, 4, no_colon, no_colon),
+        ("HTTP 1.1", 8, at_end, 5, no_colon, no_colon),
+        ("GET /a b HTTP/1.1", 6, in_target, 4, no_colon, no_colon),
+        ("GET /a\tb HTTP/1.1", 6, in_target, 4, no_colon, no_colon),
+        ("GET  / HTTP/2", 4, in_target, 5, no_colon, no_colon),
+        ("GET /  HTTP/1.1", 5, in_target, 4, no_colon, no_colon),
         ("a: \0", 3, within, 3, bad_byte, bad_byte),
         ("a:b\rc\0", 3, within, 3, bad_byte, bad_byte),
         ("GET / HTTP/1.1\0", 14, within, 4, no_colon, no_colon),
@@ -1005,7 +1033,7 @@ fn lines_like_others() {
     assert!(head.is_incomplete() && head.content().is_none());
     assert_eq!(
         messages(&head, 40),
-        ["line 3, place 0: the head does not end with an empty line"]
+        ["line 3, place 1: the head is cut off: its last line has no line end\n?\n ^"]
     );
 }
 
