@@ -1265,8 +1265,8 @@ typedef enum sf_reason {
                                line: see sf_take_head */
   SF_FAULT_NOT_A_START = 97, /* the first line is neither a start line nor a field line; the
                                 message of sf_show_fault says why it is neither */
-  SF_FAULT_NOT_A_CACHE = 98, /* a member of Cache-Status does not name a cache: location.refusal is
-                                that of sf_read_hops */
+  SF_FAULT_NOT_A_CACHE = 98, /* a member of Cache-Status does not name a cache; several are several
+                                faults. location.refusal is as that of sf_read_hops */
   SF_FAULT_NO_REQUEST_LINE = 101, /* there is no request line, but one was expected: see
                                      sf_take_request */
   SF_FAULT_NO_STATUS_LINE = 102,  /* the same for a status line: see sf_take_response */
@@ -1302,8 +1302,9 @@ typedef struct sf_fault {
                            of the part that is expected, or NULL */
 } sf_fault;
 
-/* A buffer for faults. A head has at most one for each line that is no field line, two for each of
- * Expires and Date, one for each other name that is looked up (two if a response is decided for
+/* A buffer for faults. A head has at most one for each line that is no field line or has white
+ * space before its colon, two for each of Expires and Date, one for each member of Cache-Status
+ * that names no cache, one for each other name that is looked up (two if a response is decided for
  * both kinds of cache), one for a missing start line, one for a missing end, and those of
  * sf_add_fault. */
 typedef struct sf_faults {
@@ -1569,8 +1570,9 @@ static inline sf_status sf_find_merged_priority(sf_context *context, sf_head *re
                                                sf_head *response, sf_priority_flags *merged);
 
 /*
- * Reads the Cache-Status field of a response, as sf_read_hops does. A member that names no cache is
- * a fault, too, SF_FAULT_NOT_A_CACHE. For sf_hop_list_in_memory, the length of the head is enough.
+ * Reads the Cache-Status field of a response, as sf_read_hops does. Each member that names no cache
+ * is a fault, too, SF_FAULT_NOT_A_CACHE. For sf_hop_list_in_memory, the length of the head is
+ * enough.
  *
  *   SF_OK     the list is the path, without hops if the field is absent or malformed
  *   SF_SHORT  head->joined.required bytes are required for the lines, or, if that is 0, the list

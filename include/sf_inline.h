@@ -623,6 +623,12 @@ static inline size_t sf_after_member(sf_text text, size_t at, size_t item, sf_te
   return sf_after_params(text, at, item == 0 ? key : none, place);
 }
 
+/* Returns the place of the member after the one that ends at a place: for the functions below. */
+static inline size_t sf_after_comma(sf_text text, size_t at) {
+  at = sf_after_space(text, at);
+  return sf_after_space(text, at + (at < text.length));
+}
+
 /* Returns the place in a well-formed text of a member, by its key in a Dictionary, otherwise by its
  * index; or of its part: see sf_after_member. If a key is repeated, the last one counts. */
 static inline size_t sf_place_of(sf_text text, int is_dict, sf_text key, size_t index, size_t item,
@@ -640,8 +646,7 @@ static inline size_t sf_place_of(sf_text text, int is_dict, sf_text key, size_t 
     else
       at = sf_after_member(text, end + (size_t)is_dict, is_it ? item : 0, is_it ? param : none,
                            is_it ? &place : &ignored);
-    at = sf_after_space(text, at);
-    at = sf_after_space(text, at + (at < text.length));
+    at = sf_after_comma(text, at);
     ++count;
   }
   return place;
@@ -1227,18 +1232,33 @@ static inline sf_hop_list sf_hop_list_in_memory(void *memory, size_t size, size_
   return sf_hop_list_in(hops, bytes);
 }
 
-/* Returns the refusal of a member of a well-formed List that is no Item of a String or a Token: for
- * the function below. */
-static inline sf_refusal sf_refusal_of_nameless(sf_text list, size_t index) {
-  const uint64_t letters = UINT64_C(0x07fffffe07fffffe); /* the bytes from 64 on */
+/* Returns the place of the member of a List after the one at a place: for the functions below. */
+static inline size_t sf_next_member(sf_text list, size_t at) {
   const sf_text none = {"", 0};
-  size_t i = sf_place_of(list, 0, none, index, 0, none);
+  size_t ignored;
+  return sf_after_comma(list, sf_after_member(list, at, 0, none, &ignored));
+}
+
+/* Returns the place of the first member of a well-formed List, from the one at a place on, that is
+ * no Item of a String or a Token; the length of the text if there is none. For the functions below.
+ */
+static inline size_t sf_nameless_from(sf_text list, size_t at) {
+  while (at < list.length &&
+         (list.at[at] == '"' || list.at[at] == '*' || (list.at[at] >= 'a' && list.at[at] <= 'z') ||
+          (list.at[at] >= 'A' && list.at[at] <= 'Z')))
+    at = sf_next_member(list, at);
+  return at;
+}
+
+/* Returns the refusal of such a member at a place: for the functions below. */
+static inline sf_refusal sf_refusal_of_nameless(sf_text list, size_t at) {
+  const uint64_t letters = UINT64_C(0x07fffffe07fffffe); /* the bytes from 64 on */
   sf_refusal refusal;
   memset(&refusal, 0, sizeof refusal);
-  refusal.offset = i;
+  refusal.offset = at;
   refusal.expected_low = UINT64_C(1) << '"' | UINT64_C(1) << '*';
   refusal.expected_high = letters;
-  refusal.found = i < list.length ? (unsigned char)list.at[i] : -1;
+  refusal.found = at < list.length ? (unsigned char)list.at[at] : -1;
   return refusal;
 }
 
@@ -1255,7 +1275,8 @@ static inline sf_status sf_read_hops(sf_context *context, sf_text text, sf_hop_l
   list->served = is_read && path.is_served ? list->hops.at + path.served : NULL;
   list->nameless = status == SF_NOT_A_CACHE ? path.nameless : 0;
   if (status == SF_NOT_A_CACHE)
-    context->refusal = sf_refusal_of_nameless(text, path.nameless);
+    context->refusal =
+        sf_refusal_of_nameless(text, sf_nameless_from(text, sf_after_space(text, 0)));
   return (sf_status)status;
 }
 
@@ -1356,50 +1377,73 @@ static inline sf_text sf_take_line(sf_text *rest) {
   return line;
 }
 
-/* Returns the length of a head up to the empty line that ends it, and counts its other lines: for
- * the functions below. */
-static inline size_t sf_head_length(sf_text received, size_t *lines) {
+/* Returns whether a byte is one of a token (RFC 9110 section 5.6.2): for the functions below. */
+static inline int sf_is_tchar(char c) {
+  return (c >= 'a' && c <= 'z') || (c >= 'A' && c <= 'Z') || (c >= '0' && c <= '9') ||
+         (c != 0 && strchr("!#$%&'*+-.^_`|~", c) != NULL);
+}
+
+/* Returns how many faults a line of a head may have beside one: white space before its colon, and a
+ * member of Cache-Status that names no cache after each comma. For the function below. */
+static inline size_t sf_more_faults_of(sf_text line) {
+  sf_head_line field;
+  size_t at = 0, count, i;
+  while (at < line.length && sf_is_tchar(line.at[at]))
+    ++at;
+  field.name = sf_text_of(line.at, at);
+  count = at > 0 && at < line.length && line.at[at] != ':';
+  at = sf_after_space(line, at);
+  if (at == line.length || line.at[at] != ':')
+    return 0;
+  if (sf_is_named(&field, "Cache-Status"))
+    for (i = at + 1; i < line.length; ++i)
+      count += line.at[i] == ',' && line.at[i - 1] != ',';
+  return count;
+}
+
+/* Returns the length of a head up to the empty line that ends it, and counts its other lines, and
+ * the faults for which sf_head_in_memory has a buffer: one for each of these lines, those above,
+ * and ten for a missing start line, a missing end and eight that the program finds. For the
+ * functions below. */
+static inline size_t sf_head_length(sf_text received, size_t *lines, size_t *faults) {
   sf_text rest = sf_text_of(received.at, received.at == NULL ? 0 : received.length);
   size_t length = rest.length;
   *lines = 0;
+  *faults = 10;
   while (rest.length > 0) {
     sf_text line = sf_take_line(&rest);
     int is_empty = *line.at == '\n' || (line.length == 2 && memcmp(line.at, "\r\n", 2) == 0);
     if (is_empty && *lines > 0)
       break;
     *lines += !is_empty;
+    *faults += is_empty ? 0 : 1 + sf_more_faults_of(line);
   }
   return length - rest.length;
 }
 
-/* Faults of a head that sf_head_in_memory has a buffer for beside one for each line: a missing
- * start line and a missing end, and eight that the program finds. For the functions below. */
-enum { SF_MORE_FAULTS = 10 };
-
-/* Returns the bytes that are enough for a head of so many lines and bytes: for the functions below.
- * A line that is no field line has one fault, and a field has at most as many as it has lines. All
- * fields, joined, have fewer bytes than the head, and each of them has when it is joined again
- * while all are kept. */
-static inline size_t sf_head_memory_of(size_t lines, size_t length) {
-  size_t bytes = sf_add_size(SF_MORE_FAULTS * sizeof(sf_fault), lines,
-                             sizeof(sf_head_line) + sizeof(sf_fault));
-  return sf_add_size(bytes, length, 2);
+/* Returns the bytes that are enough for a head of so many lines, faults and bytes: for the
+ * functions below. A line that is no field line has one fault, and a field has at most as many as
+ * it has lines, or members that name no cache. All fields, joined, have fewer bytes than the head,
+ * and each of them has when it is joined again while all are kept. */
+static inline size_t sf_head_memory_of(size_t lines, size_t faults, size_t length) {
+  size_t bytes = sf_add_size(0, lines, sizeof(sf_head_line));
+  return sf_add_size(sf_add_size(bytes, faults, sizeof(sf_fault)), length, 2);
 }
 
 static inline size_t sf_head_memory_size(sf_text received) {
-  size_t lines, length = sf_head_length(received, &lines);
-  return sf_head_memory_of(lines, length);
+  size_t lines, faults, length = sf_head_length(received, &lines, &faults);
+  return sf_head_memory_of(lines, faults, length);
 }
 
 static inline sf_head sf_head_in_memory(void *memory, size_t size, sf_text received) {
-  size_t lines, length = sf_head_length(received, &lines);
+  size_t lines, count, length = sf_head_length(received, &lines, &count);
   sf_head_line *at = (sf_head_line *)sf_aligned(memory);
-  int fits = sf_fits(at, size, sf_head_memory_of(lines, length));
+  int fits = sf_fits(at, size, sf_head_memory_of(lines, count, length));
   sf_fault *faults = fits ? (sf_fault *)(void *)(at + lines) : NULL;
   sf_head head = sf_head_in(sf_head_lines_of(at, fits ? lines : 0), sf_buffer_of(NULL, 0));
   if (fits) {
-    head.faults = sf_faults_of(faults, lines + SF_MORE_FAULTS);
-    head.joined = sf_buffer_of(faults + lines + SF_MORE_FAULTS, 2 * length);
+    head.faults = sf_faults_of(faults, count);
+    head.joined = sf_buffer_of(faults + count, 2 * length);
   }
   return head;
 }
@@ -1425,12 +1469,6 @@ static inline sf_status sf_add_received(sf_head *head, sf_text name, sf_text val
 
 static inline sf_status sf_add_field_line(sf_head *head, sf_text name, sf_text value) {
   return sf_add_received(head, name, value, value);
-}
-
-/* Returns whether a byte is one of a token (RFC 9110 section 5.6.2): for the functions below. */
-static inline int sf_is_tchar(char c) {
-  return (c >= 'a' && c <= 'z') || (c >= 'A' && c <= 'Z') || (c >= '0' && c <= '9') ||
-         (c != 0 && strchr("!#$%&'*+-.^_`|~", c) != NULL);
 }
 
 /* Adds a byte to those that a refusal expects: for the functions below. */
@@ -1562,10 +1600,12 @@ static inline void sf_note_fault(sf_head *head, const char *field, sf_reason rea
                                  const char *message, const sf_location *location) {
   sf_fault *faults = head->faults.at;
   size_t i = head->faults.length;
-  for (; i > 0 && reason != SF_FAULT_OWN && faults[i - 1].location.number >= location->number; --i)
+  int is_added = reason == SF_FAULT_NOT_A_LINE || reason == SF_FAULT_OWN;
+  for (; i > 0 && !is_added && faults[i - 1].location.number >= location->number; --i)
     if (strcmp(faults[i - 1].field, field) == 0 && faults[i - 1].reason == (uint32_t)reason &&
         sf_is_same(sf_cstr(faults[i - 1].message), sf_cstr(message)) &&
         faults[i - 1].location.number == location->number &&
+        faults[i - 1].location.index == location->index &&
         faults[i - 1].location.refusal.offset == location->refusal.offset)
       return;
   ++head->faults.required;
@@ -1794,15 +1834,9 @@ static inline sf_location sf_locate_in_head(const sf_refusal *refusal, const sf_
   return location;
 }
 
-/* Adds a refusal of a field to the faults of a head, for this reason: for the functions below. */
-static inline void sf_note_field(sf_head *head, const char *name, sf_reason reason,
-                                 const sf_refusal *refusal) {
-  sf_location location = sf_locate_in_head(refusal, head, name);
-  sf_note_fault(head, name, reason, NULL, &location);
-}
-
 static inline void sf_note_refusal(sf_head *head, const char *name, const sf_refusal *refusal) {
-  sf_note_field(head, name, SF_FAULT_REFUSED, refusal);
+  sf_location location = sf_locate_in_head(refusal, head, name);
+  sf_note_fault(head, name, SF_FAULT_REFUSED, NULL, &location);
 }
 
 static inline sf_location sf_locate_offset(const sf_head *head, const char *name,
@@ -1837,6 +1871,51 @@ static inline void sf_note_value(sf_head *head, const char *name, sf_reason reas
   location.refusal = *refusal;
   sf_show_received(&location, line);
   sf_note_fault(head, name, reason, message, &location);
+}
+
+/* Adds each member of Cache-Status that names no cache to the faults of a head, in the order of the
+ * lines, after those that an earlier call added. It takes time in proportion to the text, the lines
+ * and the faults, however many there are of each. For the functions below. */
+static inline void sf_note_nameless(sf_head *head, sf_text list) {
+  sf_faults *faults = &head->faults;
+  size_t first = sf_nameless_from(list, sf_after_space(list, 0)), at;
+  size_t index = 0, noted = 0, count = 0, kept, from, to = 0;
+  uint64_t begin = 0; /* the place in the text of the value of the line of this index */
+  for (from = 0; from < faults->length; ++from)
+    noted += faults->at[from].reason == SF_FAULT_NOT_A_CACHE;
+  for (at = first; at < list.length; at = sf_nameless_from(list, sf_next_member(list, at)))
+    ++count;
+  if (count <= noted)
+    return;
+  faults->required += count - noted;
+  kept = faults->capacity > faults->length ? faults->capacity - faults->length : 0;
+  kept = kept < count - noted ? kept : count - noted;
+  if (kept > 0 && faults->length > 0)
+    memmove(faults->at + kept, faults->at, faults->length * sizeof *faults->at);
+  faults->length += kept;
+  from = kept;
+  for (at = first; kept > 0; at = sf_nameless_from(list, sf_next_member(list, at))) {
+    const sf_head_line *line = &head->lines.at[index];
+    sf_fault fault;
+    for (; !sf_is_named(line, "Cache-Status") || at >= begin + line->value.length; ++line, ++index)
+      begin += sf_is_named(line, "Cache-Status") ? line->value.length + 2 : 0;
+    if (noted > 0) {
+      --noted;
+      continue;
+    }
+    fault.field = "Cache-Status";
+    fault.reason = SF_FAULT_NOT_A_CACHE;
+    fault.message = NULL;
+    fault.location.index = index;
+    fault.location.number = line->number;
+    fault.location.refusal = sf_refusal_of_nameless(list, at);
+    fault.location.refusal.offset -= begin;
+    sf_show_received(&fault.location, line);
+    while (from < faults->length && faults->at[from].location.number <= line->number)
+      faults->at[to++] = faults->at[from++];
+    faults->at[to++] = fault;
+    --kept;
+  }
 }
 
 /* Returns in words why a line, the first or another, is no field line: for the function below. */
@@ -1964,10 +2043,9 @@ static inline sf_status sf_show_fault(const sf_fault *fault, size_t most, sf_buf
  * malformed counts as absent, and is added to the faults: for the functions below. */
 static inline sf_status sf_found(const sf_context *context, sf_head *head, const char *name,
                                  sf_status status) {
-  if (status != SF_REFUSED && status != SF_NOT_A_CACHE)
+  if (status != SF_REFUSED)
     return status;
-  sf_note_field(head, name, status == SF_REFUSED ? SF_FAULT_REFUSED : SF_FAULT_NOT_A_CACHE,
-                &context->refusal);
+  sf_note_refusal(head, name, &context->refusal);
   return SF_OK;
 }
 
@@ -2021,8 +2099,10 @@ static inline sf_status sf_find_hops(sf_context *context, sf_head *head, sf_hop_
                          sf_buffer_of(list->bytes.at, list->bytes.capacity));
   if (status == SF_OK)
     status = sf_read_hops(context, text, list);
+  if (status == SF_NOT_A_CACHE)
+    sf_note_nameless(head, text);
   head->joined.length = begin;
-  return sf_found(context, head, "Cache-Status", status);
+  return sf_found(context, head, "Cache-Status", status == SF_NOT_A_CACHE ? SF_OK : status);
 }
 
 static inline sf_status sf_find_tree(sf_context *context, sf_kind kind, sf_head *head,

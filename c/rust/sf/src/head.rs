@@ -4,6 +4,7 @@ use crate::buffer::{copied_text, push};
 use crate::http_date;
 use crate::line::{is_barred, is_of, is_tchar, spaces_before, split, without_end, Parts};
 use crate::malformed::{Fault, Malformed, StartFault};
+use crate::place::nameless;
 use crate::{
     field_text, has_field, trim, Appended, Error, Exchange, Fallback, FieldLine, FieldType,
     HeadFault, Hop, Obstacle, Parser, Path, Place, Priority, Refusal, ResponsePriority, Verdict,
@@ -522,7 +523,8 @@ impl<'a> Head<'a> {
     }
 
     /// Reads the Cache-Status field of a response (RFC 9211 section 2); the path without hops if it
-    /// is absent or malformed, or if a member names no cache ([`Fault::NotACache`]).
+    /// is absent or malformed, or if a member names no cache: each of these is a fault
+    /// ([`Fault::NotACache`]).
     ///
     /// # Errors
     ///
@@ -533,8 +535,14 @@ impl<'a> Head<'a> {
     /// assert_eq!(head.path().unwrap().served_by(), Some(0));
     /// ```
     pub fn path(&mut self) -> Result<Path, Error> {
-        let said = self.parser.path(field_text(&self.lines, "Cache-Status")?);
-        self.or_absent("Cache-Status", said)
+        let text = field_text(&self.lines, "Cache-Status")?;
+        match self.parser.path(&text) {
+            Err(Error::NotACache { .. }) => {
+                self.note_nameless(&text)?;
+                Ok(Path::default())
+            }
+            said => self.or_absent("Cache-Status", said),
+        }
     }
 
     /// Reads a field of any name; `None` if it is absent or malformed.
@@ -644,8 +652,7 @@ impl<'a> Head<'a> {
         }
         let offset = place.into().offset_in(field_text(&self.lines, name)?);
         let found = self.found(Refusal::at(offset).in_head(&self.lines, name))?;
-        let line = self.lines.iter().find(|line| line.number == found.number);
-        Ok(line.map(|line| (*line, found.offset)))
+        Ok(Some((self.lines[found.index], found.offset)))
     }
 
     /// Adds a fault that the program finds itself to [`Head::malformed`]: at this place of a field,
@@ -716,14 +723,40 @@ impl<'a> Head<'a> {
     fn or_absent<T: Default>(&mut self, name: &str, said: Result<T, Error>) -> Result<T, Error> {
         said.or_else(|error| {
             if let Some(refusal) = error.refusal() {
-                let mut found = self.found(refusal.in_head(&self.lines, name))?;
-                if let Error::NotACache { .. } = error {
-                    found.fault = Fault::NotACache;
-                }
-                self.insert(found)?;
+                self.note(refusal.in_head(&self.lines, name))?;
             }
             error.as_absent()
         })
+    }
+
+    /// Notes each member of Cache-Status, a well-formed List, that names no cache, in the order of
+    /// the lines, after those that were noted before. It takes time in proportion to the text, the
+    /// lines and the faults, however many there are of each.
+    fn note_nameless(&mut self, list: &[u8]) -> Result<(), Error> {
+        let is_noted = |one: &&HeadFault<'_>| one.fault == Fault::NotACache;
+        let noted = self.malformed.iter().filter(is_noted).count();
+        let is_of_field = |(_, line): &(usize, &HeadLine<'_>)| is_of(*line, "Cache-Status");
+        let mut lines = self.lines.iter().enumerate().filter(is_of_field);
+        let mut line = lines.next();
+        let mut begin = 0; // the place of the value of this line in the text
+        let mut found = Vec::new();
+        for at in nameless(list).skip(noted) {
+            while let Some((_, before)) = line.filter(|(_, line)| at >= begin + line.value.len()) {
+                begin += before.value.len() + 2;
+                line = lines.next();
+            }
+            let Some((index, line)) = line else { break };
+            let offset = line.value_at + (at - begin);
+            push(
+                &mut found,
+                HeadFault {
+                    field: copied_text("Cache-Status")?,
+                    index,
+                    ..HeadFault::of_line(Fault::NotACache, line.number, line.received, offset)
+                },
+            )?;
+        }
+        merge(&mut self.malformed, found)
     }
 
     /// Notes a malformed field of this head.
@@ -762,6 +795,7 @@ impl<'a> Head<'a> {
         Ok(HeadFault {
             field: copied_text(malformed.field)?,
             part,
+            index: malformed.line,
             ..HeadFault::of_line(fault, line.number, line.received, offset)
         })
     }
@@ -786,6 +820,24 @@ impl<'a> Head<'a> {
         self.malformed[after..].rotate_right(1);
         Ok(())
     }
+}
+
+/// Merges faults with others, both in the order of their lines, so that each is after those that
+/// `faults` had of its line and of the lines before.
+fn merge<'a>(faults: &mut Vec<HeadFault<'a>>, more: Vec<HeadFault<'a>>) -> Result<(), Error> {
+    let mut all = Vec::new();
+    all.try_reserve(faults.len() + more.len())
+        .map_err(|_| Error::OutOfMemory)?;
+    let mut before = core::mem::take(faults).into_iter().peekable();
+    for one in more {
+        while let Some(earlier) = before.next_if(|earlier| earlier.number <= one.number) {
+            all.push(earlier);
+        }
+        all.push(one);
+    }
+    all.extend(before);
+    *faults = all;
+    Ok(())
 }
 
 /// Why a line is no start line, and where, unless its end is wrong.

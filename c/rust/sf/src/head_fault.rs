@@ -46,6 +46,8 @@ pub struct HeadFault<'a> {
     pub offset: usize,
     /// The part that is expected of [`Fault::NotADate`], in words that go on with a date.
     pub(crate) part: &'static str,
+    /// The index of the line in the head, for a fault of a field.
+    pub(crate) index: usize,
 }
 
 impl<'a> HeadFault<'a> {
@@ -59,6 +61,7 @@ impl<'a> HeadFault<'a> {
             line,
             offset,
             part: "",
+            index: 0,
         }
     }
 
