@@ -1299,7 +1299,7 @@ typedef struct sf_fault {
                            the line is empty, and its number that of the line to be added next. For
                            all of these, the refusal says only where, not why */
   const char *message;  /* of SF_FAULT_OWN, that of sf_add_fault; otherwise what sf_show_fault says
-                           of the part that is expected, or NULL */
+                           of the part that is expected, or of the directive, or NULL */
 } sf_fault;
 
 /* A buffer for faults. A head has at most one for each line that is no field line or has white

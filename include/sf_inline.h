@@ -1930,8 +1930,8 @@ static inline const char *sf_line_fault(const sf_refusal *refusal, int is_first)
   return is_first ? "it begins with white space" : "it continues the line before";
 }
 
-/* Returns the words for a reason, which go on for lines; NULL if a refusal has them: for the
- * function below. */
+/* Returns the words for a reason, which go on for lines and dates, or have a directive before them;
+ * NULL if a refusal has them: for the function below. */
 static inline const char *sf_fault_words(uint32_t reason) {
   switch (reason) {
   case SF_FAULT_NOT_A_DATE:
@@ -1942,7 +1942,7 @@ static inline const char *sf_fault_words(uint32_t reason) {
   case SF_FAULT_NOT_SECONDS:
     return "expected a number of seconds";
   case SF_FAULT_OTHER_SECONDS:
-    return "the directive had another value before";
+    return " had another value before";
   case SF_FAULT_NOT_A_LINE:
     return "not a field line: ";
   case SF_FAULT_SPACE_BEFORE_COLON:
@@ -1977,6 +1977,23 @@ static inline void sf_leave_out_place(sf_text message, sf_text *before, sf_text 
     ++end;
   *before = sf_text_of(message.at, at);
   *after = sf_text_of(message.at + end, message.length - end);
+}
+
+/* Returns whether a line is refused because a number has too many digits: more than 15, or 12
+ * before a point, or 3 after it (RFC 9651 sections 3.3.1, 3.3.2 and 3.3.7). For the function below.
+ */
+static inline int sf_is_long_number(sf_text line, const sf_refusal *refusal) {
+  size_t at = (size_t)refusal->offset, begin = at, digits;
+  if (refusal->offset >= line.length)
+    return 0;
+  while (begin > 0 && line.at[begin - 1] >= '0' && line.at[begin - 1] <= '9')
+    --begin;
+  digits = at - begin;
+  if (line.at[at] >= '0' && line.at[at] <= '9')
+    return digits == 15 || (digits == 3 && begin > 0 && line.at[begin - 1] == '.');
+  begin -= begin > 0 && line.at[begin - 1] == '-';
+  return line.at[at] == '.' && digits > 12 && !(begin > 0 && line.at[begin - 1] == '@') &&
+         (refusal->expected_high >> ('a' - 64) & 1) == 0; /* in a Byte Sequence, letters are */
 }
 
 static inline sf_status sf_show_fault_in(const char *file, const sf_fault *fault, size_t most,
@@ -2017,10 +2034,15 @@ static inline sf_status sf_show_fault_in(const char *file, const sf_fault *fault
     status = sf_write_refusal(&location->refusal, &refused);
     if (status != SF_OK)
       return sf_wrote(out, status, 0);
-    sf_leave_out_place(sf_written(&refused), &parts[5], &parts[6]);
+    if (fault->message == NULL && sf_is_long_number(location->line, &location->refusal))
+      parts[5] = sf_cstr("too many digits: ");
+    sf_leave_out_place(sf_written(&refused), &parts[6], &parts[7]);
     if (fault->message != NULL)
-      parts[6] = sf_text_of(", expected ", 11);
-    ++count;
+      parts[7] = sf_text_of(", expected ", 11);
+    count += 2;
+  } else if (fault->reason == SF_FAULT_OTHER_SECONDS) {
+    parts[5] = sf_cstr(fault->message == NULL ? "the directive" : fault->message);
+    parts[count++] = sf_cstr(words);
   }
   if (words == NULL || fault->reason == SF_FAULT_OWN || fault->reason == SF_FAULT_NOT_A_DATE)
     parts[count++] = sf_cstr(fault->message);
@@ -2454,12 +2476,39 @@ static inline size_t sf_date_part_length(sf_text text, char part) {
   }
 }
 
+/* Returns the number of two digits, or of a space and a digit: for the function below. */
+static inline int sf_pair_at(sf_text text, size_t at) {
+  return (text.at[at] == ' ' ? 0 : text.at[at] - '0') * 10 + (text.at[at + 1] - '0');
+}
+
+/* Returns the place of the part of a value that makes it no HTTP-date, though each part is in the
+ * right format, and sets in words what is expected there: a day that is in the month, a year from
+ * 1970 on, or the weekday. The places are those of the day, the month and the year. For the
+ * function below. */
+static inline size_t sf_place_in_day(sf_text value, const size_t places[3],
+                                     const char **expected) {
+  sf_text month = sf_text_of(value.at + places[1], value.length - places[1]);
+  int day = sf_pair_at(value, places[0]), year = sf_pair_at(value, places[2]), last = 31;
+  if (places[2] + 2 < value.length && value.at[places[2] + 2] != ' ')
+    year = year * 100 + sf_pair_at(value, places[2] + 2);
+  else
+    year += year < 70 ? 2000 : 1900;
+  if (sf_name_length(month, "Apr Jun Sep Nov ", 3) > 0)
+    last = 30;
+  if (sf_name_length(month, "Feb ", 3) > 0)
+    last = year % 4 == 0 && (year % 100 != 0 || year % 400 == 0) ? 29 : 28;
+  *expected = day > last    ? "a day of that month in "
+              : year < 1970 ? "a year from 1970 on in "
+                            : "the weekday of that day in ";
+  return day > last ? places[0] : year < 1970 ? places[2] : 0;
+}
+
 /* Returns the place at which a value that is no HTTP-date can't go on as one, in the format that it
  * is most like, and sets in words which part of the date is expected there: for the function below.
  */
 static inline size_t sf_place_in_date(sf_text value, const char **expected) {
   const char *format = "w, d m Y t z";
-  size_t at = sf_date_part_length(value, 'W');
+  size_t at = sf_date_part_length(value, 'W'), places[3] = {0, 0, 0};
   if (at > 0)
     format = "W, d-m-y t z";
   else if (value.length > 4 && value.at[3] == ' ' && (unsigned char)value.at[4] > '9')
@@ -2468,9 +2517,20 @@ static inline size_t sf_place_in_date(sf_text value, const char **expected) {
     size_t length = sf_date_part_length(sf_text_of(value.at + at, value.length - at), *format);
     if (length == 0)
       break;
+    if (*format == 'd' || *format == 'D')
+      places[0] = at;
+    if (*format == 'm')
+      places[1] = at;
+    if (*format == 'y' || *format == 'Y')
+      places[2] = at;
     at += length;
   }
   switch (*format) {
+  case 0:
+    if (at == value.length)
+      return sf_place_in_day(value, places, expected);
+    *expected = "the end of ";
+    return at;
   case 'w':
     *expected = NULL;
     return 0;
@@ -2497,12 +2557,9 @@ static inline size_t sf_place_in_date(sf_text value, const char **expected) {
   case ',':
     *expected = "a comma in ";
     return at;
-  case '-':
+  default:
     *expected = "a hyphen in ";
     return at;
-  default:
-    *expected = at < value.length ? "the end of " : "a day from 1970 on and its weekday in ";
-    return at < value.length ? at : 0;
   }
 }
 
@@ -2598,7 +2655,8 @@ static inline void sf_note_seconds(sf_head *head, const char *target, const sf_r
   for (i = 0; i < head->lines.length && target == NULL; ++i)
     if (sf_is_named(&head->lines.at[i], "Cache-Control") &&
         sf_find_bad_seconds(head->lines.at[i].value, name, &before, &refusal.offset, &reason)) {
-      sf_note_value(head, "Cache-Control", reason, NULL, i, &refusal);
+      sf_note_value(head, "Cache-Control", reason, reason == SF_FAULT_OTHER_SECONDS ? name : NULL,
+                    i, &refusal);
       return;
     }
 }

@@ -2178,9 +2178,22 @@ static void parts_of_dates(void) {
       {"Sun, 06 Nov 1994 08:49:37 +0000", 26, "GMT in "},
       {"Sun, 06 Nov 1994 08:49:37 gmt", 26, "GMT in "},
       {"Sun, 06 Nov 1994 08:49:37 GMT+1", 29, "the end of "},
-      {"Mon, 06 Nov 1994 08:49:37 GMT", 0, "a day from 1970 on and its weekday in "},
-      {"Fri, 31 Feb 1995 08:49:37 GMT", 0, "a day from 1970 on and its weekday in "},
-      {"Wed, 31 Dec 1969 23:59:59 GMT", 0, "a day from 1970 on and its weekday in "},
+      {"Mon, 06 Nov 1994 08:49:37 GMT", 0, "the weekday of that day in "},
+      {"Fri, 31 Feb 1995 08:49:37 GMT", 5, "a day of that month in "},
+      {"Wed, 31 Dec 1969 23:59:59 GMT", 12, "a year from 1970 on in "},
+      {"Thu, 29 Feb 1900 08:49:37 GMT", 5, "a day of that month in "},
+      {"Tue, 29 Feb 2000 08:49:37 GMT", -1, ""},
+      {"Wed, 29 Feb 2023 08:49:37 GMT", 5, "a day of that month in "},
+      {"Thu, 29 Feb 2024 08:49:37 GMT", -1, ""},
+      {"Fri, 31 Apr 2026 08:49:37 GMT", 5, "a day of that month in "},
+      {"Sun, 31 May 2026 08:49:37 GMT", -1, ""},
+      {"Monday, 29-Feb-99 08:49:37 GMT", 8, "a day of that month in "},
+      {"Tuesday, 29-Feb-00 08:49:37 GMT", -1, ""},
+      {"Friday, 29-Feb-00 08:49:37 GMT", 0, "the weekday of that day in "},
+      {"Monday, 06-Nov-94 08:49:37 GMT", 0, "the weekday of that day in "},
+      {"Sun Sep 31 08:49:37 1994", 8, "a day of that month in "},
+      {"Sat Nov  6 08:49:37 1994", 0, "the weekday of that day in "},
+      {"Wed Dec 31 23:59:59 1969", 20, "a year from 1970 on in "},
       {"Sunday 06-Nov-94 08:49:37 GMT", 6, "a comma in "},
       {"Sunday, 06 Nov 1994 08:49:37 GMT", 10, "a hyphen in "},
       {"Sunday, 06-Nov-1994 08:49:37 GMT", 17, "a space in "},
@@ -2228,7 +2241,7 @@ static void numbers_of_seconds(void) {
   static const struct {
     const char *head;     /* lines of T, which is a target, and others */
     int shared, private_; /* the places of the fault in both kinds of caches, -1 without one */
-    int line, is_other;
+    int line, is_other; /* 2 is another s-maxage */
   } rows[] = {
       {"Cache-Control: max-age=60, s-maxage=\"6\\0\"", -1, -1, 0, 0},
       {"Cache-Control: max-age=6o", 23, 23, 1, 0},
@@ -2238,6 +2251,7 @@ static void numbers_of_seconds(void) {
       {"Cache-Control: max-age=-1 , public", 23, 23, 1, 0},
       {"Cache-Control: max-age=60\nX: y\ncache-control: public,, max-age=\"60\", max-age=061", 46, 46, 3, 1},
       {"Cache-Control: max-age=99999999999, max-age=99999999998", -1, -1, 0, 0},
+      {"Cache-Control: max-age=5, s-maxage=6\nCache-Control: S-Maxage=7", 24, -1, 2, 2},
       {"Cache-Control: s-maxage=x, max-age=60", 24, -1, 1, 0},
       {"Cache-Control: s-maxage=60, max-age=x", -1, 36, 1, 0},
       {"Cache-Control: max-age=x, must-revalidate", 23, 23, 1, 0},
@@ -2285,7 +2299,8 @@ static void numbers_of_seconds(void) {
       CHECK(sf_show_fault(&faults[0], 60, &out) == SF_OK);
       message[out.length - 1] = 0;
       CHECK(strstr(message, rows[i].is_other < 0 ? "expected `,` or the end\n"
-                            : rows[i].is_other   ? "Cache-Control: the directive had another value before\n"
+                            : rows[i].is_other == 2 ? "Cache-Control: s-maxage had another value before\n"
+                            : rows[i].is_other   ? "Cache-Control: max-age had another value before\n"
                                                  : ": expected a number of seconds\n") != NULL);
     }
 }

@@ -779,7 +779,7 @@ impl<'a> Head<'a> {
                 (digits.count(), "")
             }
             Fault::NotADate => http_date::fault(line.value),
-            Fault::NotSeconds { offset } | Fault::OtherSeconds { offset } => (offset, ""),
+            Fault::NotSeconds { offset } | Fault::OtherSeconds { offset, .. } => (offset, ""),
             _ => (0, ""),
         };
         let offset = line.value_at.saturating_add(place);
@@ -789,7 +789,7 @@ impl<'a> Head<'a> {
                 ..refusal
             }),
             Fault::NotSeconds { .. } => Fault::NotSeconds { offset },
-            Fault::OtherSeconds { .. } => Fault::OtherSeconds { offset },
+            Fault::OtherSeconds { directive, .. } => Fault::OtherSeconds { directive, offset },
             fault => fault,
         };
         Ok(HeadFault {

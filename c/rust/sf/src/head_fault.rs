@@ -2,6 +2,7 @@
 
 use crate::error::write_excerpt;
 use crate::malformed::{Fault, DATE};
+use crate::Refusal;
 use alloc::string::String;
 use core::fmt;
 
@@ -121,12 +122,39 @@ impl fmt::Display for HeadFault<'_> {
             write!(f, "{}: ", self.field)?;
         }
         match self.fault {
-            Fault::Refused(refusal) => refusal.write_without_place(f),
+            Fault::Refused(refusal) => {
+                if is_long_number(self.line, &refusal) {
+                    f.write_str("too many digits: ")?;
+                }
+                refusal.write_without_place(f)
+            }
             Fault::NotADate => write!(f, "expected {}{DATE}", self.part),
             Fault::Own => f.write_str(&self.message),
             Fault::NoEnd if !self.line.is_empty() => f.write_str(CUT_OFF),
             fault => write!(f, "{fault}"),
         }
+    }
+}
+
+/// Whether a line is refused because a number has too many digits: more than 15, or 12 before a
+/// point, or 3 after it (RFC 9651 sections 3.3.1, 3.3.2 and 3.3.7).
+fn is_long_number(line: &[u8], refusal: &Refusal) -> bool {
+    let at = usize::try_from(refusal.offset).unwrap_or(usize::MAX);
+    if refusal.words.is_some() || at >= line.len() {
+        return false;
+    }
+    let (before, from) = line.split_at(at);
+    let digits = before.iter().rev().take_while(|byte| byte.is_ascii_digit());
+    let digits = digits.count();
+    let before = &before[..at - digits];
+    match from[0] {
+        b'0'..=b'9' => digits == 15 || digits == 3 && before.ends_with(b"."),
+        b'.' => {
+            let before = before.strip_suffix(b"-").unwrap_or(before);
+            // In a Byte Sequence, letters are expected.
+            digits > 12 && !before.ends_with(b"@") && !refusal.expects(b'a')
+        }
+        _ => false,
     }
 }
 

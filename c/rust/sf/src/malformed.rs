@@ -81,6 +81,8 @@ pub enum Fault {
     },
     /// The same, since `Cache-Control` had it before with another number.
     OtherSeconds {
+        /// `max-age` or `s-maxage`.
+        directive: &'static str,
         /// Where the argument begins, likewise.
         offset: usize,
     },
@@ -148,7 +150,9 @@ impl fmt::Display for Fault {
             Fault::NotADate => write!(f, "expected {DATE}"),
             Fault::Repeated => f.pad("there are several lines"),
             Fault::NotAnAge | Fault::NotSeconds { .. } => f.pad("expected a number of seconds"),
-            Fault::OtherSeconds { .. } => f.pad("the directive had another value before"),
+            Fault::OtherSeconds { directive, .. } => {
+                write!(f, "{directive} had another value before")
+            }
             Fault::Own => f.pad("a fault that the program found"),
             Fault::NotACache => f.pad("the member does not name a cache"),
             Fault::NotALine(refusal) => {

@@ -653,7 +653,9 @@ fn words_of_lines() {
 /// Where a date is malformed, in each of its formats (RFC 9110 section 5.6.7).
 #[test]
 fn parts_of_dates() {
-    let unreal = "a day from 1970 on and its weekday in ";
+    let month = "a day of that month in ";
+    let weekday = "the weekday of that day in ";
+    let year = "a year from 1970 on in ";
     for (value, place, part) in [
         ("0", 0, ""),
         ("", 0, ""),
@@ -673,9 +675,19 @@ fn parts_of_dates() {
         ("Sun, 06 Nov 1994 08:49:37", 25, "a space in "),
         ("Sun, 06 Nov 1994 08:49:37 UTC", 26, "GMT in "),
         ("Sun, 06 Nov 1994 08:49:37 GMT+1", 29, "the end of "),
-        ("Mon, 06 Nov 1994 08:49:37 GMT", 0, unreal),
-        ("Fri, 31 Feb 1995 08:49:37 GMT", 0, unreal),
-        ("Wed, 31 Dec 1969 23:59:59 GMT", 0, unreal),
+        ("Mon, 06 Nov 1994 08:49:37 GMT", 0, weekday),
+        ("Fri, 31 Feb 1995 08:49:37 GMT", 5, month),
+        ("Wed, 31 Dec 1969 23:59:59 GMT", 12, year),
+        ("Thu, 29 Feb 1900 08:49:37 GMT", 5, month),
+        ("Wed, 29 Feb 2023 08:49:37 GMT", 5, month),
+        ("Wed, 29 Feb 2024 08:49:37 GMT", 0, weekday),
+        ("Fri, 31 Apr 2026 08:49:37 GMT", 5, month),
+        ("Monday, 29-Feb-99 08:49:37 GMT", 8, month),
+        ("Friday, 29-Feb-00 08:49:37 GMT", 0, weekday),
+        ("Monday, 06-Nov-94 08:49:37 GMT", 0, weekday),
+        ("Sun Sep 31 08:49:37 1994", 8, month),
+        ("Sat Nov  6 08:49:37 1994", 0, weekday),
+        ("Wed Dec 31 23:59:59 1969", 20, year),
         ("Sunday 06-Nov-94 08:49:37 GMT", 6, "a comma in "),
         ("Sunday, 06 Nov 1994 08:49:37 GMT", 10, "a hyphen in "),
         ("Sunday, 06-Nov-9 08:49:37 GMT", 15, "the year in "),
@@ -707,36 +719,43 @@ fn parts_of_dates() {
 #[test]
 fn numbers_of_seconds() {
     let none = None;
-    for (text, shared, private, number, is_other) in [
+    let (seconds, other) = ("", "max-age");
+    for (text, shared, private, number, directive) in [
         (
             r#"Cache-Control: max-age=60, s-maxage="6\0""#,
             none,
             none,
             0,
-            false,
+            seconds,
         ),
-        ("Cache-Control: max-age=6o", Some(23), Some(23), 1, false),
+        ("Cache-Control: max-age=6o", Some(23), Some(23), 1, seconds),
         (
             r#"Cache-Control: a="max-age=x", Max-Age"#,
             Some(37),
             Some(37),
             1,
-            false,
+            seconds,
         ),
-        (r#"Cache-Control: max-age="""#, Some(23), Some(23), 1, false),
+        (
+            r#"Cache-Control: max-age="""#,
+            Some(23),
+            Some(23),
+            1,
+            seconds,
+        ),
         (
             r#"Cache-Control: max-age="6\o""#,
             Some(23),
             Some(23),
             1,
-            false,
+            seconds,
         ),
         (
             "Cache-Control: max-age=-1 , public",
             Some(23),
             Some(23),
             1,
-            false,
+            seconds,
         ),
         (
             "Cache-Control: max-age=60\nX: y\n\
@@ -744,58 +763,77 @@ fn numbers_of_seconds() {
             Some(46),
             Some(46),
             3,
-            true,
+            other,
         ),
         (
             "Cache-Control: max-age=99999999999, max-age=99999999998",
             none,
             none,
             0,
-            false,
+            seconds,
+        ),
+        (
+            "Cache-Control: max-age=5, s-maxage=6\nCache-Control: S-Maxage=7",
+            Some(24),
+            none,
+            2,
+            "s-maxage",
         ),
         (
             "Cache-Control: s-maxage=x, max-age=60",
             Some(24),
             none,
             1,
-            false,
+            seconds,
         ),
         (
             "Cache-Control: s-maxage=60, max-age=x",
             none,
             Some(36),
             1,
-            false,
+            seconds,
         ),
         (
             "Cache-Control: max-age=x, must-revalidate",
             Some(23),
             Some(23),
             1,
-            false,
+            seconds,
         ),
-        ("Cache-Control: max-age=x, no-store", none, none, 0, false),
-        ("Cache-Control: max-age=x, no-cache", none, none, 0, false),
+        ("Cache-Control: max-age=x, no-store", none, none, 0, seconds),
+        ("Cache-Control: max-age=x, no-cache", none, none, 0, seconds),
         (
             "Cache-Control: max-age=x, private",
             none,
             Some(23),
             1,
-            false,
+            seconds,
         ),
-        ("T: max-age=1.5", Some(11), Some(11), 1, false),
-        (r#"T: a="max-age=1", max-age"#, Some(25), Some(25), 1, false),
+        ("T: max-age=1.5", Some(11), Some(11), 1, seconds),
+        (
+            r#"T: a="max-age=1", max-age"#,
+            Some(25),
+            Some(25),
+            1,
+            seconds,
+        ),
         (
             "T: a=(max-age)\nT: b;max-age=1, max-age=\"60\"",
             Some(24),
             Some(24),
             2,
-            false,
+            seconds,
         ),
-        ("T: max-age=5\nT: max-age=-5", Some(11), Some(11), 2, false),
-        ("T: max-age=-5\nT: max-age=5", none, none, 0, false),
-        ("T: s-maxage=?0, max-age=6", Some(12), none, 1, false),
-        ("T: max-age=a, no-cache", none, none, 0, false),
+        (
+            "T: max-age=5\nT: max-age=-5",
+            Some(11),
+            Some(11),
+            2,
+            seconds,
+        ),
+        ("T: max-age=-5\nT: max-age=5", none, none, 0, seconds),
+        ("T: s-maxage=?0, max-age=6", Some(12), none, 1, seconds),
+        ("T: max-age=a, no-cache", none, none, 0, seconds),
     ] {
         for (cache, place) in [(Cache::Shared, shared), (Cache::Private, private)] {
             let text = format!("{text}\n\n");
@@ -809,10 +847,10 @@ fn numbers_of_seconds() {
                 .map(|one| (one.number, one.offset, one.fault))
                 .collect();
             let expected = place.map(|offset| {
-                let fault = if is_other {
-                    Fault::OtherSeconds { offset }
-                } else {
+                let fault = if directive.is_empty() {
                     Fault::NotSeconds { offset }
+                } else {
+                    Fault::OtherSeconds { directive, offset }
                 };
                 (number, offset, fault)
             });
@@ -827,13 +865,16 @@ fn numbers_of_seconds() {
     }
     let words = [
         Fault::NotSeconds { offset: 0 },
-        Fault::OtherSeconds { offset: 0 },
+        Fault::OtherSeconds {
+            directive: "s-maxage",
+            offset: 0,
+        },
     ];
     assert_eq!(
         words.map(|fault| fault.to_string()),
         [
             "expected a number of seconds",
-            "the directive had another value before"
+            "s-maxage had another value before"
         ]
     );
 }
