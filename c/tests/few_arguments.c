@@ -2305,6 +2305,298 @@ static void numbers_of_seconds(void) {
     }
 }
 
+/* What is malformed in whole heads: "A server MUST reject .. any received request message that
+ * contains whitespace between a header field name and colon", and "A proxy MUST remove any such
+ * whitespace from a response message" (RFC 9112 section 5.1); "No whitespace is allowed in the
+ * request-target" (section 3.2). c/rust/sf/tests/head.rs has the same rows. */
+static void faults_of_whole_heads(void) {
+  enum { HEAD, REQUEST, RESPONSE, MOST = 3 };
+  static const struct {
+    int kind;
+    const char *head;
+    size_t lines; /* field lines */
+    int is_incomplete;
+    const char *messages[MOST];
+  } rows[] = {
+      {REQUEST, "GET /a b HTTP/1.1\r\nHost : x\r\nPriority: u=1\r\n\r\n", 1, 1,
+       {"line 1, place 6: neither a start line (white space in the target) nor a field line (no colon "
+        "after the name)\nGET /a b HTTP/1.1\n      ^",
+        "line 2, place 4: not a field line: white space after the name\nHost : x\n    ^"}},
+      {HEAD, "GET /a b HTTP/1.1\r\nHost : x\r\nPriority: u=1\r\n\r\n", 2, 1,
+       {"line 1, place 6: neither a start line (white space in the target) nor a field line (no colon "
+        "after the name)\nGET /a b HTTP/1.1\n      ^",
+        "line 2, place 4: white space before the colon\nHost : x\n    ^"}},
+      {RESPONSE, "GET /a b HTTP/1.1\r\nHost : x\r\nPriority: u=1\r\n\r\n", 2, 1,
+       {"line 1, place 6: neither a start line (white space in the target) nor a field line (no colon "
+        "after the name)\nGET /a b HTTP/1.1\n      ^",
+        "line 2, place 4: white space before the colon\nHost : x\n    ^"}},
+      {REQUEST, "\r\nGET /\nA : b\nC: d\n\n", 1, 1,
+       {"line 2, place 5: neither a start line (no method, target and version) nor a field line (no "
+        "colon after the name)\nGET /\n     ^",
+        "line 3, place 1: not a field line: white space after the name\nA : b\n ^"}},
+      {RESPONSE, "HTTP/1.1 2x0 OK\r\nAge \t: 1\r\n\r\n", 1, 1,
+       {"line 1, place 9: neither a start line (no status code of three digits) nor a field line (no "
+        "colon after the name)\nHTTP/1.1 2x0 OK\n         ^",
+        "line 2, place 3: white space before the colon\nAge ?: 1\n   ^"}},
+      {RESPONSE, "HTTP/1.1 200 OK\r\nAge\t : 1\r\nVia: a\r\n\r\n", 2, 0,
+       {"line 2, place 3: white space before the colon\nAge? : 1\n   ^"}},
+      {REQUEST, "HTTP/1.1 200 OK\r\nAge\t : 1\r\nVia: a\r\n\r\n", 1, 1,
+       {"line 1, place 0: the head of a request begins with a request line\nHTTP/1.1 200 OK\n^",
+        "line 2, place 3: not a field line: white space after the name\nAge? : 1\n   ^"}},
+      {RESPONSE, "GET / HTTP/1.1\nAge : 1\n\n", 0, 1,
+       {"line 1, place 0: the head of a response begins with a status line\nGET / HTTP/1.1\n^",
+        "line 2, place 3: not a field line: white space after the name\nAge : 1\n   ^"}},
+      {REQUEST, "Age : 1\n\n", 0, 1,
+       {"line 1, place 6: neither a start line (no method, target and version) nor a field line (white "
+        "space after the name)\nAge : 1\n      ^"}},
+      {REQUEST, "Age\t: 1\n\n", 0, 1,
+       {"line 1, place 3: neither a start line (no method, target and version) nor a field line (white "
+        "space after the name)\nAge?: 1\n   ^"}},
+      {RESPONSE, "Age : 1\n\n", 1, 1,
+       {"line 1, place 3: white space before the colon\nAge : 1\n   ^",
+        "line 1, place 0: the head of a response begins with a status line\nAge : 1\n^"}},
+      {HEAD, "Age : 1\n\n", 1, 0, {"line 1, place 3: white space before the colon\nAge : 1\n   ^"}},
+      {RESPONSE, "HTTP/2 200\n\n", 0, 0, {NULL}},
+      {REQUEST, "GET / HTTP/1.1\nHost: x", 1, 1,
+       {"line 2, place 7: the head is cut off: its last line has no line end\nHost: x\n       ^"}},
+      {REQUEST, "GET / HTTP/1.1\nHost", 0, 1,
+       {"line 2, place 4: not a field line: no colon after the name\nHost\n    ^",
+        "line 2, place 4: the head is cut off: its last line has no line end\nHost\n    ^"}},
+      {REQUEST, "GET / HTTP/1.1\nHost: x\r", 1, 1,
+       {"line 2, place 8: the head is cut off: its last line has no line end\nHost: x?\n        ^"}},
+      {REQUEST, "GET / HTTP/1.1", 0, 1,
+       {"line 1, place 14: the head is cut off: its last line has no line end\nGET / HTTP/1.1\n"
+        "              ^"}},
+      {RESPONSE, "HTTP/1.1 20", 0, 1,
+       {"line 1, place 9: neither a start line (no status code of three digits) nor a field line (no "
+        "colon after the name)\nHTTP/1.1 20\n         ^",
+        "line 1, place 11: the head is cut off: its last line has no line end\nHTTP/1.1 20\n"
+        "           ^"}},
+      {REQUEST, "GET / HTTP/1.1\r\n", 0, 1,
+       {"line 2, place 0: the head does not end with an empty line"}},
+      {HEAD, "Host: x\r\n\r", 1, 1,
+       {"line 2, place 1: the head is cut off: its last line has no line end\n?\n ^"}},
+      {RESPONSE, "", 0, 1,
+       {"line 1, place 0: the head of a response begins with a status line",
+        "line 1, place 0: the head does not end with an empty line"}},
+  };
+  for (size_t i = 0; i < sizeof rows / sizeof *rows; ++i) {
+    sf_text rest = sf_cstr(rows[i].head);
+    size_t size = sf_head_memory_size(rest), count = 0;
+    void *memory = malloc(size);
+    CHECK(memory != NULL);
+    sf_head head = sf_head_in_memory(memory, size, rest);
+    sf_status status = rows[i].kind == REQUEST    ? sf_take_request(&head, &rest)
+                       : rows[i].kind == RESPONSE ? sf_take_response(&head, &rest)
+                                                  : sf_take_head(&head, &rest);
+    CHECK(status == (head.is_truncated ? SF_REFUSED : SF_OK) && rest.length == 0);
+    CHECK(head.lines.length == rows[i].lines);
+    CHECK((head.is_incomplete || head.is_truncated) == rows[i].is_incomplete);
+    for (; count < MOST && rows[i].messages[count] != NULL; ++count)
+      CHECK(count < head.faults.length && says(&head.faults.at[count], 60, rows[i].messages[count]));
+    CHECK(head.faults.length == count && head.faults.required == count);
+    free(memory);
+  }
+}
+
+/* Each member of Cache-Status that names no cache is a fault: "Each List member identifies the cache
+ * that inserted it, and this identifier MUST be a String or Token" (RFC 9211 section 2).
+ * c/rust/sf/tests/head.rs has the same rows. */
+static void members_that_name_no_cache(void) {
+  enum { MOST = 5 };
+  static const struct {
+    const char *head;
+    const char *messages[MOST];
+  } rows[] = {
+      {"Cache-Status: 7, a, (b c), \"d, 1\"; x=\", 2\", ?1,*e\n\n",
+       {"line 1, place 14: Cache-Status: the member does not name a cache\n"
+        "Cache-Status: 7, a, (b c), \"d, 1\"; x=\", 2\", ?1,*e\n"
+        "              ^",
+        "line 1, place 20: Cache-Status: the member does not name a cache\n"
+        "Cache-Status: 7, a, (b c), \"d, 1\"; x=\", 2\", ?1,*e\n"
+        "                    ^",
+        "line 1, place 44: Cache-Status: the member does not name a cache\n"
+        "Cache-Status: 7, a, (b c), \"d, 1\"; x=\", 2\", ?1,*e\n"
+        "                                            ^"}},
+      {"Cache-Status: a; hit, 1.5\nAge: 1\ncache-status:\t:YQ==:, *b;hit\n\n",
+       {"line 1, place 22: Cache-Status: the member does not name a cache\n"
+        "Cache-Status: a; hit, 1.5\n"
+        "                      ^",
+        "line 3, place 14: Cache-Status: the member does not name a cache\n"
+        "cache-status:?:YQ==:, *b;hit\n"
+        "              ^"}},
+      /* a String that goes on in the next line */
+      {"Cache-Status: \"c\nCache-Status: 1\", 2\nCache-Status: -3\n\n",
+       {"line 2, place 18: Cache-Status: the member does not name a cache\n"
+        "Cache-Status: 1\", 2\n"
+        "                  ^",
+        "line 3, place 14: Cache-Status: the member does not name a cache\n"
+        "Cache-Status: -3\n"
+        "              ^"}},
+      /* between the faults of other lines */
+      {"HTTP/2 200\nCache-Status : 1, 2\nx\nCache-Status: 3\n\n",
+       {"line 2, place 12: white space before the colon\n"
+        "Cache-Status : 1, 2\n"
+        "            ^",
+        "line 2, place 15: Cache-Status: the member does not name a cache\n"
+        "Cache-Status : 1, 2\n"
+        "               ^",
+        "line 2, place 18: Cache-Status: the member does not name a cache\n"
+        "Cache-Status : 1, 2\n"
+        "                  ^",
+        "line 3, place 1: not a field line: no colon after the name\n"
+        "x\n"
+        " ^",
+        "line 4, place 14: Cache-Status: the member does not name a cache\n"
+        "Cache-Status: 3\n"
+        "              ^"}},
+      {"Cache-Status: a, \"b\", *c\n\n", {NULL}},
+      /* what is no List is refused once */
+      {"Cache-Status: 1, 2,\n\n",
+       {"line 1, place 19: Cache-Status: the text ended, expected a letter, a digit, a quote, "
+        "`(`, `*`, `-`, `:`, `?`, a tab or a space\n"
+        "Cache-Status: 1, 2,\n"
+        "                   ^"}},
+  };
+  sf_context context = sf_context_of(seed, SF_RFC8941);
+  for (size_t i = 0; i < sizeof rows / sizeof *rows; ++i) {
+    sf_text rest = sf_cstr(rows[i].head);
+    size_t size = sf_head_memory_size(rest), count = 0;
+    void *memory = malloc(size);
+    sf_hop hops[8];
+    char bytes[64];
+    sf_hop_list list = sf_hop_list_in(SF_HOPS(hops), SF_BUFFER(bytes));
+    CHECK(memory != NULL);
+    sf_head head = sf_head_in_memory(memory, size, rest);
+    CHECK(sf_take_head(&head, &rest) == SF_OK);
+    for (int twice = 0; twice < 2; ++twice) {
+      CHECK(sf_find_hops(&context, &head, &list) == SF_OK);
+      CHECK(list.hops.length == (rows[i].messages[0] == NULL ? 3 : 0) && head.joined.length == 0);
+    }
+    while (count < MOST && rows[i].messages[count] != NULL)
+      ++count;
+    CHECK(head.faults.length == count && head.faults.required == count);
+    for (size_t k = 0; k < count && k < head.faults.length; ++k)
+      CHECK(says(&head.faults.at[k], 60, rows[i].messages[k]));
+    free(memory);
+  }
+
+  /* a line that is added later, and buffers that are too small: those that were found first are kept */
+  for (size_t capacity = 0; capacity < 8; ++capacity) {
+    sf_head_line lines[3];
+    sf_fault faults[8];
+    char joined[32];
+    sf_hop_list list = sf_hop_list_in(sf_hops_of(NULL, 0), sf_buffer_of(NULL, 0));
+    sf_head head = sf_head_in(SF_HEAD_LINES(lines), SF_BUFFER(joined));
+    head.faults = sf_faults_of(faults, capacity);
+    head.is_begun = 1;
+    CHECK(sf_add_head_line(&head, sf_cstr("Cache-Status: 1, 2")) == SF_OK);
+    CHECK(sf_add_head_line(&head, sf_cstr("x")) == SF_REFUSED && head.faults.required == 1);
+    CHECK(sf_find_hops(&context, &head, &list) == SF_OK && head.faults.required == 3);
+    CHECK(sf_add_head_line(&head, sf_cstr("cache-status: a, 3, 4")) == SF_OK);
+    CHECK(sf_find_hops(&context, &head, &list) == SF_OK && list.nameless == 0);
+    size_t kept = capacity < 5 ? capacity : 5;
+    CHECK(head.faults.length == kept && (capacity < 5 || head.faults.required == 5));
+    static const struct {
+      uint64_t number, offset;
+    } places[] = {{1, 14}, {1, 17}, {2, 1}, {3, 17}, {3, 20}};
+    /* of a small buffer, the fault of line 2 takes the first place */
+    for (size_t k = 0; k < kept; ++k) {
+      size_t at = capacity == 1 ? 2 : capacity == 2 && k == 1 ? 2 : k;
+      CHECK(faults[k].location.number == places[at].number);
+      CHECK(faults[k].location.refusal.offset == places[at].offset);
+      CHECK(faults[k].location.index == (at < 2 ? 0 : 1));
+    }
+  }
+
+  /* very many members, each between the lines, and very many faults of other lines after them: this
+   * would take minutes if each moved all others */
+  enum { MANY = 100000 };
+  char *text = (char *)malloc(4 * MANY + 32);
+  CHECK(text != NULL);
+  size_t length = (size_t)sprintf(text, "Cache-Status:1");
+  for (size_t i = 1; i < MANY; ++i, length += 2)
+    memcpy(text + length, ",1", 2);
+  text[length++] = '\n';
+  for (size_t i = 0; i < MANY; ++i, length += 2)
+    memcpy(text + length, "x\n", 2);
+  text[length++] = '\n';
+  sf_text rest = sf_text_of(text, length);
+  size_t size = sf_head_memory_size(rest);
+  void *memory = malloc(size);
+  CHECK(memory != NULL && size <= 74 * length + 1024);
+  sf_head head = sf_head_in_memory(memory, size, rest);
+  sf_hop_list list = sf_hop_list_in(sf_hops_of(NULL, 0), sf_buffer_of(NULL, 0));
+  CHECK(sf_take_head(&head, &rest) == SF_OK && head.faults.length == MANY);
+  for (int twice = 0; twice < 2; ++twice)
+    CHECK(sf_find_hops(&context, &head, &list) == SF_OK && head.faults.length == 2 * MANY);
+  CHECK(head.faults.required == 2 * MANY && head.faults.at[MANY].location.number == 2);
+  CHECK(head.faults.at[MANY - 1].location.refusal.offset == 13 + 2 * (MANY - 1));
+  free(memory);
+  free(text);
+}
+
+/* Numbers with too many digits (RFC 9651 sections 3.3.1, 3.3.2 and 3.3.7), and what is like them.
+ * c/rust/sf/tests/head.rs has the same rows. */
+static void numbers_with_too_many_digits(void) {
+  static const struct {
+    const char *value;
+    int place, is_long;
+  } rows[] = {
+      {"1234567890123456", 15, 1},   {"-1234567890123456", 16, 1}, {"a;q=1234567890123456", 19, 1},
+      {"a, 1234567890123.5", 16, 1}, {"-1234567890123.5", 14, 1},  {"123456789012345.", 15, 1},
+      {"1.2345", 5, 1},              {"-123456789012.1234", 17, 1}, {"@1234567890123456", 16, 1},
+      {"@-1234567890123456", 17, 1}, {"@1234567890123.5", 14, 0},  {"@-1234567890123.5", 15, 0},
+      {"?11", 2, 0},                 {":1234567890123.:", 14, 0},  {"1.2.3", 3, 0},
+      {"1..2", 2, 0},                {"%\"%c31\"", 5, 0},          {"123456789012345a", 15, 0},
+      {"1.234.", 5, 0},
+  };
+  sf_context context = sf_context_of(seed, SF_RFC9651);
+  for (size_t i = 0; i < sizeof rows / sizeof *rows; ++i)
+    for (int k = 0; k < 2; ++k) {
+      char line[64], expected[64], message[SF_FAULT_SIZE(1, 0)];
+      sf_head_line lines[1];
+      sf_fault faults[1];
+      sf_buffer out = SF_BUFFER(message);
+      sf_head head = sf_head_in(SF_HEAD_LINES(lines), sf_buffer_of(NULL, 0));
+      head.faults = SF_FAULTS(faults);
+      snprintf(line, sizeof line, "A:%s", rows[i].value);
+      CHECK((k == 0 ? sf_add_head_line(&head, sf_cstr(line))
+                    : sf_add_field_line(&head, sf_cstr("A"), sf_cstr(rows[i].value))) == SF_OK);
+      CHECK(sf_check_field(&context, SF_LIST, &head, "A") == SF_REFUSED);
+      CHECK(sf_show_fault(&faults[0], 0, &out) == SF_OK);
+      snprintf(expected, sizeof expected, "line 1, place %d: A: %sbyte 0x",
+               rows[i].place + (k == 0 ? 2 : 0), rows[i].is_long ? "too many digits: " : "");
+      CHECK(out.length > strlen(expected) && memcmp(message, expected, strlen(expected)) == 0);
+    }
+}
+
+/* Lines to which the program gives one number are several lines all the same. */
+static void lines_of_one_number(void) {
+  sf_context context = sf_context_of(seed, SF_RFC8941);
+  sf_head_line lines[3];
+  sf_fault faults[6];
+  char joined[16];
+  sf_head head = sf_head_in(SF_HEAD_LINES(lines), SF_BUFFER(joined));
+  head.faults = SF_FAULTS(faults);
+  static const char *const received[] = {"A: (1)", "A: )", "B: x y", "?", "?"};
+  for (size_t i = 0; i < 5; ++i) {
+    head.number = 7;
+    CHECK(sf_add_head_line(&head, sf_cstr(received[i])) == (i < 3 ? SF_OK : SF_REFUSED));
+  }
+  CHECK(head.faults.length == 2 && faults[1].location.number == 7);
+  for (int twice = 0; twice < 2; ++twice) {
+    CHECK(sf_check_field(&context, SF_LIST, &head, "A") == SF_REFUSED);
+    CHECK(sf_check_field(&context, SF_DICT, &head, "A") == SF_REFUSED);
+  }
+  CHECK(head.faults.length == 4 && faults[2].location.index == 1 && faults[3].location.index == 0);
+  CHECK(faults[2].location.refusal.offset == 3 && faults[3].location.refusal.offset == 3);
+  sf_location location = sf_locate_offset(&head, "B", 2);
+  CHECK(location.index == 2 && is(location.line, "B: x y") && location.refusal.offset == 5);
+  location = sf_locate_offset(&head, "A", 5);
+  CHECK(location.index == 1 && is(location.line, "A: )") && location.refusal.offset == 3);
+}
+
 /* What a decision finds malformed, and where (RFC 9111 sections 4.2.1, 5.1 and 5.2; RFC 9110 sections
  * 5.6.1 to 5.6.4 and 5.6.7; RFC 9213 section 2.1). */
 static void faults_of_decisions(void) {
@@ -3067,6 +3359,10 @@ int main(void) {
   lines_without_a_colon();
   parts_of_dates();
   numbers_of_seconds();
+  faults_of_whole_heads();
+  members_that_name_no_cache();
+  numbers_with_too_many_digits();
+  lines_of_one_number();
   faults_of_decisions();
   responses();
   lifetimes();

@@ -1001,6 +1001,446 @@ fn very_many_faults() {
     assert_eq!(head.malformed().len(), 400_000);
 }
 
+/// What is malformed in whole heads: "A server MUST reject .. any received request message that
+/// contains whitespace between a header field name and colon", and "A proxy MUST remove any such
+/// whitespace from a response message" (RFC 9112 section 5.1); "No whitespace is allowed in the
+/// request-target" (section 3.2). `c/tests/few_arguments.c` has the same rows.
+#[test]
+fn faults_of_whole_heads() {
+    type Row<'a> = (&'a str, &'a str, usize, bool, &'a [&'a str]);
+    let rows: &[Row<'_>] = &[
+        (
+            "request",
+            "GET /a b HTTP/1.1\r\nHost : x\r\nPriority: u=1\r\n\r\n",
+            1,
+            true,
+            &[
+                "line 1, place 6: neither a start line (white space in the target) \
+                 nor a field line (no colon after the name)\n\
+                 GET /a b HTTP/1.1\n\
+                 \x20     ^",
+                "line 2, place 4: not a field line: white space after the name\n\
+                 Host : x\n\
+                 \x20   ^",
+            ],
+        ),
+        (
+            "head",
+            "GET /a b HTTP/1.1\r\nHost : x\r\nPriority: u=1\r\n\r\n",
+            2,
+            true,
+            &[
+                "line 1, place 6: neither a start line (white space in the target) \
+                 nor a field line (no colon after the name)\n\
+                 GET /a b HTTP/1.1\n\
+                 \x20     ^",
+                "line 2, place 4: white space before the colon\n\
+                 Host : x\n\
+                 \x20   ^",
+            ],
+        ),
+        (
+            "response",
+            "GET /a b HTTP/1.1\r\nHost : x\r\nPriority: u=1\r\n\r\n",
+            2,
+            true,
+            &[
+                "line 1, place 6: neither a start line (white space in the target) \
+                 nor a field line (no colon after the name)\n\
+                 GET /a b HTTP/1.1\n\
+                 \x20     ^",
+                "line 2, place 4: white space before the colon\n\
+                 Host : x\n\
+                 \x20   ^",
+            ],
+        ),
+        (
+            "request",
+            "\r\nGET /\nA : b\nC: d\n\n",
+            1,
+            true,
+            &[
+                "line 2, place 5: neither a start line (no method, target and version) \
+                 nor a field line (no colon after the name)\n\
+                 GET /\n\
+                 \x20    ^",
+                "line 3, place 1: not a field line: white space after the name\n\
+                 A : b\n\
+                 \x20^",
+            ],
+        ),
+        (
+            "response",
+            "HTTP/1.1 2x0 OK\r\nAge \t: 1\r\n\r\n",
+            1,
+            true,
+            &[
+                "line 1, place 9: neither a start line (no status code of three digits) \
+                 nor a field line (no colon after the name)\n\
+                 HTTP/1.1 2x0 OK\n\
+                 \x20        ^",
+                "line 2, place 3: white space before the colon\n\
+                 Age ?: 1\n\
+                 \x20  ^",
+            ],
+        ),
+        (
+            "response",
+            "HTTP/1.1 200 OK\r\nAge\t : 1\r\nVia: a\r\n\r\n",
+            2,
+            false,
+            &["line 2, place 3: white space before the colon\n\
+                 Age? : 1\n\
+                 \x20  ^"],
+        ),
+        (
+            "request",
+            "HTTP/1.1 200 OK\r\nAge\t : 1\r\nVia: a\r\n\r\n",
+            1,
+            true,
+            &[
+                "line 1, place 0: the head of a request begins with a request line\n\
+                 HTTP/1.1 200 OK\n\
+                 ^",
+                "line 2, place 3: not a field line: white space after the name\n\
+                 Age? : 1\n\
+                 \x20  ^",
+            ],
+        ),
+        (
+            "response",
+            "GET / HTTP/1.1\nAge : 1\n\n",
+            0,
+            true,
+            &[
+                "line 1, place 0: the head of a response begins with a status line\n\
+                 GET / HTTP/1.1\n\
+                 ^",
+                "line 2, place 3: not a field line: white space after the name\n\
+                 Age : 1\n\
+                 \x20  ^",
+            ],
+        ),
+        (
+            "request",
+            "Age : 1\n\n",
+            0,
+            true,
+            &[
+                "line 1, place 6: neither a start line (no method, target and version) \
+                 nor a field line (white space after the name)\n\
+                 Age : 1\n\
+                 \x20     ^",
+            ],
+        ),
+        (
+            "request",
+            "Age\t: 1\n\n",
+            0,
+            true,
+            &[
+                "line 1, place 3: neither a start line (no method, target and version) \
+                 nor a field line (white space after the name)\n\
+                 Age?: 1\n\
+                 \x20  ^",
+            ],
+        ),
+        (
+            "response",
+            "Age : 1\n\n",
+            1,
+            true,
+            &[
+                "line 1, place 3: white space before the colon\n\
+                 Age : 1\n\
+                 \x20  ^",
+                "line 1, place 0: the head of a response begins with a status line\n\
+                 Age : 1\n\
+                 ^",
+            ],
+        ),
+        (
+            "head",
+            "Age : 1\n\n",
+            1,
+            false,
+            &["line 1, place 3: white space before the colon\n\
+                 Age : 1\n\
+                 \x20  ^"],
+        ),
+        ("response", "HTTP/2 200\n\n", 0, false, &[]),
+        (
+            "request",
+            "GET / HTTP/1.1\nHost: x",
+            1,
+            true,
+            &[
+                "line 2, place 7: the head is cut off: its last line has no line end\n\
+                 Host: x\n\
+                 \x20      ^",
+            ],
+        ),
+        (
+            "request",
+            "GET / HTTP/1.1\nHost",
+            0,
+            true,
+            &[
+                "line 2, place 4: not a field line: no colon after the name\n\
+                 Host\n\
+                 \x20   ^",
+                "line 2, place 4: the head is cut off: its last line has no line end\n\
+                 Host\n\
+                 \x20   ^",
+            ],
+        ),
+        (
+            "request",
+            "GET / HTTP/1.1\nHost: x\r",
+            1,
+            true,
+            &[
+                "line 2, place 8: the head is cut off: its last line has no line end\n\
+                 Host: x?\n\
+                 \x20       ^",
+            ],
+        ),
+        (
+            "request",
+            "GET / HTTP/1.1",
+            0,
+            true,
+            &[
+                "line 1, place 14: the head is cut off: its last line has no line end\n\
+                 GET / HTTP/1.1\n\
+                 \x20             ^",
+            ],
+        ),
+        (
+            "response",
+            "HTTP/1.1 20",
+            0,
+            true,
+            &[
+                "line 1, place 9: neither a start line (no status code of three digits) \
+                 nor a field line (no colon after the name)\n\
+                 HTTP/1.1 20\n\
+                 \x20        ^",
+                "line 1, place 11: the head is cut off: its last line has no line end\n\
+                 HTTP/1.1 20\n\
+                 \x20          ^",
+            ],
+        ),
+        (
+            "request",
+            "GET / HTTP/1.1\r\n",
+            0,
+            true,
+            &["line 2, place 0: the head does not end with an empty line"],
+        ),
+        (
+            "head",
+            "Host: x\r\n\r",
+            1,
+            true,
+            &[
+                "line 2, place 1: the head is cut off: its last line has no line end\n\
+                 ?\n\
+                 \x20^",
+            ],
+        ),
+        (
+            "response",
+            "",
+            0,
+            true,
+            &[
+                "line 1, place 0: the head of a response begins with a status line",
+                "line 1, place 0: the head does not end with an empty line",
+            ],
+        ),
+    ];
+    for (kind, text, lines, is_incomplete, expected) in rows {
+        let head = match *kind {
+            "request" => Head::parse_request(parser(), text).unwrap(),
+            "response" => Head::parse_response(parser(), text).unwrap(),
+            _ => Head::parse(parser(), text).unwrap(),
+        };
+        assert_eq!(messages(&head, 60), *expected, "{kind} {text:?}");
+        assert_eq!(head.lines().len(), *lines, "{kind} {text:?}");
+        assert_eq!(head.is_incomplete(), *is_incomplete, "{kind} {text:?}");
+    }
+}
+
+/// Each member of Cache-Status that names no cache is a fault: "Each List member identifies the cache
+/// that inserted it, and this identifier MUST be a String or Token" (RFC 9211 section 2).
+/// `c/tests/few_arguments.c` has the same rows.
+#[test]
+fn members_that_name_no_cache() {
+    let rows: &[(&str, &[&str])] = &[
+        (
+            "Cache-Status: 7, a, (b c), \"d, 1\"; x=\", 2\", ?1,*e\n\n",
+            &[
+                "line 1, place 14: Cache-Status: the member does not name a cache\n\
+                 Cache-Status: 7, a, (b c), \"d, 1\"; x=\", 2\", ?1,*e\n\
+                 \x20             ^",
+                "line 1, place 20: Cache-Status: the member does not name a cache\n\
+                 Cache-Status: 7, a, (b c), \"d, 1\"; x=\", 2\", ?1,*e\n\
+                 \x20                   ^",
+                "line 1, place 44: Cache-Status: the member does not name a cache\n\
+                 Cache-Status: 7, a, (b c), \"d, 1\"; x=\", 2\", ?1,*e\n\
+                 \x20                                           ^",
+            ],
+        ),
+        (
+            "Cache-Status: a; hit, 1.5\nAge: 1\ncache-status:\t:YQ==:, *b;hit\n\n",
+            &[
+                "line 1, place 22: Cache-Status: the member does not name a cache\n\
+                 Cache-Status: a; hit, 1.5\n\
+                 \x20                     ^",
+                "line 3, place 14: Cache-Status: the member does not name a cache\n\
+                 cache-status:?:YQ==:, *b;hit\n\
+                 \x20             ^",
+            ],
+        ),
+        (
+            "Cache-Status: \"c\nCache-Status: 1\", 2\nCache-Status: -3\n\n",
+            &[
+                "line 2, place 18: Cache-Status: the member does not name a cache\n\
+                 Cache-Status: 1\", 2\n\
+                 \x20                 ^",
+                "line 3, place 14: Cache-Status: the member does not name a cache\n\
+                 Cache-Status: -3\n\
+                 \x20             ^",
+            ],
+        ),
+        (
+            "HTTP/2 200\nCache-Status : 1, 2\nx\nCache-Status: 3\n\n",
+            &[
+                "line 2, place 12: white space before the colon\n\
+                 Cache-Status : 1, 2\n\
+                 \x20           ^",
+                "line 2, place 15: Cache-Status: the member does not name a cache\n\
+                 Cache-Status : 1, 2\n\
+                 \x20              ^",
+                "line 2, place 18: Cache-Status: the member does not name a cache\n\
+                 Cache-Status : 1, 2\n\
+                 \x20                 ^",
+                "line 3, place 1: not a field line: no colon after the name\n\
+                 x\n\
+                 \x20^",
+                "line 4, place 14: Cache-Status: the member does not name a cache\n\
+                 Cache-Status: 3\n\
+                 \x20             ^",
+            ],
+        ),
+        ("Cache-Status: a, \"b\", *c\n\n", &[]),
+        (
+            "Cache-Status: 1, 2,\n\n",
+            &[
+                "line 1, place 19: Cache-Status: the text ended, expected a letter, \
+                 a digit, a quote, `(`, `*`, `-`, `:`, `?`, a tab or a space\n\
+                 Cache-Status: 1, 2,\n\
+                 \x20                  ^",
+            ],
+        ),
+    ];
+    for (text, expected) in rows {
+        let mut head = Head::parse(parser(), text).unwrap();
+        for _ in 0..2 {
+            let hops = if expected.is_empty() { 3 } else { 0 };
+            assert_eq!(head.path().unwrap().hops().len(), hops);
+            assert_eq!(messages(&head, 60), *expected, "{text:?}");
+        }
+    }
+    // A line that is added later.
+    let mut head = Head::new(parser());
+    head.add_line("Cache-Status: 1, 2").unwrap();
+    head.add_line("x").unwrap();
+    head.path().unwrap();
+    head.add_line("cache-status: a, 3, 4").unwrap();
+    head.path().unwrap();
+    let places = head.malformed().iter().map(|one| (one.number, one.offset));
+    assert!(places.eq([(1, 14), (1, 17), (2, 1), (3, 17), (3, 20)]));
+    let is_refused = |one: &HeadFault<'_>| matches!(one.fault, Fault::NotALine(_));
+    assert!(is_refused(&head.malformed()[2]) && head.malformed()[4].fault == Fault::NotACache);
+    // Very many members, and very many faults of other lines after them: this would take minutes
+    // if each moved all others.
+    const MANY: usize = 100_000;
+    let text =
+        "Cache-Status:1".to_string() + &",1".repeat(MANY - 1) + "\n" + &"x\n".repeat(MANY) + "\n";
+    let mut head = Head::parse(parser(), &text).unwrap();
+    for _ in 0..2 {
+        head.path().unwrap();
+        assert_eq!(head.malformed().len(), 2 * MANY);
+    }
+    assert_eq!(head.malformed()[MANY].number, 2);
+    assert_eq!(head.malformed()[MANY - 1].offset, 13 + 2 * (MANY - 1));
+}
+
+/// Numbers with too many digits (RFC 9651 sections 3.3.1, 3.3.2 and 3.3.7), and what is like them.
+/// `c/tests/few_arguments.c` has the same rows.
+#[test]
+fn numbers_with_too_many_digits() {
+    for (value, place, is_long) in [
+        ("1234567890123456", 15, true),
+        ("-1234567890123456", 16, true),
+        ("a;q=1234567890123456", 19, true),
+        ("a, 1234567890123.5", 16, true),
+        ("-1234567890123.5", 14, true),
+        ("123456789012345.", 15, true),
+        ("1.2345", 5, true),
+        ("-123456789012.1234", 17, true),
+        ("@1234567890123456", 16, true),
+        ("@-1234567890123456", 17, true),
+        ("@1234567890123.5", 14, false),
+        ("@-1234567890123.5", 15, false),
+        ("?11", 2, false),
+        (":1234567890123.:", 14, false),
+        ("1.2.3", 3, false),
+        ("1..2", 2, false),
+        ("%\"%c31\"", 5, false),
+        ("123456789012345a", 15, false),
+        ("1.234.", 5, false),
+    ] {
+        let line = format!("A:{value}");
+        let mut received = Head::new(Parser::new());
+        received.add_line(&line).unwrap();
+        let mut other = Head::new(Parser::new());
+        other.add_field("A", value).unwrap();
+        for (mut head, place) in [(received, place + 2), (other, place)] {
+            assert_eq!(head.field::<List>("A").unwrap(), None);
+            let words = if is_long { "too many digits: " } else { "" };
+            let shown = head.malformed()[0].to_string();
+            let expected = format!("line 1, place {place}: A: {words}byte 0x");
+            assert!(shown.starts_with(&expected), "{shown}");
+        }
+    }
+}
+
+/// Lines to which the program gives one number are several lines all the same.
+#[test]
+fn lines_of_one_number() {
+    let mut head = Head::new(parser());
+    for line in ["A: (1)", "A: )", "B: x y", "?", "?"] {
+        head.set_number(7);
+        head.add_line(line).unwrap();
+    }
+    assert_eq!(head.malformed().len(), 2);
+    for _ in 0..2 {
+        assert_eq!(head.field::<List>("A").unwrap(), None);
+        assert_eq!(head.field::<Dictionary>("A").unwrap(), None);
+    }
+    assert_eq!(head.malformed().len(), 4);
+    let found = |at: usize| (head.malformed()[at].line, head.malformed()[at].offset);
+    assert_eq!(found(2), (&b"A: )"[..], 3));
+    assert_eq!(found(3), (&b"A: (1)"[..], 3));
+    assert_eq!(head.locate("B", 2).unwrap(), Some((head.lines()[2], 5)));
+    assert_eq!(head.locate("A", 5).unwrap(), Some((head.lines()[1], 3)));
+    head.add_fault("B", 2, "not so").unwrap();
+    assert_eq!(head.malformed()[4].line, b"B: x y");
+}
+
 /// Faults that a program finds.
 #[test]
 fn faults_of_programs() {
