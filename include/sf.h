@@ -1265,8 +1265,8 @@ typedef enum sf_reason {
                                line: see sf_take_head */
   SF_FAULT_NOT_A_START = 97, /* the first line is neither a start line nor a field line; the
                                 message of sf_show_fault says why it is neither */
-  SF_FAULT_NOT_A_CACHE = 98, /* a member of Cache-Status does not name a cache; several are several
-                                faults. location.refusal is as that of sf_read_hops */
+  SF_FAULT_NOT_A_CACHE = 98, /* a member of Cache-Status does not name a cache: location.refusal is
+                                as that of sf_read_hops. Each such member is a fault */
   SF_FAULT_NO_REQUEST_LINE = 101, /* there is no request line, but one was expected: see
                                      sf_take_request */
   SF_FAULT_NO_STATUS_LINE = 102,  /* the same for a status line: see sf_take_response */
@@ -1294,10 +1294,11 @@ typedef struct sf_fault {
                            method and a space, where it can't go on as a request line, such as at a
                            space in the target; otherwise where it can't go on as a field line. For
                            a missing start line, it is the beginning of the first line that is not
-                           empty. For SF_FAULT_NO_END, it is the end of the text: of the last line,
-                           with its CR, if that has no line end; otherwise, and if there is no line,
-                           the line is empty, and its number that of the line to be added next. For
-                           all of these, the refusal says only where, not why */
+                           empty. For SF_FAULT_NO_END, it is the end of the text: if the last line
+                           has no line end, the end of that line, with its CR. Otherwise, and for a
+                           missing start line if there is no line, the line is empty, and its number
+                           that of the line to be added next. For all of these, the refusal says
+                           only where, not why */
   const char *message;  /* of SF_FAULT_OWN, that of sf_add_fault; otherwise what sf_show_fault says
                            of the part that is expected, or of the directive, or NULL */
 } sf_fault;
@@ -1394,9 +1395,9 @@ static inline sf_text sf_take_line(sf_text *rest);
  *
  *   SF_OK       the line is added; or it is the first one, and a status line or a request line
  *               (sections 3 and 4), which sets head->start, and head->status, or head->is_request
- *               and head->method. In the target of a request no white space may be (section 3.2).
- *               HTTP/2 200, which curl prints for HTTP/2, is a status line: a version may be one
- *               digit, and the space after the status code may be missing
+ *               and head->method. A request line with white space in its target is none (section
+ *               3.2). HTTP/2 200, which curl prints for HTTP/2, is a status line: a version may be
+ *               one digit, and the space after the status code may be missing
  *   SF_EMPTY    it is empty: the head ends, unless it has not begun
  *   SF_REFUSED  it is no field line nor, as the first one, a start line: it has no colon, or before
  *               it no name (RFC 9110 section 5.1); it has a CR, LF or NUL within (section 5.5, and
@@ -1423,7 +1424,7 @@ static inline sf_status sf_add_head_line(sf_head *head, sf_text line);
  *   SF_OK       the head has ended: *rest is what comes after it
  *   SF_REFUSED  the text ended before the head did. Lines may be missing: head->is_truncated is 1,
  *               and head->faults has SF_FAULT_NO_END, with the place at which the text ends. A last
- *               line without a line end is added. No context->refusal is written
+ *               line without a line end is added, too. No context->refusal is written
  *   SF_SHORT    head->lines.required lines are required; *rest begins with the line that is too
  *               many
  */

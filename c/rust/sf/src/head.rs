@@ -111,7 +111,7 @@ impl<'a> Head<'a> {
     /// before the first other one are skipped (RFC 9112 section 2.2). If there is no empty line at
     /// the end, lines may be missing: the head is incomplete, and [`Head::malformed`] has
     /// [`Fault::NoEnd`], with the place at which the text ends. A last line without a line end is
-    /// added. A missing start line is no fault here, but [`Head::parse_request`] and
+    /// added, too. A missing start line is no fault here, but [`Head::parse_request`] and
     /// [`Head::parse_response`] require one.
     ///
     /// # Errors
