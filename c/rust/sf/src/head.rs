@@ -745,7 +745,10 @@ impl<'a> Head<'a> {
                 begin += before.value.len() + 2;
                 line = lines.next();
             }
-            let Some((index, line)) = line else { break };
+            let (index, line) = match line {
+                Some(of_field) => of_field,
+                None => break,
+            };
             let offset = line.value_at + (at - begin);
             push(
                 &mut found,
