@@ -1261,19 +1261,22 @@ typedef enum sf_reason {
                                5.1) */
   SF_FAULT_NOT_A_LINE = 95, /* the line is no field line: location.refusal says where and why; see
                                sf_add_head_line */
-  SF_FAULT_NO_END = 96,     /* the head does not end with an empty line: see sf_take_head */
+  SF_FAULT_NO_END = 96,     /* the head does not end with an empty line, or is cut off in a
+                               line: see sf_take_head */
   SF_FAULT_NOT_A_START = 97, /* the first line is neither a start line nor a field line; the
                                 message of sf_show_fault says why it is neither */
   SF_FAULT_NOT_A_CACHE = 98, /* a member of Cache-Status does not name a cache: location.refusal is
-                                that of sf_read_hops */
+                                as that of sf_read_hops. Each such member is a fault */
   SF_FAULT_NO_REQUEST_LINE = 101, /* there is no request line, but one was expected: see
                                      sf_take_request */
   SF_FAULT_NO_STATUS_LINE = 102,  /* the same for a status line: see sf_take_response */
   SF_FAULT_OWN = 104,             /* the program found it: see sf_add_fault */
   SF_FAULT_NOT_SECONDS = 105,     /* max-age, or s-maxage in a shared cache, is no number of
                                      seconds: the response is stale (RFC 9111 section 4.2.1) */
-  SF_FAULT_OTHER_SECONDS = 106    /* the same, since Cache-Control has it with two numbers: this is
+  SF_FAULT_OTHER_SECONDS = 106,   /* the same, since Cache-Control has it with two numbers: this is
                                      the second */
+  SF_FAULT_SPACE_BEFORE_COLON = 107 /* the line of a response has white space before its colon: see
+                                       sf_add_head_line */
 } sf_reason;
 
 /* A line or a field of a head that is malformed. */
@@ -1287,17 +1290,22 @@ typedef struct sf_fault {
                            directive; for Age, the first byte of the first member that is no digit
                            or, if the member is empty, its end. For SF_FAULT_NOT_A_START, it is that
                            of the first CR, LF or NUL; otherwise, if the line begins with HTTP/,
-                           where it can't go on as a status line; otherwise where it can't go on as
-                           a field line. For a missing start line, it is the beginning of the first
-                           line that is not empty. For SF_FAULT_NO_END, and if there is no such
-                           line, the line is empty, and its number that of the line to be added
-                           next. For all of these, the refusal says only where, not why */
+                           where it can't go on as a status line; otherwise, if it begins with a
+                           method and a space, where it can't go on as a request line, such as at a
+                           space in the target; otherwise where it can't go on as a field line. For
+                           a missing start line, it is the beginning of the first line that is not
+                           empty. For SF_FAULT_NO_END, it is the end of the text: if the last line
+                           has no line end, the end of that line, with its CR. Otherwise, and for a
+                           missing start line if there is no line, the line is empty, and its number
+                           that of the line to be added next. For all of these, the refusal says
+                           only where, not why */
   const char *message;  /* of SF_FAULT_OWN, that of sf_add_fault; otherwise what sf_show_fault says
-                           of the part that is expected, or NULL */
+                           of the part that is expected, or of the directive, or NULL */
 } sf_fault;
 
-/* A buffer for faults. A head has at most one for each line that is no field line, two for each of
- * Expires and Date, one for each other name that is looked up (two if a response is decided for
+/* A buffer for faults. A head has at most one for each line that is no field line or has white
+ * space before its colon, two for each of Expires and Date, one for each member of Cache-Status
+ * that names no cache, one for each other name that is looked up (two if a response is decided for
  * both kinds of cache), one for a missing start line, one for a missing end, and those of
  * sf_add_fault. */
 typedef struct sf_faults {
@@ -1387,19 +1395,22 @@ static inline sf_text sf_take_line(sf_text *rest);
  *
  *   SF_OK       the line is added; or it is the first one, and a status line or a request line
  *               (sections 3 and 4), which sets head->start, and head->status, or head->is_request
- *               and head->method
+ *               and head->method. A request line with white space in its target is none (section
+ *               3.2). HTTP/2 200, which curl prints for HTTP/2, is a status line: a version may be
+ *               one digit, and the space after the status code may be missing
  *   SF_EMPTY    it is empty: the head ends, unless it has not begun
  *   SF_REFUSED  it is no field line nor, as the first one, a start line: it has no colon, or before
  *               it no name (RFC 9110 section 5.1); it has a CR, LF or NUL within (section 5.5, and
  *               RFC 9112 section 2.2); it begins with white space, as one does that continues the
  *               line before (RFC 9112 section 5.2); or, in a request, there is white space before
- *               the colon (section 5.1). In a response that is skipped, and no fault; a proxy must
- *               remove it. A cache that skips a refused line may miss a directive:
+ *               the colon. A cache that skips a refused line may miss a directive:
  *               head->is_incomplete is 1, and head->faults has the line, and where and why. No
  *               context->refusal is written
  *   SF_SHORT    head->lines.required lines are required
  *
- * Unless SF_SHORT is returned, the line counts: head->number is one greater.
+ * Unless SF_SHORT is returned, the line counts: head->number is one greater. In a head that is not
+ * that of a request, white space before the colon is skipped, and the line is added: it is a fault,
+ * SF_FAULT_SPACE_BEFORE_COLON, since a proxy must remove it (section 5.1).
  */
 SF_USE_RESULT
 static inline sf_status sf_add_head_line(sf_head *head, sf_text line);
@@ -1412,7 +1423,8 @@ static inline sf_status sf_add_head_line(sf_head *head, sf_text line);
  *
  *   SF_OK       the head has ended: *rest is what comes after it
  *   SF_REFUSED  the text ended before the head did. Lines may be missing: head->is_truncated is 1,
- *               and head->faults tells. No context->refusal is written
+ *               and head->faults has SF_FAULT_NO_END, with the place at which the text ends. A last
+ *               line without a line end is added, too. No context->refusal is written
  *   SF_SHORT    head->lines.required lines are required; *rest begins with the line that is too
  *               many
  */
@@ -1423,7 +1435,8 @@ static inline sf_status sf_take_head(sf_head *head, sf_text *rest);
  * Take the head of a request and of a response, likewise. Its first line that is not empty has to
  * be a request line or a status line, respectively (RFC 9112 section 2.1). If it is a start line of
  * the other kind or a field line, or if there is no line, that is a fault, and head->is_incomplete
- * is 1. The results are those of sf_take_head, so SF_OK also for such a head.
+ * is 1; likewise if it is neither. The lines after it are read all the same, in sf_take_request as
+ * those of a request. The results are those of sf_take_head, so SF_OK also for such a head.
  *
  *   sf_head_line head_lines[8];
  *   sf_fault faults[4];
@@ -1558,8 +1571,9 @@ static inline sf_status sf_find_merged_priority(sf_context *context, sf_head *re
                                                sf_head *response, sf_priority_flags *merged);
 
 /*
- * Reads the Cache-Status field of a response, as sf_read_hops does. A member that names no cache is
- * a fault, too, SF_FAULT_NOT_A_CACHE. For sf_hop_list_in_memory, the length of the head is enough.
+ * Reads the Cache-Status field of a response, as sf_read_hops does. Each member that names no cache
+ * is a fault, too, SF_FAULT_NOT_A_CACHE. For sf_hop_list_in_memory, the length of the head is
+ * enough.
  *
  *   SF_OK     the list is the path, without hops if the field is absent or malformed
  *   SF_SHORT  head->joined.required bytes are required for the lines, or, if that is 0, the list
@@ -1671,10 +1685,10 @@ static inline void sf_add_fault(sf_head *head, const char *name, uint64_t offset
 /*
  * Writes the error message of a fault: the number of the line and the place in it, from 0; the name
  * of the field, if it is about one; what is wrong; and, as sf_show_excerpt does, at most so many
- * bytes of the line around the place. If there is no line to show, such as for SF_FAULT_NO_END, the
- * message is one line. Bytes of the line that can't be printed are question marks. A buffer of
- * SF_FAULT_SIZE(strlen(fault->field), most) bytes is always large enough. The results are those of
- * sf_write_refusal.
+ * bytes of the line around the place. If there is no line to show, as for SF_FAULT_NO_END after a
+ * whole line, the message is one line. Bytes of the line that can't be printed are question marks.
+ * A buffer of SF_FAULT_SIZE(strlen(fault->field), most) bytes is always large enough. The results
+ * are those of sf_write_refusal.
  */
 SF_USE_RESULT
 static inline sf_status sf_show_fault(const sf_fault *fault, size_t most, sf_buffer *out);

@@ -623,6 +623,12 @@ static inline size_t sf_after_member(sf_text text, size_t at, size_t item, sf_te
   return sf_after_params(text, at, item == 0 ? key : none, place);
 }
 
+/* Returns the place of the member after the one that ends at a place: for the functions below. */
+static inline size_t sf_after_comma(sf_text text, size_t at) {
+  at = sf_after_space(text, at);
+  return sf_after_space(text, at + (at < text.length));
+}
+
 /* Returns the place in a well-formed text of a member, by its key in a Dictionary, otherwise by its
  * index; or of its part: see sf_after_member. If a key is repeated, the last one counts. */
 static inline size_t sf_place_of(sf_text text, int is_dict, sf_text key, size_t index, size_t item,
@@ -640,8 +646,7 @@ static inline size_t sf_place_of(sf_text text, int is_dict, sf_text key, size_t 
     else
       at = sf_after_member(text, end + (size_t)is_dict, is_it ? item : 0, is_it ? param : none,
                            is_it ? &place : &ignored);
-    at = sf_after_space(text, at);
-    at = sf_after_space(text, at + (at < text.length));
+    at = sf_after_comma(text, at);
     ++count;
   }
   return place;
@@ -1227,18 +1232,33 @@ static inline sf_hop_list sf_hop_list_in_memory(void *memory, size_t size, size_
   return sf_hop_list_in(hops, bytes);
 }
 
-/* Returns the refusal of a member of a well-formed List that is no Item of a String or a Token: for
- * the function below. */
-static inline sf_refusal sf_refusal_of_nameless(sf_text list, size_t index) {
-  const uint64_t letters = UINT64_C(0x07fffffe07fffffe); /* the bytes from 64 on */
+/* Returns the place of the member of a List after the one at a place: for the functions below. */
+static inline size_t sf_next_member(sf_text list, size_t at) {
   const sf_text none = {"", 0};
-  size_t i = sf_place_of(list, 0, none, index, 0, none);
+  size_t ignored;
+  return sf_after_comma(list, sf_after_member(list, at, 0, none, &ignored));
+}
+
+/* Returns the place of the first member of a well-formed List, from the one at a place on, that is
+ * no Item of a String or a Token; the length of the text if there is none. For the functions below.
+ */
+static inline size_t sf_nameless_from(sf_text list, size_t at) {
+  while (at < list.length &&
+         (list.at[at] == '"' || list.at[at] == '*' || (list.at[at] >= 'a' && list.at[at] <= 'z') ||
+          (list.at[at] >= 'A' && list.at[at] <= 'Z')))
+    at = sf_next_member(list, at);
+  return at;
+}
+
+/* Returns the refusal of such a member at a place: for the functions below. */
+static inline sf_refusal sf_refusal_of_nameless(sf_text list, size_t at) {
+  const uint64_t letters = UINT64_C(0x07fffffe07fffffe); /* the bytes from 64 on */
   sf_refusal refusal;
   memset(&refusal, 0, sizeof refusal);
-  refusal.offset = i;
+  refusal.offset = at;
   refusal.expected_low = UINT64_C(1) << '"' | UINT64_C(1) << '*';
   refusal.expected_high = letters;
-  refusal.found = i < list.length ? (unsigned char)list.at[i] : -1;
+  refusal.found = at < list.length ? (unsigned char)list.at[at] : -1;
   return refusal;
 }
 
@@ -1255,7 +1275,8 @@ static inline sf_status sf_read_hops(sf_context *context, sf_text text, sf_hop_l
   list->served = is_read && path.is_served ? list->hops.at + path.served : NULL;
   list->nameless = status == SF_NOT_A_CACHE ? path.nameless : 0;
   if (status == SF_NOT_A_CACHE)
-    context->refusal = sf_refusal_of_nameless(text, path.nameless);
+    context->refusal =
+        sf_refusal_of_nameless(text, sf_nameless_from(text, sf_after_space(text, 0)));
   return (sf_status)status;
 }
 
@@ -1356,50 +1377,73 @@ static inline sf_text sf_take_line(sf_text *rest) {
   return line;
 }
 
-/* Returns the length of a head up to the empty line that ends it, and counts its other lines: for
- * the functions below. */
-static inline size_t sf_head_length(sf_text received, size_t *lines) {
+/* Returns whether a byte is one of a token (RFC 9110 section 5.6.2): for the functions below. */
+static inline int sf_is_tchar(char c) {
+  return (c >= 'a' && c <= 'z') || (c >= 'A' && c <= 'Z') || (c >= '0' && c <= '9') ||
+         (c != 0 && strchr("!#$%&'*+-.^_`|~", c) != NULL);
+}
+
+/* Returns how many faults a line of a head may have beside one: white space before its colon, and a
+ * member of Cache-Status that names no cache after each comma. For the function below. */
+static inline size_t sf_more_faults_of(sf_text line) {
+  sf_head_line field;
+  size_t at = 0, count, i;
+  while (at < line.length && sf_is_tchar(line.at[at]))
+    ++at;
+  field.name = sf_text_of(line.at, at);
+  count = at > 0 && at < line.length && line.at[at] != ':';
+  at = sf_after_space(line, at);
+  if (at == line.length || line.at[at] != ':')
+    return 0;
+  if (sf_is_named(&field, "Cache-Status"))
+    for (i = at + 1; i < line.length; ++i)
+      count += line.at[i] == ',' && line.at[i - 1] != ',';
+  return count;
+}
+
+/* Returns the length of a head up to the empty line that ends it, and counts its other lines, and
+ * the faults for which sf_head_in_memory has a buffer: one for each of these lines, those above,
+ * and ten for a missing start line, a missing end and eight that the program finds. For the
+ * functions below. */
+static inline size_t sf_head_length(sf_text received, size_t *lines, size_t *faults) {
   sf_text rest = sf_text_of(received.at, received.at == NULL ? 0 : received.length);
   size_t length = rest.length;
   *lines = 0;
+  *faults = 10;
   while (rest.length > 0) {
     sf_text line = sf_take_line(&rest);
     int is_empty = *line.at == '\n' || (line.length == 2 && memcmp(line.at, "\r\n", 2) == 0);
     if (is_empty && *lines > 0)
       break;
     *lines += !is_empty;
+    *faults += is_empty ? 0 : 1 + sf_more_faults_of(line);
   }
   return length - rest.length;
 }
 
-/* Faults of a head that sf_head_in_memory has a buffer for beside one for each line: a missing
- * start line and a missing end, and eight that the program finds. For the functions below. */
-enum { SF_MORE_FAULTS = 10 };
-
-/* Returns the bytes that are enough for a head of so many lines and bytes: for the functions below.
- * A line that is no field line has one fault, and a field has at most as many as it has lines. All
- * fields, joined, have fewer bytes than the head, and each of them has when it is joined again
- * while all are kept. */
-static inline size_t sf_head_memory_of(size_t lines, size_t length) {
-  size_t bytes = sf_add_size(SF_MORE_FAULTS * sizeof(sf_fault), lines,
-                             sizeof(sf_head_line) + sizeof(sf_fault));
-  return sf_add_size(bytes, length, 2);
+/* Returns the bytes that are enough for a head of so many lines, faults and bytes: for the
+ * functions below. A line that is no field line has one fault, and a field has at most as many as
+ * it has lines, or members that name no cache. All fields, joined, have fewer bytes than the head,
+ * and each of them has when it is joined again while all are kept. */
+static inline size_t sf_head_memory_of(size_t lines, size_t faults, size_t length) {
+  size_t bytes = sf_add_size(0, lines, sizeof(sf_head_line));
+  return sf_add_size(sf_add_size(bytes, faults, sizeof(sf_fault)), length, 2);
 }
 
 static inline size_t sf_head_memory_size(sf_text received) {
-  size_t lines, length = sf_head_length(received, &lines);
-  return sf_head_memory_of(lines, length);
+  size_t lines, faults, length = sf_head_length(received, &lines, &faults);
+  return sf_head_memory_of(lines, faults, length);
 }
 
 static inline sf_head sf_head_in_memory(void *memory, size_t size, sf_text received) {
-  size_t lines, length = sf_head_length(received, &lines);
+  size_t lines, count, length = sf_head_length(received, &lines, &count);
   sf_head_line *at = (sf_head_line *)sf_aligned(memory);
-  int fits = sf_fits(at, size, sf_head_memory_of(lines, length));
+  int fits = sf_fits(at, size, sf_head_memory_of(lines, count, length));
   sf_fault *faults = fits ? (sf_fault *)(void *)(at + lines) : NULL;
   sf_head head = sf_head_in(sf_head_lines_of(at, fits ? lines : 0), sf_buffer_of(NULL, 0));
   if (fits) {
-    head.faults = sf_faults_of(faults, lines + SF_MORE_FAULTS);
-    head.joined = sf_buffer_of(faults + lines + SF_MORE_FAULTS, 2 * length);
+    head.faults = sf_faults_of(faults, count);
+    head.joined = sf_buffer_of(faults + count, 2 * length);
   }
   return head;
 }
@@ -1425,12 +1469,6 @@ static inline sf_status sf_add_received(sf_head *head, sf_text name, sf_text val
 
 static inline sf_status sf_add_field_line(sf_head *head, sf_text name, sf_text value) {
   return sf_add_received(head, name, value, value);
-}
-
-/* Returns whether a byte is one of a token (RFC 9110 section 5.6.2): for the functions below. */
-static inline int sf_is_tchar(char c) {
-  return (c >= 'a' && c <= 'z') || (c >= 'A' && c <= 'Z') || (c >= '0' && c <= '9') ||
-         (c != 0 && strchr("!#$%&'*+-.^_`|~", c) != NULL);
 }
 
 /* Adds a byte to those that a refusal expects: for the functions below. */
@@ -1510,25 +1548,35 @@ static inline uint32_t sf_code_of(sf_text line) {
   return code < 100 ? 0 : code;
 }
 
-/* Returns the length of the method of a request line (RFC 9112 section 3); 0 if the line is none:
- * for the functions below. */
-static inline size_t sf_method_length(sf_text line) {
-  size_t method = 0, version = line.length;
-  while (method < line.length && sf_is_tchar(line.at[method]))
-    ++method;
-  while (version > 0 && line.at[version - 1] != ' ')
+/* Returns in words why a line is no request line (RFC 9112 section 3), and sets where it can't go
+ * on as one if it begins with a method and a space. If it is one, returns NULL, and sets the length
+ * of its method. For the functions below. */
+static inline const char *sf_request_fault(sf_text line, size_t *method, uint64_t *place) {
+  size_t at = 0, version = line.length, length;
+  while (at < line.length && sf_is_tchar(line.at[at]))
+    ++at;
+  *method = at;
+  if (at == 0 || at == line.length || line.at[at] != ' ')
+    return "no method, target and version";
+  ++at;
+  while (at < line.length && strchr(" \t\v\f", line.at[at]) == NULL)
+    ++at;
+  *place = at;
+  while (version > at && line.at[version - 1] != ' ')
     --version;
-  return version > method + 2 && line.at[method] == ' ' && version < line.length &&
-                 sf_version_length(sf_text_of(line.at + version, line.length - version)) ==
-                     line.length - version
-             ? method
-             : 0;
+  length = line.length - version;
+  if (version > at && version > *method + 2 && length > 0 &&
+      sf_version_length(sf_text_of(line.at + version, length)) == length)
+    return version == at + 1 ? NULL : "white space in the target";
+  if (version > at && at > *method + 1 && line.at[at] == ' ')
+    *place += 1 + sf_version_length(sf_text_of(line.at + at + 1, line.length - at - 1));
+  return "no method, target and version";
 }
 
 /* Returns in words why a line is no start line (RFC 9112 sections 2.2, 3 and 4), and sets the
  * place, unless it is that at which the line is no field line. For the functions below. */
 static inline const char *sf_start_fault(sf_text line, uint64_t *place) {
-  size_t version = sf_version_length(line), at = 0;
+  size_t version = sf_version_length(line), at = 0, method;
   while (at < line.length && !sf_is_break(line.at[at]))
     ++at;
   if (at < line.length) {
@@ -1540,22 +1588,24 @@ static inline const char *sf_start_fault(sf_text line, uint64_t *place) {
     return "no status code of three digits";
   }
   if (line.length < 5 || memcmp(line.at, "HTTP/", 5) != 0)
-    return "no method, target and version";
+    return sf_request_fault(line, &method, place);
   *place = 5;
   return "no version";
 }
 
-/* Adds a fault to those of a head, in the order of the lines, unless it is one of them. One that
- * the program found is added each time, and is not compared with those of the same line. For the
- * functions below. */
+/* Adds a fault to those of a head, in the order of the lines, unless it is one of them. That of a
+ * line that is no field line, and one that the program found, is added each time, and is not
+ * compared with those of the same line. For the functions below. */
 static inline void sf_note_fault(sf_head *head, const char *field, sf_reason reason,
                                  const char *message, const sf_location *location) {
   sf_fault *faults = head->faults.at;
   size_t i = head->faults.length;
-  for (; i > 0 && reason != SF_FAULT_OWN && faults[i - 1].location.number >= location->number; --i)
+  int is_added = reason == SF_FAULT_NOT_A_LINE || reason == SF_FAULT_OWN;
+  for (; i > 0 && !is_added && faults[i - 1].location.number >= location->number; --i)
     if (strcmp(faults[i - 1].field, field) == 0 && faults[i - 1].reason == (uint32_t)reason &&
         sf_is_same(sf_cstr(faults[i - 1].message), sf_cstr(message)) &&
         faults[i - 1].location.number == location->number &&
+        faults[i - 1].location.index == location->index &&
         faults[i - 1].location.refusal.offset == location->refusal.offset)
       return;
   ++head->faults.required;
@@ -1573,10 +1623,13 @@ static inline void sf_note_fault(sf_head *head, const char *field, sf_reason rea
  * below. */
 static inline int sf_take_start_line(sf_head *head, sf_text line) {
   uint32_t status = sf_code_of(line);
-  size_t method = sf_method_length(line), i;
+  size_t method, i;
+  uint64_t place;
   for (i = 0; i < line.length; ++i)
     if (sf_is_break(line.at[i]))
       return 0;
+  if (sf_request_fault(line, &method, &place) != NULL)
+    method = 0;
   if (status == 0 && method == 0)
     return 0;
   head->start = line;
@@ -1598,7 +1651,10 @@ static inline void sf_refuse_at(sf_location *location, uint64_t place) {
                                 : (int32_t)SF_ENDED;
 }
 
-static inline sf_status sf_add_head_line(sf_head *head, sf_text line) {
+/* Adds a line to a head, that of a request or not, as sf_add_head_line does: for the functions
+ * below. */
+SF_USE_RESULT
+static inline sf_status sf_add_line_of(sf_head *head, sf_text line, int is_request) {
   sf_text name, value;
   sf_location location;
   sf_reason reason = head->is_begun ? SF_FAULT_NOT_A_LINE : SF_FAULT_NOT_A_START;
@@ -1606,12 +1662,17 @@ static inline sf_status sf_add_head_line(sf_head *head, sf_text line) {
   line.length -= line.length > 0 && line.at[line.length - 1] == '\r';
   if (!head->is_begun && sf_take_start_line(head, line))
     return SF_OK;
-  if (line.length > 0 &&
-      sf_split_line(line, head->is_request != 0, &name, &value, &location.refusal))
-    return sf_add_received(head, name, value, line);
   location.index = head->lines.length;
-  location.number = head->number++;
+  location.number = head->number;
   location.line = line;
+  if (line.length > 0 && sf_split_line(line, is_request, &name, &value, &location.refusal)) {
+    sf_status status = sf_add_received(head, name, value, line);
+    sf_refuse_at(&location, name.length);
+    if (status == SF_OK && line.at[name.length] != ':')
+      sf_note_fault(head, "", SF_FAULT_SPACE_BEFORE_COLON, NULL, &location);
+    return status;
+  }
+  ++head->number;
   if (line.length == 0)
     return SF_EMPTY;
   if (reason == SF_FAULT_NOT_A_START) {
@@ -1623,6 +1684,10 @@ static inline sf_status sf_add_head_line(sf_head *head, sf_text line) {
   head->is_incomplete = 1;
   sf_note_fault(head, "", reason, NULL, &location);
   return SF_REFUSED;
+}
+
+static inline sf_status sf_add_head_line(sf_head *head, sf_text line) {
+  return sf_add_line_of(head, line, head->is_request != 0);
 }
 
 /* Adds a fault to those of a head that has no start line of the kind that the reason is about, if
@@ -1647,16 +1712,22 @@ static inline void sf_expect_start(sf_head *head, sf_reason reason) {
 SF_USE_RESULT
 static inline sf_status sf_take_head_for(sf_head *head, sf_text *rest, sf_reason reason) {
   sf_location location;
+  location.line = sf_text_of("", 0);
   while (rest->length > 0) {
     sf_text before = *rest;
     int is_begun = head->is_begun != 0;
     sf_text line = sf_take_line(rest);
     sf_status status;
+    location.number = head->number;
+    if (line.at[line.length - 1] != '\n')
+      location.line = line; /* it is cut off, and so the last */
     if (is_begun)
       sf_expect_start(head, reason);
     if (line.length == 1 && *line.at == '\r')
       break; /* an empty line whose LF is missing */
-    status = sf_add_head_line(head, line);
+    /* the fields after a malformed request line are those of a request, too */
+    status = sf_add_line_of(head, line,
+                            head->is_request != 0 || reason == SF_FAULT_NO_REQUEST_LINE);
     if (status == SF_EMPTY && is_begun) {
       head->is_truncated = 0;
       return SF_OK;
@@ -1669,9 +1740,9 @@ static inline sf_status sf_take_head_for(sf_head *head, sf_text *rest, sf_reason
   sf_expect_start(head, reason);
   head->is_truncated = 1;
   location.index = head->lines.length;
-  location.number = head->number;
-  location.line = sf_text_of("", 0);
-  sf_refuse_at(&location, 0);
+  if (location.line.length == 0)
+    location.number = head->number;
+  sf_refuse_at(&location, location.line.length);
   sf_note_fault(head, "", SF_FAULT_NO_END, NULL, &location);
   return SF_REFUSED;
 }
@@ -1763,15 +1834,9 @@ static inline sf_location sf_locate_in_head(const sf_refusal *refusal, const sf_
   return location;
 }
 
-/* Adds a refusal of a field to the faults of a head, for this reason: for the functions below. */
-static inline void sf_note_field(sf_head *head, const char *name, sf_reason reason,
-                                 const sf_refusal *refusal) {
-  sf_location location = sf_locate_in_head(refusal, head, name);
-  sf_note_fault(head, name, reason, NULL, &location);
-}
-
 static inline void sf_note_refusal(sf_head *head, const char *name, const sf_refusal *refusal) {
-  sf_note_field(head, name, SF_FAULT_REFUSED, refusal);
+  sf_location location = sf_locate_in_head(refusal, head, name);
+  sf_note_fault(head, name, SF_FAULT_REFUSED, NULL, &location);
 }
 
 static inline sf_location sf_locate_offset(const sf_head *head, const char *name,
@@ -1808,6 +1873,51 @@ static inline void sf_note_value(sf_head *head, const char *name, sf_reason reas
   sf_note_fault(head, name, reason, message, &location);
 }
 
+/* Adds each member of Cache-Status that names no cache to the faults of a head, in the order of the
+ * lines, after those that an earlier call added. It takes time in proportion to the text, the lines
+ * and the faults, however many there are of each. For the functions below. */
+static inline void sf_note_nameless(sf_head *head, sf_text list) {
+  sf_faults *faults = &head->faults;
+  size_t first = sf_nameless_from(list, sf_after_space(list, 0)), at;
+  size_t index = 0, noted = 0, count = 0, kept, from, to = 0;
+  uint64_t begin = 0; /* the place in the text of the value of the line of this index */
+  for (from = 0; from < faults->length; ++from)
+    noted += faults->at[from].reason == SF_FAULT_NOT_A_CACHE;
+  for (at = first; at < list.length; at = sf_nameless_from(list, sf_next_member(list, at)))
+    ++count;
+  if (count <= noted)
+    return;
+  faults->required += count - noted;
+  kept = faults->capacity > faults->length ? faults->capacity - faults->length : 0;
+  kept = kept < count - noted ? kept : count - noted;
+  if (kept > 0 && faults->length > 0)
+    memmove(faults->at + kept, faults->at, faults->length * sizeof *faults->at);
+  faults->length += kept;
+  from = kept;
+  for (at = first; kept > 0; at = sf_nameless_from(list, sf_next_member(list, at))) {
+    const sf_head_line *line = &head->lines.at[index];
+    sf_fault fault;
+    for (; !sf_is_named(line, "Cache-Status") || at >= begin + line->value.length; ++line, ++index)
+      begin += sf_is_named(line, "Cache-Status") ? line->value.length + 2 : 0;
+    if (noted > 0) {
+      --noted;
+      continue;
+    }
+    fault.field = "Cache-Status";
+    fault.reason = SF_FAULT_NOT_A_CACHE;
+    fault.message = NULL;
+    fault.location.index = index;
+    fault.location.number = line->number;
+    fault.location.refusal = sf_refusal_of_nameless(list, at);
+    fault.location.refusal.offset -= begin;
+    sf_show_received(&fault.location, line);
+    while (from < faults->length && faults->at[from].location.number <= line->number)
+      faults->at[to++] = faults->at[from++];
+    faults->at[to++] = fault;
+    --kept;
+  }
+}
+
 /* Returns in words why a line, the first or another, is no field line: for the function below. */
 static inline const char *sf_line_fault(const sf_refusal *refusal, int is_first) {
   int is_space = refusal->found == ' ' || refusal->found == '\t';
@@ -1820,8 +1930,8 @@ static inline const char *sf_line_fault(const sf_refusal *refusal, int is_first)
   return is_first ? "it begins with white space" : "it continues the line before";
 }
 
-/* Returns the words for a reason, which go on for lines; NULL if a refusal has them: for the
- * function below. */
+/* Returns the words for a reason, which go on for lines and dates, or have a directive before them;
+ * NULL if a refusal has them: for the function below. */
 static inline const char *sf_fault_words(uint32_t reason) {
   switch (reason) {
   case SF_FAULT_NOT_A_DATE:
@@ -1832,9 +1942,11 @@ static inline const char *sf_fault_words(uint32_t reason) {
   case SF_FAULT_NOT_SECONDS:
     return "expected a number of seconds";
   case SF_FAULT_OTHER_SECONDS:
-    return "the directive had another value before";
+    return " had another value before";
   case SF_FAULT_NOT_A_LINE:
     return "not a field line: ";
+  case SF_FAULT_SPACE_BEFORE_COLON:
+    return "white space before the colon";
   case SF_FAULT_NO_END:
     return "the head does not end with an empty line";
   case SF_FAULT_NOT_A_START:
@@ -1867,6 +1979,23 @@ static inline void sf_leave_out_place(sf_text message, sf_text *before, sf_text 
   *after = sf_text_of(message.at + end, message.length - end);
 }
 
+/* Returns whether a line is refused because a number has too many digits: more than 15, or 12
+ * before a point, or 3 after it (RFC 9651 sections 3.3.1, 3.3.2 and 3.3.7). For the function below.
+ */
+static inline int sf_is_long_number(sf_text line, const sf_refusal *refusal) {
+  size_t at = (size_t)refusal->offset, begin = at, digits;
+  if (refusal->offset >= line.length)
+    return 0;
+  while (begin > 0 && line.at[begin - 1] >= '0' && line.at[begin - 1] <= '9')
+    --begin;
+  digits = at - begin;
+  if (line.at[at] >= '0' && line.at[at] <= '9')
+    return digits == 15 || (digits == 3 && begin > 0 && line.at[begin - 1] == '.');
+  begin -= begin > 0 && line.at[begin - 1] == '-';
+  return line.at[at] == '.' && digits > 12 && !(begin > 0 && line.at[begin - 1] == '@') &&
+         (refusal->expected_high >> ('a' - 64) & 1) == 0; /* in a Byte Sequence, letters are */
+}
+
 static inline sf_status sf_show_fault_in(const char *file, const sf_fault *fault, size_t most,
                                         sf_buffer *out) {
   const sf_location *location = &fault->location;
@@ -1887,13 +2016,16 @@ static inline sf_status sf_show_fault_in(const char *file, const sf_fault *fault
   parts[3] = sf_cstr(fault->field);
   parts[4] = sf_text_of(": ", parts[3].length == 0 ? 0 : 2);
   parts[5] = sf_cstr(words);
-  if (fault->reason == SF_FAULT_NOT_A_LINE) {
+  if (fault->reason == SF_FAULT_NO_END && location->line.length > 0) {
+    parts[5] = sf_cstr("the head is cut off: its last line has no line end");
+  } else if (fault->reason == SF_FAULT_NOT_A_LINE) {
     parts[count++] = sf_cstr(sf_line_fault(&location->refusal, 0));
   } else if (fault->reason == SF_FAULT_NOT_A_START) {
     uint64_t ignored = 0;
     sf_refusal refusal;
     sf_text name, value;
-    (void)sf_split_line(location->line, 0, &name, &value, &refusal);
+    if (sf_split_line(location->line, 0, &name, &value, &refusal)) /* a field line of a response */
+      (void)sf_split_line(location->line, 1, &name, &value, &refusal);
     parts[count++] = sf_cstr(sf_start_fault(location->line, &ignored));
     parts[count++] = sf_cstr(") nor a field line (");
     parts[count++] = sf_cstr(sf_line_fault(&refusal, 1));
@@ -1902,10 +2034,15 @@ static inline sf_status sf_show_fault_in(const char *file, const sf_fault *fault
     status = sf_write_refusal(&location->refusal, &refused);
     if (status != SF_OK)
       return sf_wrote(out, status, 0);
-    sf_leave_out_place(sf_written(&refused), &parts[5], &parts[6]);
+    if (fault->message == NULL && sf_is_long_number(location->line, &location->refusal))
+      parts[5] = sf_cstr("too many digits: ");
+    sf_leave_out_place(sf_written(&refused), &parts[6], &parts[7]);
     if (fault->message != NULL)
-      parts[6] = sf_text_of(", expected ", 11);
-    ++count;
+      parts[7] = sf_text_of(", expected ", 11);
+    count += 2;
+  } else if (fault->reason == SF_FAULT_OTHER_SECONDS) {
+    parts[5] = sf_cstr(fault->message == NULL ? "the directive" : fault->message);
+    parts[count++] = sf_cstr(words);
   }
   if (words == NULL || fault->reason == SF_FAULT_OWN || fault->reason == SF_FAULT_NOT_A_DATE)
     parts[count++] = sf_cstr(fault->message);
@@ -1928,10 +2065,9 @@ static inline sf_status sf_show_fault(const sf_fault *fault, size_t most, sf_buf
  * malformed counts as absent, and is added to the faults: for the functions below. */
 static inline sf_status sf_found(const sf_context *context, sf_head *head, const char *name,
                                  sf_status status) {
-  if (status != SF_REFUSED && status != SF_NOT_A_CACHE)
+  if (status != SF_REFUSED)
     return status;
-  sf_note_field(head, name, status == SF_REFUSED ? SF_FAULT_REFUSED : SF_FAULT_NOT_A_CACHE,
-                &context->refusal);
+  sf_note_refusal(head, name, &context->refusal);
   return SF_OK;
 }
 
@@ -1985,8 +2121,10 @@ static inline sf_status sf_find_hops(sf_context *context, sf_head *head, sf_hop_
                          sf_buffer_of(list->bytes.at, list->bytes.capacity));
   if (status == SF_OK)
     status = sf_read_hops(context, text, list);
+  if (status == SF_NOT_A_CACHE)
+    sf_note_nameless(head, text);
   head->joined.length = begin;
-  return sf_found(context, head, "Cache-Status", status);
+  return sf_found(context, head, "Cache-Status", status == SF_NOT_A_CACHE ? SF_OK : status);
 }
 
 static inline sf_status sf_find_tree(sf_context *context, sf_kind kind, sf_head *head,
@@ -2338,12 +2476,39 @@ static inline size_t sf_date_part_length(sf_text text, char part) {
   }
 }
 
+/* Returns the number of two digits, or of a space and a digit: for the function below. */
+static inline int sf_pair_at(sf_text text, size_t at) {
+  return (text.at[at] == ' ' ? 0 : text.at[at] - '0') * 10 + (text.at[at + 1] - '0');
+}
+
+/* Returns the place of the part of a value that makes it no HTTP-date, though each part is in the
+ * right format, and sets in words what is expected there: a day that is in the month, a year from
+ * 1970 on, or the weekday. The places are those of the day, the month and the year. For the
+ * function below. */
+static inline size_t sf_place_in_day(sf_text value, const size_t places[3],
+                                     const char **expected) {
+  sf_text month = sf_text_of(value.at + places[1], value.length - places[1]);
+  int day = sf_pair_at(value, places[0]), year = sf_pair_at(value, places[2]), last = 31;
+  if (places[2] + 2 < value.length && value.at[places[2] + 2] != ' ')
+    year = year * 100 + sf_pair_at(value, places[2] + 2);
+  else
+    year += year < 70 ? 2000 : 1900;
+  if (sf_name_length(month, "Apr Jun Sep Nov ", 3) > 0)
+    last = 30;
+  if (sf_name_length(month, "Feb ", 3) > 0)
+    last = year % 4 == 0 && (year % 100 != 0 || year % 400 == 0) ? 29 : 28;
+  *expected = day > last    ? "a day of that month in "
+              : year < 1970 ? "a year from 1970 on in "
+                            : "the weekday of that day in ";
+  return day > last ? places[0] : year < 1970 ? places[2] : 0;
+}
+
 /* Returns the place at which a value that is no HTTP-date can't go on as one, in the format that it
  * is most like, and sets in words which part of the date is expected there: for the function below.
  */
 static inline size_t sf_place_in_date(sf_text value, const char **expected) {
   const char *format = "w, d m Y t z";
-  size_t at = sf_date_part_length(value, 'W');
+  size_t at = sf_date_part_length(value, 'W'), places[3] = {0, 0, 0};
   if (at > 0)
     format = "W, d-m-y t z";
   else if (value.length > 4 && value.at[3] == ' ' && (unsigned char)value.at[4] > '9')
@@ -2352,9 +2517,20 @@ static inline size_t sf_place_in_date(sf_text value, const char **expected) {
     size_t length = sf_date_part_length(sf_text_of(value.at + at, value.length - at), *format);
     if (length == 0)
       break;
+    if (*format == 'd' || *format == 'D')
+      places[0] = at;
+    if (*format == 'm')
+      places[1] = at;
+    if (*format == 'y' || *format == 'Y')
+      places[2] = at;
     at += length;
   }
   switch (*format) {
+  case 0:
+    if (at == value.length)
+      return sf_place_in_day(value, places, expected);
+    *expected = "the end of ";
+    return at;
   case 'w':
     *expected = NULL;
     return 0;
@@ -2381,12 +2557,9 @@ static inline size_t sf_place_in_date(sf_text value, const char **expected) {
   case ',':
     *expected = "a comma in ";
     return at;
-  case '-':
+  default:
     *expected = "a hyphen in ";
     return at;
-  default:
-    *expected = at < value.length ? "the end of " : "a day from 1970 on and its weekday in ";
-    return at < value.length ? at : 0;
   }
 }
 
@@ -2482,7 +2655,8 @@ static inline void sf_note_seconds(sf_head *head, const char *target, const sf_r
   for (i = 0; i < head->lines.length && target == NULL; ++i)
     if (sf_is_named(&head->lines.at[i], "Cache-Control") &&
         sf_find_bad_seconds(head->lines.at[i].value, name, &before, &refusal.offset, &reason)) {
-      sf_note_value(head, "Cache-Control", reason, NULL, i, &refusal);
+      sf_note_value(head, "Cache-Control", reason, reason == SF_FAULT_OTHER_SECONDS ? name : NULL,
+                    i, &refusal);
       return;
     }
 }

@@ -662,8 +662,42 @@ static void write_again(const sf_hop *hop, const uint8_t *bytes, size_t size) {
   give_buffer(text);
 }
 
+/* The members of a List that name no cache, as faults of a head: those whose nodes are no String and
+ * no Token, at the places of these nodes. */
+static void nameless(const uint8_t *text, size_t length) {
+  enum { MOST = 16 }; /* for each of many nodes, sf_node_offset would take long */
+  sf_context context = sf_context_of(seed, SF_RFC9651);
+  size_t most = SF_NODES_SIZE(length), bytes_most = SF_BYTES_SIZE(length), count = 0;
+  sf_node *nodes = take_buffer(NULL, most * sizeof *nodes);
+  char *bytes = take_buffer(NULL, bytes_most);
+  sf_tree tree = sf_tree_in(sf_nodes_of(nodes, most), sf_buffer_of(bytes, bytes_most));
+  sf_hop_list list = sf_hop_list_in(sf_hops_of(NULL, 0), sf_buffer_of(NULL, 0));
+  sf_head_line line;
+  sf_head head = sf_head_in(sf_head_lines_of(&line, 1), sf_buffer_of(NULL, 0));
+  CHECK(sf_read_tree(&context, SF_LIST, sf_text_of(text, length), &tree) == SF_OK);
+  sf_fault *faults = take_buffer(NULL, tree.nodes.length * sizeof *faults);
+  head.faults = sf_faults_of(faults, tree.nodes.length);
+  CHECK(sf_add_field_line(&head, sf_cstr("Cache-Status"), sf_text_of(text, length)) == SF_OK);
+  for (int twice = 0; twice < 2; ++twice) {
+    sf_status status = sf_find_hops(&context, &head, &list);
+    CHECK(status == SF_OK || (status == SF_SHORT && head.faults.length == 0));
+  }
+  for (const sf_node *node = nodes; node < sf_tree_end(&tree); node += node->size)
+    if (node->type != SF_STRING && node->type != SF_TOKEN) {
+      CHECK(count < head.faults.length && faults[count].reason == SF_FAULT_NOT_A_CACHE);
+      if (count < MOST)
+        CHECK(faults[count].location.refusal.offset == sf_node_offset(&tree, node));
+      ++count;
+    }
+  CHECK(head.faults.length == count && head.faults.required == count);
+  give_buffer(nodes);
+  give_buffer(bytes);
+  give_buffer(faults);
+}
+
 /* The path of a text and that of its canonical text. */
 static void paths(const uint8_t *text, size_t length) {
+  nameless(text, length);
   sf_refusal refusal;
   size_t required = SF_CANONICAL_SIZE(length);
   uint8_t *canonical = take_buffer(NULL, required);

@@ -740,7 +740,7 @@ where
 }
 
 /// Where such a directive is in `Cache-Control`.
-fn seconds_of_lines<H>(head: H, name: &str) -> Option<Malformed<'static>>
+fn seconds_of_lines<H>(head: H, name: &'static str) -> Option<Malformed<'static>>
 where
     H: IntoIterator,
     H::Item: FieldLine,
@@ -754,7 +754,8 @@ where
         let found = directives::not_seconds(trim(of_head.value()), name, &mut before)?;
         let offset = begin + found.offset;
         let fault = if found.is_other {
-            Fault::OtherSeconds { offset }
+            let directive = name;
+            Fault::OtherSeconds { directive, offset }
         } else {
             Fault::NotSeconds { offset }
         };

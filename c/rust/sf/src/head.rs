@@ -2,8 +2,9 @@
 
 use crate::buffer::{copied_text, push};
 use crate::http_date;
-use crate::line::{is_barred, is_of, is_tchar, spaces_before, split, without_end};
+use crate::line::{is_barred, is_of, is_tchar, spaces_before, split, without_end, Parts};
 use crate::malformed::{Fault, Malformed, StartFault};
+use crate::place::nameless;
 use crate::{
     field_text, has_field, trim, Appended, Error, Exchange, Fallback, FieldLine, FieldType,
     HeadFault, Hop, Obstacle, Parser, Path, Place, Priority, Refusal, ResponsePriority, Verdict,
@@ -108,8 +109,10 @@ impl<'a> Head<'a> {
 
     /// The head that a text begins with: its lines up to the empty line that ends it. Empty lines
     /// before the first other one are skipped (RFC 9112 section 2.2). If there is no empty line at
-    /// the end, lines may be missing: the head is incomplete. A missing start line is no fault
-    /// here, but [`Head::parse_request`] and [`Head::parse_response`] require one.
+    /// the end, lines may be missing: the head is incomplete, and [`Head::malformed`] has
+    /// [`Fault::NoEnd`], with the place at which the text ends. A last line without a line end is
+    /// added, too. A missing start line is no fault here, but [`Head::parse_request`] and
+    /// [`Head::parse_response`] require one.
     ///
     /// # Errors
     ///
@@ -126,7 +129,8 @@ impl<'a> Head<'a> {
 
     /// The same for the head of a request. If it does not begin with a request line, it is
     /// incomplete, and [`Head::malformed`] has [`Fault::NoRequestLine`] or, if the first line is no
-    /// field line either, [`Fault::NotAStartLine`].
+    /// field line either, [`Fault::NotAStartLine`]. The lines after it are read all the same, as
+    /// those of a request.
     ///
     /// # Errors
     ///
@@ -174,10 +178,14 @@ impl<'a> Head<'a> {
     fn read(parser: Parser, text: &'a [u8], required: Option<Fault>) -> Result<Head<'a>, Error> {
         let mut head = Head::new(parser);
         let mut rest = text;
+        let mut cut_off = None;
         while !rest.is_empty() {
             let end = rest.iter().position(|byte| *byte == b'\n');
             let (line, after) = rest.split_at(end.map_or(rest.len(), |end| end + 1));
             rest = after;
+            if end.is_none() {
+                cut_off = Some((head.number, line));
+            }
             if line == b"\r" {
                 break; // an empty line whose LF is missing
             }
@@ -186,7 +194,9 @@ impl<'a> Head<'a> {
                 head.number += 1;
                 break;
             }
-            head.add_line(line)?;
+            // The fields after a malformed request line are those of a request, too.
+            let is_request = head.is_request || required == Some(Fault::NoRequestLine);
+            head.add_line_of(line, is_request)?;
         }
         match required {
             Some(Fault::NoRequestLine) if head.is_request => {}
@@ -196,7 +206,8 @@ impl<'a> Head<'a> {
         }
         if head.content.is_none() {
             head.is_incomplete = true;
-            let fault = HeadFault::of_line(Fault::NoEnd, head.number, b"", 0);
+            let (number, line) = cut_off.unwrap_or((head.number, b""));
+            let fault = HeadFault::of_line(Fault::NoEnd, number, line, line.len());
             push(&mut head.malformed, fault)?;
         }
         Ok(head)
@@ -219,9 +230,13 @@ impl<'a> Head<'a> {
     /// Adds a field line as it was received (RFC 9112 section 5), with or without its CR and LF, and
     /// returns whether it is one: see [`split_field_line`](crate::split_field_line()). The first
     /// line may be the start line, a status line or a request line, without a CR, LF or NUL in it
-    /// (section 2.2); it is not added, and nor is an empty line. Another line that is no field line
-    /// makes the head incomplete, and is one of [`Head::malformed`]; in a request also a line with
-    /// white space before its colon.
+    /// (section 2.2), and without white space in the target of a request (section 3.2); it is not
+    /// added, and nor is an empty line. `HTTP/2 200`, which curl prints for HTTP/2, is a status
+    /// line: a version may be one digit, and the space after the status code may be missing. Another
+    /// line that is no field line makes the head incomplete, and is one of [`Head::malformed`]; in a
+    /// request also a line with white space before its colon. In other heads, such a line is added,
+    /// and the white space is one of [`Head::malformed`], since a proxy must remove it (section
+    /// 5.1).
     ///
     /// # Errors
     ///
@@ -234,20 +249,19 @@ impl<'a> Head<'a> {
     /// assert!(!head.add_line("Age 20").unwrap() && head.is_incomplete());
     /// ```
     pub fn add_line<T: AsRef<[u8]> + ?Sized>(&mut self, line: &'a T) -> Result<bool, Error> {
-        let received = without_end(line.as_ref());
+        self.add_line_of(line.as_ref(), self.is_request)
+    }
+
+    /// Adds a line, that of a request or not.
+    fn add_line_of(&mut self, line: &'a [u8], is_request: bool) -> Result<bool, Error> {
+        let received = without_end(line);
         if !self.is_begun && self.takes_start_line(received) {
             self.number += 1;
             return Ok(false);
         }
-        let refusal = match split(received, self.is_request) {
+        let refusal = match split(received, is_request) {
             Ok(parts) => {
-                self.push_line(HeadLine {
-                    name: parts.name,
-                    value: parts.value,
-                    received,
-                    number: self.number,
-                    value_at: parts.value_at,
-                })?;
+                self.add_field_line(received, &parts)?;
                 return Ok(true);
             }
             Err(refusal) => refusal,
@@ -258,7 +272,7 @@ impl<'a> Head<'a> {
                 (Fault::NotALine(refusal), place)
             } else {
                 let (start, at) = start_fault(received);
-                let line = refusal;
+                let line = split(received, false).err().unwrap_or(refusal);
                 (Fault::NotAStartLine { start, line }, at.unwrap_or(place))
             };
             let fault = HeadFault::of_line(fault, self.number, received, offset);
@@ -270,13 +284,30 @@ impl<'a> Head<'a> {
         Ok(false)
     }
 
+    /// Adds a field line that was received, and notes white space before its colon.
+    fn add_field_line(&mut self, received: &'a [u8], parts: &Parts<'a>) -> Result<(), Error> {
+        let (number, at) = (self.number, parts.name.len());
+        self.push_line(HeadLine {
+            name: parts.name,
+            value: parts.value,
+            received,
+            number,
+            value_at: parts.value_at,
+        })?;
+        if received.get(at) != Some(&b':') {
+            let fault = HeadFault::of_line(Fault::SpaceBeforeColon, number, received, at);
+            push(&mut self.malformed, fault)?;
+        }
+        Ok(())
+    }
+
     /// Takes a start line, and returns whether the line is one (RFC 9112 section 2.1).
     fn takes_start_line(&mut self, line: &'a [u8]) -> bool {
         if line.iter().any(is_barred) {
             return false;
         }
         self.status = status_of(line);
-        self.is_request = is_request_line(line);
+        self.is_request = request_fault(line).is_none();
         self.is_begun = self.status.is_some() || self.is_request;
         self.start = self.is_begun.then_some(line);
         self.is_begun
@@ -443,7 +474,8 @@ impl<'a> Head<'a> {
     }
 
     /// What was found to be malformed so far, in the order of the lines: lines that are no field
-    /// lines, a missing start line or end, and fields that were read.
+    /// lines or have white space before the colon, a missing start line or end, and fields that were
+    /// read.
     ///
     /// ```
     /// let mut head = sf::Head::parse(sf::Parser::new(), "Priority: u=\r\n\r\n").unwrap();
@@ -491,7 +523,8 @@ impl<'a> Head<'a> {
     }
 
     /// Reads the Cache-Status field of a response (RFC 9211 section 2); the path without hops if it
-    /// is absent or malformed, or if a member names no cache ([`Fault::NotACache`]).
+    /// is absent or malformed, or if a member names no cache: each of these is a fault
+    /// ([`Fault::NotACache`]).
     ///
     /// # Errors
     ///
@@ -502,8 +535,14 @@ impl<'a> Head<'a> {
     /// assert_eq!(head.path().unwrap().served_by(), Some(0));
     /// ```
     pub fn path(&mut self) -> Result<Path, Error> {
-        let said = self.parser.path(field_text(&self.lines, "Cache-Status")?);
-        self.or_absent("Cache-Status", said)
+        let text = field_text(&self.lines, "Cache-Status")?;
+        match self.parser.path(&text) {
+            Err(Error::NotACache { .. }) => {
+                self.note_nameless(&text)?;
+                Ok(Path::default())
+            }
+            said => self.or_absent("Cache-Status", said),
+        }
     }
 
     /// Reads a field of any name; `None` if it is absent or malformed.
@@ -613,8 +652,7 @@ impl<'a> Head<'a> {
         }
         let offset = place.into().offset_in(field_text(&self.lines, name)?);
         let found = self.found(Refusal::at(offset).in_head(&self.lines, name))?;
-        let line = self.lines.iter().find(|line| line.number == found.number);
-        Ok(line.map(|line| (*line, found.offset)))
+        Ok(Some((self.lines[found.index], found.offset)))
     }
 
     /// Adds a fault that the program finds itself to [`Head::malformed`]: at this place of a field,
@@ -685,14 +723,43 @@ impl<'a> Head<'a> {
     fn or_absent<T: Default>(&mut self, name: &str, said: Result<T, Error>) -> Result<T, Error> {
         said.or_else(|error| {
             if let Some(refusal) = error.refusal() {
-                let mut found = self.found(refusal.in_head(&self.lines, name))?;
-                if let Error::NotACache { .. } = error {
-                    found.fault = Fault::NotACache;
-                }
-                self.insert(found)?;
+                self.note(refusal.in_head(&self.lines, name))?;
             }
             error.as_absent()
         })
+    }
+
+    /// Notes each member of Cache-Status, a well-formed List, that names no cache, in the order of
+    /// the lines, after those that were noted before. It takes time in proportion to the text, the
+    /// lines and the faults, however many there are of each.
+    fn note_nameless(&mut self, list: &[u8]) -> Result<(), Error> {
+        let is_noted = |one: &&HeadFault<'_>| one.fault == Fault::NotACache;
+        let noted = self.malformed.iter().filter(is_noted).count();
+        let is_of_field = |(_, line): &(usize, &HeadLine<'_>)| is_of(*line, "Cache-Status");
+        let mut lines = self.lines.iter().enumerate().filter(is_of_field);
+        let mut line = lines.next();
+        let mut begin = 0; // the place of the value of this line in the text
+        let mut found = Vec::new();
+        for at in nameless(list).skip(noted) {
+            while let Some((_, before)) = line.filter(|(_, line)| at >= begin + line.value.len()) {
+                begin += before.value.len() + 2;
+                line = lines.next();
+            }
+            let (index, line) = match line {
+                Some(of_field) => of_field,
+                None => break,
+            };
+            let offset = line.value_at + (at - begin);
+            push(
+                &mut found,
+                HeadFault {
+                    field: copied_text("Cache-Status")?,
+                    index,
+                    ..HeadFault::of_line(Fault::NotACache, line.number, line.received, offset)
+                },
+            )?;
+        }
+        merge(&mut self.malformed, found)
     }
 
     /// Notes a malformed field of this head.
@@ -715,7 +782,7 @@ impl<'a> Head<'a> {
                 (digits.count(), "")
             }
             Fault::NotADate => http_date::fault(line.value),
-            Fault::NotSeconds { offset } | Fault::OtherSeconds { offset } => (offset, ""),
+            Fault::NotSeconds { offset } | Fault::OtherSeconds { offset, .. } => (offset, ""),
             _ => (0, ""),
         };
         let offset = line.value_at.saturating_add(place);
@@ -725,12 +792,13 @@ impl<'a> Head<'a> {
                 ..refusal
             }),
             Fault::NotSeconds { .. } => Fault::NotSeconds { offset },
-            Fault::OtherSeconds { .. } => Fault::OtherSeconds { offset },
+            Fault::OtherSeconds { directive, .. } => Fault::OtherSeconds { directive, offset },
             fault => fault,
         };
         Ok(HeadFault {
             field: copied_text(malformed.field)?,
             part,
+            index: malformed.line,
             ..HeadFault::of_line(fault, line.number, line.received, offset)
         })
     }
@@ -757,6 +825,24 @@ impl<'a> Head<'a> {
     }
 }
 
+/// Merges faults with others, both in the order of their lines, so that each is after those that
+/// `faults` had of its line and of the lines before.
+fn merge<'a>(faults: &mut Vec<HeadFault<'a>>, more: Vec<HeadFault<'a>>) -> Result<(), Error> {
+    let mut all = Vec::new();
+    all.try_reserve(faults.len() + more.len())
+        .map_err(|_| Error::OutOfMemory)?;
+    let mut before = core::mem::take(faults).into_iter().peekable();
+    for one in more {
+        while let Some(earlier) = before.next_if(|earlier| earlier.number <= one.number) {
+            all.push(earlier);
+        }
+        all.push(one);
+    }
+    all.extend(before);
+    *faults = all;
+    Ok(())
+}
+
 /// Why a line is no start line, and where, unless its end is wrong.
 fn start_fault(line: &[u8]) -> (StartFault, Option<usize>) {
     if let Some(at) = line.iter().position(is_barred) {
@@ -768,7 +854,7 @@ fn start_fault(line: &[u8]) -> (StartFault, Option<usize>) {
             (StartFault::NoStatusCode, Some(length + usize::from(space)))
         }
         None if line.starts_with(b"HTTP/") => (StartFault::NoVersion, Some(5)),
-        None => (StartFault::NotARequestLine, None),
+        None => request_fault(line).unwrap_or((StartFault::NotARequestLine, None)),
     }
 }
 
@@ -785,14 +871,32 @@ fn status_of(line: &[u8]) -> Option<u16> {
     }
 }
 
-/// Whether a line is a request line (RFC 9112 section 3).
-fn is_request_line(line: &[u8]) -> bool {
+/// Why a line is no request line (RFC 9112 section 3), and where it can't go on as one, if it begins
+/// with a method and a space; `None` if it is one.
+fn request_fault(line: &[u8]) -> Option<(StartFault, Option<usize>)> {
     let method = line.iter().take_while(|byte| is_tchar(**byte)).count();
+    if method == 0 || line.get(method) != Some(&b' ') {
+        return Some((StartFault::NotARequestLine, None));
+    }
+    // "No whitespace is allowed in the request-target" (section 3.2).
+    let is_in_target = |byte: &u8| !b" \t\x0b\x0c".contains(byte);
+    let target = &line[method + 1..];
+    let length = target.iter().take_while(|byte| is_in_target(byte)).count();
+    let at = method + 1 + length;
+    // The space before the version, if the target is not empty.
     let last = line.iter().rposition(|byte| *byte == b' ');
-    let version = last.map_or(&[][..], |space| &line[space + 1..]);
-    let is_versioned = !version.is_empty() && version_length(version) == Some(version.len());
-    let has_target = last.map_or(false, |space| space > method + 1);
-    method > 0 && line.get(method) == Some(&b' ') && has_target && is_versioned
+    let last = last.filter(|space| *space > method + 1);
+    let has_version = |space: usize| version_length(&line[space + 1..]);
+    match last {
+        Some(space) if has_version(space) == Some(line.len() - space - 1) => {
+            (space != at).then_some((StartFault::SpaceInTarget, Some(at)))
+        }
+        _ if length > 0 && line.get(at) == Some(&b' ') => {
+            let place = at + 1 + has_version(at).unwrap_or(0);
+            Some((StartFault::NotARequestLine, Some(place)))
+        }
+        _ => Some((StartFault::NotARequestLine, Some(at))),
+    }
 }
 
 /// The length of the HTTP version that a text begins with, such as `HTTP/1.1` or `HTTP/2` (RFC 9110

@@ -2,6 +2,7 @@
 
 use crate::error::write_excerpt;
 use crate::malformed::{Fault, DATE};
+use crate::Refusal;
 use alloc::string::String;
 use core::fmt;
 
@@ -22,8 +23,8 @@ use core::fmt;
 #[derive(Clone, Debug, PartialEq, Eq)]
 #[non_exhaustive]
 pub struct HeadFault<'a> {
-    /// The name by which the field was looked up; empty for a line that is no field line, and for a
-    /// head without its start line or its end.
+    /// The name by which the field was looked up; empty for a fault that is about no field, as those
+    /// of lines, of the start line and of the end.
     pub field: String,
     /// The message of [`Head::add_fault`](crate::Head::add_fault); empty for other faults.
     pub message: String,
@@ -31,18 +32,23 @@ pub struct HeadFault<'a> {
     pub fault: Fault,
     /// The number of the line: see [`Head::set_number`](crate::Head::set_number).
     pub number: usize,
-    /// The line as it was received: [`HeadLine::received`](crate::HeadLine::received).
+    /// The line as it was received: [`HeadLine::received`](crate::HeadLine::received). For
+    /// [`Fault::NoEnd`], the last line if it has no line end, with the CR that it may have;
+    /// otherwise empty, and the number is that of the next line.
     pub line: &'a [u8],
     /// The place in the line, from 0: where it is refused; for [`Fault::NotACache`], where the
     /// member begins; for [`Fault::NotADate`], the part of the date that is wrong; for
     /// [`Fault::NotSeconds`], the argument of the directive; for [`Fault::NotAnAge`], where the
     /// first member has a byte that is no digit, or ends if it is empty; for
-    /// [`Fault::NotAStartLine`], the CR, LF or NUL, or where the version or the status code is
-    /// missing, otherwise where it is no field line; for a missing start line or end, 0; for
-    /// [`Fault::Own`], that of the program; otherwise where the value begins.
+    /// [`Fault::NotAStartLine`], the CR, LF or NUL, or where it can't go on as a status line if it
+    /// begins with `HTTP/`, or as a request line if it begins with a method and a space, such as at
+    /// a space in the target, otherwise where it is no field line; for a missing start line, 0; for a missing end,
+    /// that of the text; for [`Fault::Own`], that of the program; otherwise where the value begins.
     pub offset: usize,
     /// The part that is expected of [`Fault::NotADate`], in words that go on with a date.
     pub(crate) part: &'static str,
+    /// The index of the line in the head, for a fault of a field.
+    pub(crate) index: usize,
 }
 
 impl<'a> HeadFault<'a> {
@@ -56,14 +62,15 @@ impl<'a> HeadFault<'a> {
             line,
             offset,
             part: "",
+            index: 0,
         }
     }
 
     /// A message of three lines: the `Display` of the fault, at most so many bytes of the line
     /// around the place, with `...` at an end where more of it is left out, and a caret below the
     /// place. So it has a bound, whatever the length of the line. Bytes that are not printable are
-    /// question marks. If there is no line to show, as for [`Fault::NoEnd`], the message is the
-    /// first of these lines alone.
+    /// question marks. If there is no line to show, as for a [`Fault::NoEnd`] after a whole line,
+    /// the message is the first of these lines alone.
     ///
     /// ```
     /// use sf::{Cache, Exchange, Head, Parser};
@@ -115,13 +122,44 @@ impl fmt::Display for HeadFault<'_> {
             write!(f, "{}: ", self.field)?;
         }
         match self.fault {
-            Fault::Refused(refusal) => refusal.write_without_place(f),
+            Fault::Refused(refusal) => {
+                if is_long_number(self.line, &refusal) {
+                    f.write_str("too many digits: ")?;
+                }
+                refusal.write_without_place(f)
+            }
             Fault::NotADate => write!(f, "expected {}{DATE}", self.part),
             Fault::Own => f.write_str(&self.message),
+            Fault::NoEnd if !self.line.is_empty() => f.write_str(CUT_OFF),
             fault => write!(f, "{fault}"),
         }
     }
 }
+
+/// Whether a line is refused because a number has too many digits: more than 15, or 12 before a
+/// point, or 3 after it (RFC 9651 sections 3.3.1, 3.3.2 and 3.3.7).
+fn is_long_number(line: &[u8], refusal: &Refusal) -> bool {
+    let at = usize::try_from(refusal.offset).unwrap_or(usize::MAX);
+    if refusal.words.is_some() || at >= line.len() {
+        return false;
+    }
+    let (before, from) = line.split_at(at);
+    let digits = before.iter().rev().take_while(|byte| byte.is_ascii_digit());
+    let digits = digits.count();
+    let before = &before[..at - digits];
+    match from[0] {
+        b'0'..=b'9' => digits == 15 || digits == 3 && before.ends_with(b"."),
+        b'.' => {
+            let before = before.strip_suffix(b"-").unwrap_or(before);
+            // In a Byte Sequence, letters are expected.
+            digits > 12 && !before.ends_with(b"@") && !refusal.expects(b'a')
+        }
+        _ => false,
+    }
+}
+
+/// The message of a head whose last line has no line end.
+const CUT_OFF: &str = "the head is cut off: its last line has no line end";
 
 /// A fault of a head with a part of its line: see [`HeadFault::excerpt`] and
 /// [`HeadFault::excerpt_in`].
@@ -144,8 +182,9 @@ impl<F: fmt::Display> fmt::Display for HeadExcerpt<'_, F> {
         }
         write!(f, "{}", self.fault)?;
         let has_line = match self.fault.fault {
-            Fault::NoEnd => false,
-            Fault::NoRequestLine | Fault::NoStatusLine | Fault::Own => !self.fault.line.is_empty(),
+            Fault::NoEnd | Fault::NoRequestLine | Fault::NoStatusLine | Fault::Own => {
+                !self.fault.line.is_empty()
+            }
             _ => true,
         };
         if !has_line {

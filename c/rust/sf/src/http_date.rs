@@ -30,16 +30,50 @@ pub(crate) fn fault(value: &[u8]) -> (usize, &'static str) {
         FIXED
     };
     let mut at = 0;
+    let (mut day, mut month, mut year) = (0, 0, 0);
     for part in format {
+        match part {
+            b'd' | b'D' => day = at,
+            b'm' => month = at,
+            b'y' | b'Y' => year = at,
+            _ => {}
+        }
         match part_length(&value[at..], *part) {
             Some(length) => at += length,
             None => return (at, words(*part)),
         }
     }
     if at < value.len() {
-        (at, "the end of ")
+        return (at, "the end of ");
+    }
+    let count = match format {
+        RFC850 => 1970 + (number(&value[year..year + 2]) + 30) % 100,
+        _ => number(&value[year..year + 4]),
+    };
+    if number(&value[day..day + 2]) > days_in(&value[month..month + 3], count) {
+        (day, "a day of that month in ")
+    } else if count < 1970 {
+        (year, "a year from 1970 on in ")
     } else {
-        (0, "a day from 1970 on and its weekday in ")
+        (0, "the weekday of that day in ")
+    }
+}
+
+/// The number of some digits, of which the first may be a space.
+fn number(digits: &[u8]) -> u32 {
+    let values = digits
+        .iter()
+        .map(|byte| u32::from(byte.saturating_sub(b'0')));
+    values.fold(0, |number, digit| number * 10 + digit)
+}
+
+/// How many days a month of a year has.
+fn days_in(month: &[u8], year: u32) -> u32 {
+    match month {
+        b"Feb" if year % 4 == 0 && (year % 100 != 0 || year % 400 == 0) => 29,
+        b"Feb" => 28,
+        b"Apr" | b"Jun" | b"Sep" | b"Nov" => 30,
+        _ => 31,
     }
 }
 

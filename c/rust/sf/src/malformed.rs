@@ -45,7 +45,7 @@ pub enum Fault {
     /// The first member of `Age` is not one or more digits.
     NotAnAge,
     /// A member of Cache-Status that does not name a cache: see [`Error::NotACache`]. A
-    /// [`Head`](crate::Head) reports it.
+    /// [`Head`](crate::Head) reports each.
     ///
     /// [`Error::NotACache`]: crate::Error::NotACache
     NotACache,
@@ -60,11 +60,16 @@ pub enum Fault {
         /// Why it is no field line, and where.
         line: Refusal,
     },
+    /// A line of a [`Head`](crate::Head) that is not that of a request has white space before its
+    /// colon, which a proxy must remove (RFC 9112 section 5.1). In a request it is
+    /// [`Fault::NotALine`].
+    SpaceBeforeColon,
     /// A head of [`Head::parse_request`](crate::Head::parse_request) without a request line.
     NoRequestLine,
     /// A head of [`Head::parse_response`](crate::Head::parse_response) without a status line.
     NoStatusLine,
-    /// A [`Head`](crate::Head) that does not end with an empty line.
+    /// A [`Head`](crate::Head) that does not end with an empty line: the text ended before it, in a
+    /// line or after one.
     NoEnd,
     /// `max-age`, or `s-maxage` in a shared cache, is no number of seconds, so that the response is
     /// stale (RFC 9111 section 4.2.1).
@@ -76,6 +81,8 @@ pub enum Fault {
     },
     /// The same, since `Cache-Control` had it before with another number.
     OtherSeconds {
+        /// `max-age` or `s-maxage`.
+        directive: &'static str,
         /// Where the argument begins, likewise.
         offset: usize,
     },
@@ -105,6 +112,9 @@ pub enum StartFault {
     /// It begins with a version, and no space and three digits follow, of which the first is not 0
     /// (section 4).
     NoStatusCode,
+    /// It has a method, a target and a version, and there is white space in the target (section
+    /// 3.2).
+    SpaceInTarget,
     /// It is neither of the others, and no request line (section 3).
     NotARequestLine,
 }
@@ -121,6 +131,7 @@ impl StartFault {
             StartFault::BarredByte => "a CR, LF or NUL in it",
             StartFault::NoVersion => "no version",
             StartFault::NoStatusCode => "no status code of three digits",
+            StartFault::SpaceInTarget => "white space in the target",
             StartFault::NotARequestLine => "no method, target and version",
         }
     }
@@ -139,7 +150,9 @@ impl fmt::Display for Fault {
             Fault::NotADate => write!(f, "expected {DATE}"),
             Fault::Repeated => f.pad("there are several lines"),
             Fault::NotAnAge | Fault::NotSeconds { .. } => f.pad("expected a number of seconds"),
-            Fault::OtherSeconds { .. } => f.pad("the directive had another value before"),
+            Fault::OtherSeconds { directive, .. } => {
+                write!(f, "{directive} had another value before")
+            }
             Fault::Own => f.pad("a fault that the program found"),
             Fault::NotACache => f.pad("the member does not name a cache"),
             Fault::NotALine(refusal) => {
@@ -150,6 +163,7 @@ impl fmt::Display for Fault {
                 let why = line_fault(line).unwrap_or("it begins with white space");
                 write!(f, "neither a start line ({start}) nor a field line ({why})")
             }
+            Fault::SpaceBeforeColon => f.pad("white space before the colon"),
             Fault::NoRequestLine => f.pad("the head of a request begins with a request line"),
             Fault::NoStatusLine => f.pad("the head of a response begins with a status line"),
             Fault::NoEnd => f.pad("the head does not end with an empty line"),

@@ -120,9 +120,7 @@ impl<'k> Place<'k> {
         let mut index = 0;
         while walk.peek().is_some() {
             walk.one_of_field(self, index);
-            walk.spaces();
-            walk.at += 1; // a comma
-            walk.spaces();
+            walk.comma();
             index += 1;
         }
         walk.place
@@ -195,6 +193,26 @@ impl<'a, 't: 'a> Node<'a, 't> {
     }
 }
 
+/// The places of the members of a well-formed List that are no Items of a String or a Token.
+#[cfg(feature = "alloc")]
+pub(crate) fn nameless(list: &[u8]) -> impl Iterator<Item = usize> + '_ {
+    let mut walk = Walk {
+        text: list,
+        at: 0,
+        place: 0,
+    };
+    walk.spaces();
+    let is_nameless = |at: &usize| !matches!(list[*at], b'"' | b'*' | b'a'..=b'z' | b'A'..=b'Z');
+    let members = core::iter::from_fn(move || {
+        let begin = walk.at;
+        walk.peek()?;
+        walk.member(None);
+        walk.comma();
+        Some(begin)
+    });
+    members.filter(is_nameless)
+}
+
 /// A walk over a text of a field, which ends there whatever the text is.
 struct Walk<'t> {
     text: &'t [u8],
@@ -219,6 +237,13 @@ impl Walk<'_> {
         while let Some(b' ' | b'\t') = self.peek() {
             self.at += 1;
         }
+    }
+
+    /// Goes past a comma and the white space around it.
+    fn comma(&mut self) {
+        self.spaces();
+        self.at += 1;
+        self.spaces();
     }
 
     /// Goes past the bare item or key that begins here, in a text that has none past a byte.

@@ -23,12 +23,13 @@ fn start_lines() {
         ("HTTP/1.1 404", 404),
         ("HTTP/1.0 100 \r\n", 100),
         ("HTTP/2 999 ", 999),
+        ("HTTP/2 200", 200), // as curl prints it
     ];
     let request_lines = [
         "GET / HTTP/1.1",
         "GET http://a:80/ HTTP/1.1",
         "OPTIONS * HTTP/1.1\r\n",
-        "GET /a b HTTP/3",
+        "GET / HTTP/3",
     ];
     let others = [
         "HTTP/1.1",
@@ -52,6 +53,16 @@ fn start_lines() {
         " / HTTP/1.1",
         "  HTTP/1.1",
         "ICY 200 OK",
+        // "No whitespace is allowed in the request-target" (RFC 9112 section 3.2), and what is
+        // white space for some recipients is "SP, HTAB, VT (%x0B), FF (%x0C), or bare CR" (3).
+        "GET /a b HTTP/1.1",
+        "GET /a\tb HTTP/1.1",
+        "GET /a\x0bb HTTP/1.1",
+        "GET /a\x0cb HTTP/1.1",
+        "GET  / HTTP/1.1",
+        "GET /  HTTP/1.1",
+        "GET /\t HTTP/1.1",
+        "GET  HTTP/1.1 HTTP/2",
     ];
     let statuses = status_lines.map(|(line, status)| (line, Some(status), false));
     let requests = request_lines.map(|line| (line, None, true));
@@ -69,14 +80,15 @@ fn start_lines() {
         let is_fault_of_first =
             |one: &HeadFault<'_>| matches!(one.fault, Fault::NotAStartLine { .. });
         assert!(head.malformed().iter().all(is_fault_of_first));
-        // In a request, no white space may be before the colon (RFC 9112 section 5.1).
+        // White space before the colon: in a request the line is refused (RFC 9112 section 5.1).
         assert_eq!(head.add_line("Age \t: 1").unwrap(), !is_request);
-        // Only the first line is a start line.
         let count = head.malformed().len();
+        assert_eq!(count, 1 + usize::from(!is_start));
+        // Only the first line is a start line.
         assert!(!head.add_line(line).unwrap() && head.is_incomplete());
         assert_eq!((head.status(), head.malformed().len()), (status, count + 1));
         assert!(matches!(head.malformed()[count].fault, Fault::NotALine(_)));
-        for before in ["a: b", "a"] {
+        for before in ["a: b", "a", "a : b"] {
             let mut head = Head::new(parser());
             head.add_line(before).unwrap();
             let count = head.malformed().len();
@@ -136,7 +148,7 @@ fn start_lines_with_a_barred_byte() {
     }
     // Other bytes have no such meaning.
     for (line, method) in [
-        (&b"GET /\x0b\xe9\x7f HTTP/1.1"[..], Some(&b"GET"[..])),
+        (&b"GET /\x01\xe9\x7f HTTP/1.1"[..], Some(&b"GET"[..])),
         (b"HTTP/1.1 200 \xe9\x01\t", None),
     ] {
         let mut head = Head::new(parser());
@@ -156,10 +168,11 @@ fn what_start_lines_say() {
             Some("GET"),
         ),
         (
-            "\r\n\nget  HTTP/1.1 HTTP/2\n",
-            Some("get  HTTP/1.1 HTTP/2"),
+            "\r\n\nget HTTP/1.1 HTTP/2\n",
+            Some("get HTTP/1.1 HTTP/2"),
             Some("get"),
         ),
+        ("get  HTTP/1.1 HTTP/2\n", None, None),
         (
             "M-SEARCH * HTTP/1.1",
             Some("M-SEARCH * HTTP/1.1"),
@@ -193,6 +206,7 @@ fn heads_of_a_kind() {
     let request = "the head of a request begins with a request line";
     let response = "the head of a response begins with a status line";
     let end = "the head does not end with an empty line";
+    let cut_off = "the head is cut off: its last line has no line end";
     let no_colon = "not a field line: no colon after the name";
     let neither =
         "neither a start line (no method, target and version) nor a field line (no colon \
@@ -210,7 +224,9 @@ fn heads_of_a_kind() {
             [vec![(3, 0, request)], vec![]],
         ),
         ("Age: 1\nVia: a\n\n", both(1, vec![])),
-        ("\nAge: 1", both(2, vec![(3, 0, end)])),
+        ("\nAge: 1", both(2, vec![(2, 6, cut_off)])),
+        ("\nAge: 1\r", both(2, vec![(2, 7, cut_off)])),
+        ("\nAge: 1\r\n", both(2, vec![(3, 0, end)])),
         ("Age: 1\nAge 1\n\n", both(1, vec![(2, 4, no_colon)])),
         (
             "HTTP/1.1 200\nAge 1\n\n",
@@ -221,11 +237,11 @@ fn heads_of_a_kind() {
         ),
         (
             "GET /\nAge: 1\n\n",
-            [vec![(1, 4, neither)], vec![(1, 4, neither)]],
+            [vec![(1, 5, neither)], vec![(1, 5, neither)]],
         ),
         ("", both(1, vec![(1, 0, end)])),
         ("\r\n\n", both(3, vec![(3, 0, end)])),
-        ("\r", both(1, vec![(1, 0, end)])),
+        ("\r", both(1, vec![(1, 1, cut_off)])),
     ];
     for (text, expected) in rows {
         let head = Head::parse(parser(), text).unwrap();
@@ -552,6 +568,7 @@ fn words_of_lines() {
     let within = "a CR, LF or NUL in it";
     let no_code = "no status code of three digits";
     let at_end = "no method, target and version";
+    let in_target = "white space in the target";
     for (line, at, start, place, first, other) in [
         (" x", 0, at_end, 0, begins, continues),
         ("\t: x", 0, at_end, 0, begins, continues),
@@ -560,9 +577,20 @@ fn words_of_lines() {
         ("\u{e9}", 0, at_end, 0, "no name", "no name"),
         ("\0", 0, within, 0, "no name", "no name"),
         ("Age", 3, at_end, 3, no_colon, no_colon),
-        ("a b: c", 2, at_end, 2, no_colon, no_colon),
-        ("GET /", 4, at_end, 4, no_colon, no_colon),
-        ("GET / HTTP/", 4, at_end, 4, no_colon, no_colon),
+        ("a b: c", 5, at_end, 2, no_colon, no_colon),
+        ("GET ", 4, at_end, 4, no_colon, no_colon),
+        ("GET /", 5, at_end, 4, no_colon, no_colon),
+        ("GET / HTTP/", 6, at_end, 4, no_colon, no_colon),
+        ("GET / HTTP/1.1x", 14, at_end, 4, no_colon, no_colon),
+        ("GET / HTTP/1.1 ", 14, at_end, 4, no_colon, no_colon),
+        ("GET /\tHTTP/1.1", 5, at_end, 4, no_colon, no_colon),
+        ("GET  HTTP/1.1", 4, at_end, 5, no_colon, no_colon),
+        ("ICY 200 OK", 8, at_end, 4, no_colon, no_colon),
+        ("HTTP 1.1", 8, at_end, 5, no_colon, no_colon),
+        ("GET /a b HTTP/1.1", 6, in_target, 4, no_colon, no_colon),
+        ("GET /a\tb HTTP/1.1", 6, in_target, 4, no_colon, no_colon),
+        ("GET  / HTTP/2", 4, in_target, 5, no_colon, no_colon),
+        ("GET /  HTTP/1.1", 5, in_target, 4, no_colon, no_colon),
         ("a: \0", 3, within, 3, bad_byte, bad_byte),
         ("a:b\rc\0", 3, within, 3, bad_byte, bad_byte),
         ("GET / HTTP/1.1\0", 14, within, 4, no_colon, no_colon),
@@ -625,7 +653,9 @@ fn words_of_lines() {
 /// Where a date is malformed, in each of its formats (RFC 9110 section 5.6.7).
 #[test]
 fn parts_of_dates() {
-    let unreal = "a day from 1970 on and its weekday in ";
+    let month = "a day of that month in ";
+    let weekday = "the weekday of that day in ";
+    let year = "a year from 1970 on in ";
     for (value, place, part) in [
         ("0", 0, ""),
         ("", 0, ""),
@@ -645,9 +675,19 @@ fn parts_of_dates() {
         ("Sun, 06 Nov 1994 08:49:37", 25, "a space in "),
         ("Sun, 06 Nov 1994 08:49:37 UTC", 26, "GMT in "),
         ("Sun, 06 Nov 1994 08:49:37 GMT+1", 29, "the end of "),
-        ("Mon, 06 Nov 1994 08:49:37 GMT", 0, unreal),
-        ("Fri, 31 Feb 1995 08:49:37 GMT", 0, unreal),
-        ("Wed, 31 Dec 1969 23:59:59 GMT", 0, unreal),
+        ("Mon, 06 Nov 1994 08:49:37 GMT", 0, weekday),
+        ("Fri, 31 Feb 1995 08:49:37 GMT", 5, month),
+        ("Wed, 31 Dec 1969 23:59:59 GMT", 12, year),
+        ("Thu, 29 Feb 1900 08:49:37 GMT", 5, month),
+        ("Wed, 29 Feb 2023 08:49:37 GMT", 5, month),
+        ("Wed, 29 Feb 2024 08:49:37 GMT", 0, weekday),
+        ("Fri, 31 Apr 2026 08:49:37 GMT", 5, month),
+        ("Monday, 29-Feb-99 08:49:37 GMT", 8, month),
+        ("Friday, 29-Feb-00 08:49:37 GMT", 0, weekday),
+        ("Monday, 06-Nov-94 08:49:37 GMT", 0, weekday),
+        ("Sun Sep 31 08:49:37 1994", 8, month),
+        ("Sat Nov  6 08:49:37 1994", 0, weekday),
+        ("Wed Dec 31 23:59:59 1969", 20, year),
         ("Sunday 06-Nov-94 08:49:37 GMT", 6, "a comma in "),
         ("Sunday, 06 Nov 1994 08:49:37 GMT", 10, "a hyphen in "),
         ("Sunday, 06-Nov-9 08:49:37 GMT", 15, "the year in "),
@@ -679,36 +719,43 @@ fn parts_of_dates() {
 #[test]
 fn numbers_of_seconds() {
     let none = None;
-    for (text, shared, private, number, is_other) in [
+    let (seconds, other) = ("", "max-age");
+    for (text, shared, private, number, directive) in [
         (
             r#"Cache-Control: max-age=60, s-maxage="6\0""#,
             none,
             none,
             0,
-            false,
+            seconds,
         ),
-        ("Cache-Control: max-age=6o", Some(23), Some(23), 1, false),
+        ("Cache-Control: max-age=6o", Some(23), Some(23), 1, seconds),
         (
             r#"Cache-Control: a="max-age=x", Max-Age"#,
             Some(37),
             Some(37),
             1,
-            false,
+            seconds,
         ),
-        (r#"Cache-Control: max-age="""#, Some(23), Some(23), 1, false),
+        (
+            r#"Cache-Control: max-age="""#,
+            Some(23),
+            Some(23),
+            1,
+            seconds,
+        ),
         (
             r#"Cache-Control: max-age="6\o""#,
             Some(23),
             Some(23),
             1,
-            false,
+            seconds,
         ),
         (
             "Cache-Control: max-age=-1 , public",
             Some(23),
             Some(23),
             1,
-            false,
+            seconds,
         ),
         (
             "Cache-Control: max-age=60\nX: y\n\
@@ -716,58 +763,77 @@ fn numbers_of_seconds() {
             Some(46),
             Some(46),
             3,
-            true,
+            other,
         ),
         (
             "Cache-Control: max-age=99999999999, max-age=99999999998",
             none,
             none,
             0,
-            false,
+            seconds,
+        ),
+        (
+            "Cache-Control: max-age=5, s-maxage=6\nCache-Control: S-Maxage=7",
+            Some(24),
+            none,
+            2,
+            "s-maxage",
         ),
         (
             "Cache-Control: s-maxage=x, max-age=60",
             Some(24),
             none,
             1,
-            false,
+            seconds,
         ),
         (
             "Cache-Control: s-maxage=60, max-age=x",
             none,
             Some(36),
             1,
-            false,
+            seconds,
         ),
         (
             "Cache-Control: max-age=x, must-revalidate",
             Some(23),
             Some(23),
             1,
-            false,
+            seconds,
         ),
-        ("Cache-Control: max-age=x, no-store", none, none, 0, false),
-        ("Cache-Control: max-age=x, no-cache", none, none, 0, false),
+        ("Cache-Control: max-age=x, no-store", none, none, 0, seconds),
+        ("Cache-Control: max-age=x, no-cache", none, none, 0, seconds),
         (
             "Cache-Control: max-age=x, private",
             none,
             Some(23),
             1,
-            false,
+            seconds,
         ),
-        ("T: max-age=1.5", Some(11), Some(11), 1, false),
-        (r#"T: a="max-age=1", max-age"#, Some(25), Some(25), 1, false),
+        ("T: max-age=1.5", Some(11), Some(11), 1, seconds),
+        (
+            r#"T: a="max-age=1", max-age"#,
+            Some(25),
+            Some(25),
+            1,
+            seconds,
+        ),
         (
             "T: a=(max-age)\nT: b;max-age=1, max-age=\"60\"",
             Some(24),
             Some(24),
             2,
-            false,
+            seconds,
         ),
-        ("T: max-age=5\nT: max-age=-5", Some(11), Some(11), 2, false),
-        ("T: max-age=-5\nT: max-age=5", none, none, 0, false),
-        ("T: s-maxage=?0, max-age=6", Some(12), none, 1, false),
-        ("T: max-age=a, no-cache", none, none, 0, false),
+        (
+            "T: max-age=5\nT: max-age=-5",
+            Some(11),
+            Some(11),
+            2,
+            seconds,
+        ),
+        ("T: max-age=-5\nT: max-age=5", none, none, 0, seconds),
+        ("T: s-maxage=?0, max-age=6", Some(12), none, 1, seconds),
+        ("T: max-age=a, no-cache", none, none, 0, seconds),
     ] {
         for (cache, place) in [(Cache::Shared, shared), (Cache::Private, private)] {
             let text = format!("{text}\n\n");
@@ -781,10 +847,10 @@ fn numbers_of_seconds() {
                 .map(|one| (one.number, one.offset, one.fault))
                 .collect();
             let expected = place.map(|offset| {
-                let fault = if is_other {
-                    Fault::OtherSeconds { offset }
-                } else {
+                let fault = if directive.is_empty() {
                     Fault::NotSeconds { offset }
+                } else {
+                    Fault::OtherSeconds { directive, offset }
                 };
                 (number, offset, fault)
             });
@@ -799,13 +865,16 @@ fn numbers_of_seconds() {
     }
     let words = [
         Fault::NotSeconds { offset: 0 },
-        Fault::OtherSeconds { offset: 0 },
+        Fault::OtherSeconds {
+            directive: "s-maxage",
+            offset: 0,
+        },
     ];
     assert_eq!(
         words.map(|fault| fault.to_string()),
         [
             "expected a number of seconds",
-            "the directive had another value before"
+            "s-maxage had another value before"
         ]
     );
 }
@@ -932,6 +1001,446 @@ fn very_many_faults() {
     assert_eq!(head.malformed().len(), 400_000);
 }
 
+/// What is malformed in whole heads: "A server MUST reject .. any received request message that
+/// contains whitespace between a header field name and colon", and "A proxy MUST remove any such
+/// whitespace from a response message" (RFC 9112 section 5.1); "No whitespace is allowed in the
+/// request-target" (section 3.2). `c/tests/few_arguments.c` has the same rows.
+#[test]
+fn faults_of_whole_heads() {
+    type Row<'a> = (&'a str, &'a str, usize, bool, &'a [&'a str]);
+    let rows: &[Row<'_>] = &[
+        (
+            "request",
+            "GET /a b HTTP/1.1\r\nHost : x\r\nPriority: u=1\r\n\r\n",
+            1,
+            true,
+            &[
+                "line 1, place 6: neither a start line (white space in the target) \
+                 nor a field line (no colon after the name)\n\
+                 GET /a b HTTP/1.1\n\
+                 \x20     ^",
+                "line 2, place 4: not a field line: white space after the name\n\
+                 Host : x\n\
+                 \x20   ^",
+            ],
+        ),
+        (
+            "head",
+            "GET /a b HTTP/1.1\r\nHost : x\r\nPriority: u=1\r\n\r\n",
+            2,
+            true,
+            &[
+                "line 1, place 6: neither a start line (white space in the target) \
+                 nor a field line (no colon after the name)\n\
+                 GET /a b HTTP/1.1\n\
+                 \x20     ^",
+                "line 2, place 4: white space before the colon\n\
+                 Host : x\n\
+                 \x20   ^",
+            ],
+        ),
+        (
+            "response",
+            "GET /a b HTTP/1.1\r\nHost : x\r\nPriority: u=1\r\n\r\n",
+            2,
+            true,
+            &[
+                "line 1, place 6: neither a start line (white space in the target) \
+                 nor a field line (no colon after the name)\n\
+                 GET /a b HTTP/1.1\n\
+                 \x20     ^",
+                "line 2, place 4: white space before the colon\n\
+                 Host : x\n\
+                 \x20   ^",
+            ],
+        ),
+        (
+            "request",
+            "\r\nGET /\nA : b\nC: d\n\n",
+            1,
+            true,
+            &[
+                "line 2, place 5: neither a start line (no method, target and version) \
+                 nor a field line (no colon after the name)\n\
+                 GET /\n\
+                 \x20    ^",
+                "line 3, place 1: not a field line: white space after the name\n\
+                 A : b\n\
+                 \x20^",
+            ],
+        ),
+        (
+            "response",
+            "HTTP/1.1 2x0 OK\r\nAge \t: 1\r\n\r\n",
+            1,
+            true,
+            &[
+                "line 1, place 9: neither a start line (no status code of three digits) \
+                 nor a field line (no colon after the name)\n\
+                 HTTP/1.1 2x0 OK\n\
+                 \x20        ^",
+                "line 2, place 3: white space before the colon\n\
+                 Age ?: 1\n\
+                 \x20  ^",
+            ],
+        ),
+        (
+            "response",
+            "HTTP/1.1 200 OK\r\nAge\t : 1\r\nVia: a\r\n\r\n",
+            2,
+            false,
+            &["line 2, place 3: white space before the colon\n\
+                 Age? : 1\n\
+                 \x20  ^"],
+        ),
+        (
+            "request",
+            "HTTP/1.1 200 OK\r\nAge\t : 1\r\nVia: a\r\n\r\n",
+            1,
+            true,
+            &[
+                "line 1, place 0: the head of a request begins with a request line\n\
+                 HTTP/1.1 200 OK\n\
+                 ^",
+                "line 2, place 3: not a field line: white space after the name\n\
+                 Age? : 1\n\
+                 \x20  ^",
+            ],
+        ),
+        (
+            "response",
+            "GET / HTTP/1.1\nAge : 1\n\n",
+            0,
+            true,
+            &[
+                "line 1, place 0: the head of a response begins with a status line\n\
+                 GET / HTTP/1.1\n\
+                 ^",
+                "line 2, place 3: not a field line: white space after the name\n\
+                 Age : 1\n\
+                 \x20  ^",
+            ],
+        ),
+        (
+            "request",
+            "Age : 1\n\n",
+            0,
+            true,
+            &[
+                "line 1, place 6: neither a start line (no method, target and version) \
+                 nor a field line (white space after the name)\n\
+                 Age : 1\n\
+                 \x20     ^",
+            ],
+        ),
+        (
+            "request",
+            "Age\t: 1\n\n",
+            0,
+            true,
+            &[
+                "line 1, place 3: neither a start line (no method, target and version) \
+                 nor a field line (white space after the name)\n\
+                 Age?: 1\n\
+                 \x20  ^",
+            ],
+        ),
+        (
+            "response",
+            "Age : 1\n\n",
+            1,
+            true,
+            &[
+                "line 1, place 3: white space before the colon\n\
+                 Age : 1\n\
+                 \x20  ^",
+                "line 1, place 0: the head of a response begins with a status line\n\
+                 Age : 1\n\
+                 ^",
+            ],
+        ),
+        (
+            "head",
+            "Age : 1\n\n",
+            1,
+            false,
+            &["line 1, place 3: white space before the colon\n\
+                 Age : 1\n\
+                 \x20  ^"],
+        ),
+        ("response", "HTTP/2 200\n\n", 0, false, &[]),
+        (
+            "request",
+            "GET / HTTP/1.1\nHost: x",
+            1,
+            true,
+            &[
+                "line 2, place 7: the head is cut off: its last line has no line end\n\
+                 Host: x\n\
+                 \x20      ^",
+            ],
+        ),
+        (
+            "request",
+            "GET / HTTP/1.1\nHost",
+            0,
+            true,
+            &[
+                "line 2, place 4: not a field line: no colon after the name\n\
+                 Host\n\
+                 \x20   ^",
+                "line 2, place 4: the head is cut off: its last line has no line end\n\
+                 Host\n\
+                 \x20   ^",
+            ],
+        ),
+        (
+            "request",
+            "GET / HTTP/1.1\nHost: x\r",
+            1,
+            true,
+            &[
+                "line 2, place 8: the head is cut off: its last line has no line end\n\
+                 Host: x?\n\
+                 \x20       ^",
+            ],
+        ),
+        (
+            "request",
+            "GET / HTTP/1.1",
+            0,
+            true,
+            &[
+                "line 1, place 14: the head is cut off: its last line has no line end\n\
+                 GET / HTTP/1.1\n\
+                 \x20             ^",
+            ],
+        ),
+        (
+            "response",
+            "HTTP/1.1 20",
+            0,
+            true,
+            &[
+                "line 1, place 9: neither a start line (no status code of three digits) \
+                 nor a field line (no colon after the name)\n\
+                 HTTP/1.1 20\n\
+                 \x20        ^",
+                "line 1, place 11: the head is cut off: its last line has no line end\n\
+                 HTTP/1.1 20\n\
+                 \x20          ^",
+            ],
+        ),
+        (
+            "request",
+            "GET / HTTP/1.1\r\n",
+            0,
+            true,
+            &["line 2, place 0: the head does not end with an empty line"],
+        ),
+        (
+            "head",
+            "Host: x\r\n\r",
+            1,
+            true,
+            &[
+                "line 2, place 1: the head is cut off: its last line has no line end\n\
+                 ?\n\
+                 \x20^",
+            ],
+        ),
+        (
+            "response",
+            "",
+            0,
+            true,
+            &[
+                "line 1, place 0: the head of a response begins with a status line",
+                "line 1, place 0: the head does not end with an empty line",
+            ],
+        ),
+    ];
+    for (kind, text, lines, is_incomplete, expected) in rows {
+        let head = match *kind {
+            "request" => Head::parse_request(parser(), text).unwrap(),
+            "response" => Head::parse_response(parser(), text).unwrap(),
+            _ => Head::parse(parser(), text).unwrap(),
+        };
+        assert_eq!(messages(&head, 60), *expected, "{kind} {text:?}");
+        assert_eq!(head.lines().len(), *lines, "{kind} {text:?}");
+        assert_eq!(head.is_incomplete(), *is_incomplete, "{kind} {text:?}");
+    }
+}
+
+/// Each member of Cache-Status that names no cache is a fault: "Each List member identifies the cache
+/// that inserted it, and this identifier MUST be a String or Token" (RFC 9211 section 2).
+/// `c/tests/few_arguments.c` has the same rows.
+#[test]
+fn members_that_name_no_cache() {
+    let rows: &[(&str, &[&str])] = &[
+        (
+            "Cache-Status: 7, a, (b c), \"d, 1\"; x=\", 2\", ?1,*e\n\n",
+            &[
+                "line 1, place 14: Cache-Status: the member does not name a cache\n\
+                 Cache-Status: 7, a, (b c), \"d, 1\"; x=\", 2\", ?1,*e\n\
+                 \x20             ^",
+                "line 1, place 20: Cache-Status: the member does not name a cache\n\
+                 Cache-Status: 7, a, (b c), \"d, 1\"; x=\", 2\", ?1,*e\n\
+                 \x20                   ^",
+                "line 1, place 44: Cache-Status: the member does not name a cache\n\
+                 Cache-Status: 7, a, (b c), \"d, 1\"; x=\", 2\", ?1,*e\n\
+                 \x20                                           ^",
+            ],
+        ),
+        (
+            "Cache-Status: a; hit, 1.5\nAge: 1\ncache-status:\t:YQ==:, *b;hit\n\n",
+            &[
+                "line 1, place 22: Cache-Status: the member does not name a cache\n\
+                 Cache-Status: a; hit, 1.5\n\
+                 \x20                     ^",
+                "line 3, place 14: Cache-Status: the member does not name a cache\n\
+                 cache-status:?:YQ==:, *b;hit\n\
+                 \x20             ^",
+            ],
+        ),
+        (
+            "Cache-Status: \"c\nCache-Status: 1\", 2\nCache-Status: -3\n\n",
+            &[
+                "line 2, place 18: Cache-Status: the member does not name a cache\n\
+                 Cache-Status: 1\", 2\n\
+                 \x20                 ^",
+                "line 3, place 14: Cache-Status: the member does not name a cache\n\
+                 Cache-Status: -3\n\
+                 \x20             ^",
+            ],
+        ),
+        (
+            "HTTP/2 200\nCache-Status : 1, 2\nx\nCache-Status: 3\n\n",
+            &[
+                "line 2, place 12: white space before the colon\n\
+                 Cache-Status : 1, 2\n\
+                 \x20           ^",
+                "line 2, place 15: Cache-Status: the member does not name a cache\n\
+                 Cache-Status : 1, 2\n\
+                 \x20              ^",
+                "line 2, place 18: Cache-Status: the member does not name a cache\n\
+                 Cache-Status : 1, 2\n\
+                 \x20                 ^",
+                "line 3, place 1: not a field line: no colon after the name\n\
+                 x\n\
+                 \x20^",
+                "line 4, place 14: Cache-Status: the member does not name a cache\n\
+                 Cache-Status: 3\n\
+                 \x20             ^",
+            ],
+        ),
+        ("Cache-Status: a, \"b\", *c\n\n", &[]),
+        (
+            "Cache-Status: 1, 2,\n\n",
+            &[
+                "line 1, place 19: Cache-Status: the text ended, expected a letter, \
+                 a digit, a quote, `(`, `*`, `-`, `:`, `?`, a tab or a space\n\
+                 Cache-Status: 1, 2,\n\
+                 \x20                  ^",
+            ],
+        ),
+    ];
+    for (text, expected) in rows {
+        let mut head = Head::parse(parser(), text).unwrap();
+        for _ in 0..2 {
+            let hops = if expected.is_empty() { 3 } else { 0 };
+            assert_eq!(head.path().unwrap().hops().len(), hops);
+            assert_eq!(messages(&head, 60), *expected, "{text:?}");
+        }
+    }
+    // A line that is added later.
+    let mut head = Head::new(parser());
+    head.add_line("Cache-Status: 1, 2").unwrap();
+    head.add_line("x").unwrap();
+    head.path().unwrap();
+    head.add_line("cache-status: a, 3, 4").unwrap();
+    head.path().unwrap();
+    let places = head.malformed().iter().map(|one| (one.number, one.offset));
+    assert!(places.eq([(1, 14), (1, 17), (2, 1), (3, 17), (3, 20)]));
+    let is_refused = |one: &HeadFault<'_>| matches!(one.fault, Fault::NotALine(_));
+    assert!(is_refused(&head.malformed()[2]) && head.malformed()[4].fault == Fault::NotACache);
+    // Very many members, and very many faults of other lines after them: this would take minutes
+    // if each moved all others.
+    const MANY: usize = 100_000;
+    let text =
+        "Cache-Status:1".to_string() + &",1".repeat(MANY - 1) + "\n" + &"x\n".repeat(MANY) + "\n";
+    let mut head = Head::parse(parser(), &text).unwrap();
+    for _ in 0..2 {
+        head.path().unwrap();
+        assert_eq!(head.malformed().len(), 2 * MANY);
+    }
+    assert_eq!(head.malformed()[MANY].number, 2);
+    assert_eq!(head.malformed()[MANY - 1].offset, 13 + 2 * (MANY - 1));
+}
+
+/// Numbers with too many digits (RFC 9651 sections 3.3.1, 3.3.2 and 3.3.7), and what is like them.
+/// `c/tests/few_arguments.c` has the same rows.
+#[test]
+fn numbers_with_too_many_digits() {
+    for (value, place, is_long) in [
+        ("1234567890123456", 15, true),
+        ("-1234567890123456", 16, true),
+        ("a;q=1234567890123456", 19, true),
+        ("a, 1234567890123.5", 16, true),
+        ("-1234567890123.5", 14, true),
+        ("123456789012345.", 15, true),
+        ("1.2345", 5, true),
+        ("-123456789012.1234", 17, true),
+        ("@1234567890123456", 16, true),
+        ("@-1234567890123456", 17, true),
+        ("@1234567890123.5", 14, false),
+        ("@-1234567890123.5", 15, false),
+        ("?11", 2, false),
+        (":1234567890123.:", 14, false),
+        ("1.2.3", 3, false),
+        ("1..2", 2, false),
+        ("%\"%c31\"", 5, false),
+        ("123456789012345a", 15, false),
+        ("1.234.", 5, false),
+    ] {
+        let line = format!("A:{value}");
+        let mut received = Head::new(Parser::new());
+        received.add_line(&line).unwrap();
+        let mut other = Head::new(Parser::new());
+        other.add_field("A", value).unwrap();
+        for (mut head, place) in [(received, place + 2), (other, place)] {
+            assert_eq!(head.field::<List>("A").unwrap(), None);
+            let words = if is_long { "too many digits: " } else { "" };
+            let shown = head.malformed()[0].to_string();
+            let expected = format!("line 1, place {place}: A: {words}byte 0x");
+            assert!(shown.starts_with(&expected), "{shown}");
+        }
+    }
+}
+
+/// Lines to which the program gives one number are several lines all the same.
+#[test]
+fn lines_of_one_number() {
+    let mut head = Head::new(parser());
+    for line in ["A: (1)", "A: )", "B: x y", "?", "?"] {
+        head.set_number(7);
+        head.add_line(line).unwrap();
+    }
+    assert_eq!(head.malformed().len(), 2);
+    for _ in 0..2 {
+        assert_eq!(head.field::<List>("A").unwrap(), None);
+        assert_eq!(head.field::<Dictionary>("A").unwrap(), None);
+    }
+    assert_eq!(head.malformed().len(), 4);
+    let found = |at: usize| (head.malformed()[at].line, head.malformed()[at].offset);
+    assert_eq!(found(2), (&b"A: )"[..], 3));
+    assert_eq!(found(3), (&b"A: (1)"[..], 3));
+    assert_eq!(head.locate("B", 2).unwrap(), Some((head.lines()[2], 5)));
+    assert_eq!(head.locate("A", 5).unwrap(), Some((head.lines()[1], 3)));
+    head.add_fault("B", 2, "not so").unwrap();
+    assert_eq!(head.malformed()[4].line, b"B: x y");
+}
+
 /// Faults that a program finds.
 #[test]
 fn faults_of_programs() {
@@ -1005,7 +1514,7 @@ fn lines_like_others() {
     assert!(head.is_incomplete() && head.content().is_none());
     assert_eq!(
         messages(&head, 40),
-        ["line 3, place 0: the head does not end with an empty line"]
+        ["line 3, place 1: the head is cut off: its last line has no line end\n?\n ^"]
     );
 }
 
