@@ -18,3 +18,5 @@ mod scanning;
 mod thresholds;
 #[cfg(test)]
 mod whole_members;
+#[cfg(test)]
+mod windows;

@@ -452,7 +452,7 @@ fn are_same(one: &Result<Field, Refusal>, other: &Result<Field, Refusal>) -> boo
 }
 
 /// Whether the text is read directly as it is byte by byte, and as in chunks.
-fn is_read_the_same(
+pub(crate) fn is_read_the_same(
     alloc: Global,
     seed: &RandomState,
     dialect: Dialect,
