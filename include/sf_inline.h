@@ -208,7 +208,7 @@ static inline sf_text sf_text_of(const void *at, size_t length) {
 }
 
 static inline sf_text sf_cstr(const char *string) {
-  return sf_text_of(string, string == NULL ? 0 : strlen(string));
+  return string == NULL ? sf_text_of("", 0) : sf_text_of(string, strlen(string));
 }
 
 #if defined(SF_HAS_RANDOM_SEED)

@@ -90,7 +90,7 @@ int main(int count, char **words) {
   sf_head request = read_head(words[1], texts[0], sf_take_request);
   sf_head response = read_head(words[2], texts[1], sf_take_response);
 
-  sf_priority_flags merged; /* what the client asks for, and the server sets (RFC 9218 section 8) */
+  sf_priority_flags merged = SF_PRIORITY_UNSET; /* by client and server (RFC 9218 section 8) */
   must(sf_find_merged_priority(&context, &request, &response, &merged));
   printf("urgency %d%s\n", merged.urgency, merged.incremental ? ", incremental" : "");
   print_path(&context, &response);
@@ -99,7 +99,7 @@ int main(int count, char **words) {
   sf_target targets[] = {sf_target_of("ExampleCDN-Cache-Control"),
                          sf_target_of("CDN-Cache-Control")};
   sf_exchange exchange = sf_exchange_of(SF_SHARED_CACHE, (uint64_t)time(NULL));
-  sf_verdict verdict;
+  sf_verdict verdict = {0};
   exchange.is_understood = 1; /* this cache understands each final status code */
   sf_set_request(&exchange, &request);
   must(sf_decide_response(&context, &response, targets, 2, &exchange, &verdict));

@@ -59,7 +59,7 @@ int main(int count, char **words) {
   if (!sf_random_seed(&seed))
     give_up("no random bytes");
   sf_context context = sf_context_of(seed, SF_RFC8941); /* that the RFCs of these fields cite */
-  sf_priority_flags both;
+  sf_priority_flags both = SF_PRIORITY_UNSET;
   must(sf_find_merged_priority(&context, &asked, &answered, &both));
   printf("urgency %d%s\n", both.urgency, both.incremental ? ", incremental" : "");
 
@@ -71,7 +71,7 @@ int main(int count, char **words) {
     exchange.cache = strcmp(words[i], "private") == 0 ? SF_PRIVATE_CACHE : exchange.cache;
     exchange.is_understood |= strcmp(words[i], "understood") == 0;
   }
-  sf_verdict verdict;
+  sf_verdict verdict = {0};
   must(sf_decide_response(&context, &answered, targets, 2, &exchange, &verdict));
   char verdict_text[SF_VERDICT_SIZE(32)];
   sf_buffer said = SF_BUFFER(verdict_text), out = SF_BUFFER(path);
