@@ -1545,18 +1545,26 @@ static inline const char *sf_start_fault(sf_text line, uint64_t *place) {
   return "no version";
 }
 
+/* Returns whether two refusals of a line have the same place and expect the same: for the function
+ * below. */
+static inline int sf_is_same_refusal(const sf_refusal *a, const sf_refusal *b) {
+  return a->offset == b->offset && a->expected_low == b->expected_low &&
+         a->expected_high == b->expected_high && a->may_end == b->may_end;
+}
+
 /* Adds a fault to those of a head, in the order of the lines, unless it is one of them. One that
- * the program found is added each time, and is not compared with those of the same line. For the
- * functions below. */
+ * the program found, or of a line that is no field line, is added each time, and is not compared
+ * with those of the same line. For the functions below. */
 static inline void sf_note_fault(sf_head *head, const char *field, sf_reason reason,
                                  const char *message, const sf_location *location) {
   sf_fault *faults = head->faults.at;
   size_t i = head->faults.length;
-  for (; i > 0 && reason != SF_FAULT_OWN && faults[i - 1].location.number >= location->number; --i)
+  int is_new = reason == SF_FAULT_OWN || reason == SF_FAULT_NOT_A_LINE;
+  for (; i > 0 && !is_new && faults[i - 1].location.number >= location->number; --i)
     if (strcmp(faults[i - 1].field, field) == 0 && faults[i - 1].reason == (uint32_t)reason &&
         sf_is_same(sf_cstr(faults[i - 1].message), sf_cstr(message)) &&
         faults[i - 1].location.number == location->number &&
-        faults[i - 1].location.refusal.offset == location->refusal.offset)
+        sf_is_same_refusal(&faults[i - 1].location.refusal, &location->refusal))
       return;
   ++head->faults.required;
   if (head->faults.length >= head->faults.capacity)

@@ -1878,6 +1878,26 @@ static void fields_of_a_head(void) {
     CHECK(two[0].location.number == 1 && two[0].location.refusal.offset == 3);
     CHECK(two[1].location.number == 2 && two[1].location.refusal.offset == 3);
   }
+  /* faults at the same place of one line, which is read as two kinds, and of lines with one number */
+  {
+    sf_head_line one_line[1];
+    sf_fault four[5];
+    sf_head one = sf_head_in(SF_HEAD_LINES(one_line), sf_buffer_of(NULL, 0));
+    one.faults = SF_FAULTS(four);
+    CHECK(sf_add_head_line(&one, sf_cstr("A: )")) == SF_OK);
+    for (int twice = 0; twice < 2; ++twice) {
+      one.number = 2;
+      CHECK(sf_add_head_line(&one, sf_cstr(twice ? "c" : "b")) == SF_REFUSED);
+      CHECK(sf_check_field(&context, SF_LIST, &one, "A") == SF_REFUSED);
+      CHECK(sf_check_field(&context, SF_DICT, &one, "A") == SF_REFUSED);
+    }
+    CHECK(one.faults.length == 4 && one.faults.required == 4);
+    CHECK(says(&four[0], 40, "line 1, place 3: A: byte 0x29 ')', expected a letter, a digit, a quote, "
+                             "`(`, `*`, `-`, `:`, `?`, a space or the end\nA: )\n   ^"));
+    CHECK(says(&four[1], 40, "line 1, place 3: A: byte 0x29 ')', expected a lower-case letter, `*`, a "
+                             "space or the end\nA: )\n   ^"));
+    CHECK(is(four[2].location.line, "b") && is(four[3].location.line, "c"));
+  }
 
   /* when there is no capacity for faults, they are counted */
   head.faults = sf_faults_of(faults, 1);

@@ -183,7 +183,7 @@ impl<'a> Head<'a> {
             }
             if head.is_begun && without_end(line).is_empty() {
                 head.content = Some(rest);
-                head.number += 1;
+                head.count_line();
                 break;
             }
             head.add_line(line)?;
@@ -235,8 +235,8 @@ impl<'a> Head<'a> {
     /// ```
     pub fn add_line<T: AsRef<[u8]> + ?Sized>(&mut self, line: &'a T) -> Result<bool, Error> {
         let received = without_end(line.as_ref());
-        if !self.is_begun && self.takes_start_line(received) {
-            self.number += 1;
+        if received.is_empty() || !self.is_begun && self.takes_start_line(received) {
+            self.count_line();
             return Ok(false);
         }
         let refusal = match split(received, self.is_request) {
@@ -252,22 +252,25 @@ impl<'a> Head<'a> {
             }
             Err(refusal) => refusal,
         };
-        if !received.is_empty() {
-            let place = usize::try_from(refusal.offset).unwrap_or(usize::MAX);
-            let (fault, offset) = if self.is_begun {
-                (Fault::NotALine(refusal), place)
-            } else {
-                let (start, at) = start_fault(received);
-                let line = refusal;
-                (Fault::NotAStartLine { start, line }, at.unwrap_or(place))
-            };
-            let fault = HeadFault::of_line(fault, self.number, received, offset);
-            push(&mut self.malformed, fault)?;
-            self.is_incomplete = true;
-            self.is_begun = true;
-        }
-        self.number += 1;
+        let place = usize::try_from(refusal.offset).unwrap_or(usize::MAX);
+        let (fault, offset) = if self.is_begun {
+            (Fault::NotALine(refusal), place)
+        } else {
+            let (start, at) = start_fault(received);
+            let line = refusal;
+            (Fault::NotAStartLine { start, line }, at.unwrap_or(place))
+        };
+        let fault = HeadFault::of_line(fault, self.number, received, offset);
+        push(&mut self.malformed, fault)?;
+        self.is_incomplete = true;
+        self.is_begun = true;
+        self.count_line();
         Ok(false)
+    }
+
+    /// Sets the number of the next line.
+    fn count_line(&mut self) {
+        self.number = self.number.saturating_add(1);
     }
 
     /// Takes a start line, and returns whether the line is one (RFC 9112 section 2.1).
@@ -285,7 +288,7 @@ impl<'a> Head<'a> {
     /// Adds a field line.
     fn push_line(&mut self, line: HeadLine<'a>) -> Result<(), Error> {
         push(&mut self.lines, line)?;
-        self.number += 1;
+        self.count_line();
         self.is_begun = true;
         Ok(())
     }
@@ -612,9 +615,9 @@ impl<'a> Head<'a> {
             return Ok(None);
         }
         let offset = place.into().offset_in(field_text(&self.lines, name)?);
-        let found = self.found(Refusal::at(offset).in_head(&self.lines, name))?;
-        let line = self.lines.iter().find(|line| line.number == found.number);
-        Ok(line.map(|line| (*line, found.offset)))
+        let at = Refusal::at(offset).in_head(&self.lines, name);
+        let place = self.found(at)?.offset;
+        Ok(self.lines.get(at.line).map(|line| (*line, place)))
     }
 
     /// Adds a fault that the program finds itself to [`Head::malformed`]: at this place of a field,
