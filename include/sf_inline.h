@@ -1564,7 +1564,8 @@ static inline void sf_note_fault(sf_head *head, const char *field, sf_reason rea
     if (strcmp(faults[i - 1].field, field) == 0 && faults[i - 1].reason == (uint32_t)reason &&
         sf_is_same(sf_cstr(faults[i - 1].message), sf_cstr(message)) &&
         faults[i - 1].location.number == location->number &&
-        sf_is_same_refusal(&faults[i - 1].location.refusal, &location->refusal))
+        sf_is_same_refusal(&faults[i - 1].location.refusal, &location->refusal) &&
+        sf_is_same(faults[i - 1].location.line, location->line))
       return;
   ++head->faults.required;
   if (head->faults.length >= head->faults.capacity)

@@ -1898,6 +1898,27 @@ static void fields_of_a_head(void) {
                              "space or the end\nA: )\n   ^"));
     CHECK(is(four[2].location.line, "b") && is(four[3].location.line, "c"));
   }
+  {
+    sf_head_line two_lines[2];
+    char joined[32];
+    sf_fault two[2];
+    sf_target target = sf_target_of("T");
+    sf_verdict verdict;
+    sf_head both = sf_head_in(SF_HEAD_LINES(two_lines), SF_BUFFER(joined));
+    both.faults = SF_FAULTS(two);
+    CHECK(sf_add_head_line(&both, sf_cstr("T: max-age=x")) == SF_OK);
+    both.number = 1;
+    CHECK(sf_add_head_line(&both, sf_cstr("T:s-maxage=x")) == SF_OK);
+    for (int i = 0; i < 4; ++i) {
+      sf_exchange exchange = sf_exchange_of(i % 2 ? SF_SHARED_CACHE : SF_PRIVATE_CACHE, 0);
+      CHECK(sf_decide_response(&context, &both, &target, 1, &exchange, &verdict) == SF_OK);
+    }
+    CHECK(both.faults.length == 2 && both.faults.required == 2);
+    CHECK(says(&two[0], 40, "line 1, place 11: T: expected a number of seconds\nT: max-age=x\n"
+                            "           ^"));
+    CHECK(says(&two[1], 40, "line 1, place 11: T: expected a number of seconds\nT:s-maxage=x\n"
+                            "           ^"));
+  }
 
   /* when there is no capacity for faults, they are counted */
   head.faults = sf_faults_of(faults, 1);
