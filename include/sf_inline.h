@@ -702,9 +702,9 @@ static inline sf_node *sf_find_member_of(const sf_tree *tree, const char *key, s
 
 static inline sf_node *sf_find_parameter(const sf_tree *tree, const sf_node *node,
                                          const char *key) {
-  if (node == NULL)
+  if (node == NULL || node->size == 0)
     return NULL;
-  return sf_find_node(tree, (size_t)(node - tree->nodes.at), node->size,
+  return sf_find_node(tree, (size_t)(node - tree->nodes.at) + 1, node->size - 1,
                       node->type == SF_INNER_LIST ? SF_INNER_PARAMETER : SF_PARAMETER,
                       sf_cstr(key));
 }

@@ -316,6 +316,9 @@ static void trees(void) {
   CHECK(jk != NULL && jk->number == 4);
   CHECK(sf_find_parameter(&tree, abc, "q") == NULL && sf_find_parameter(&tree, inner, "jk") == NULL);
   CHECK(sf_find_parameter(&tree, inner, "r") == nodes + 9);
+  /* a parameter has none, not even itself */
+  CHECK(sf_find_parameter(&tree, b, "b") == NULL && sf_find_parameter(&tree, jk, "jk") == NULL);
+  CHECK(sf_find_parameter(&tree, q, "q") == NULL && sf_next_parameter(b, NULL) == NULL);
 
   /* of a type: that of the bare item, or SF_INNER_LIST; NULL is no node and has no parameters */
   static const struct {
