@@ -1162,8 +1162,9 @@ static inline sf_status sf_write_hop(sf_context *context, const sf_own_hop *own,
 /*
  * Writes a hop of a list that sf_read_hops read, as the canonical text of its member, for messages:
  * edge;hit;ttl=30. What sf_hop does not have is left out: parameters that the RFC does not define,
- * and those that count as absent. A buffer of SF_HOP_SIZE(list->bytes.length) bytes is always large
- * enough. The results are those of sf_write_hop.
+ * and those that count as absent. The i-th member of the tree that sf_read_tree or sf_find_tree
+ * reads is hop i, with all parameters. A buffer of SF_HOP_SIZE(list->bytes.length) bytes is always
+ * large enough. The results are those of sf_write_hop.
  *
  *   sf_hop hops[8];
  *   char bytes[64], text[SF_HOP_SIZE(64)];
