@@ -648,7 +648,8 @@ static inline const sf_node *sf_next_parameter(const sf_node *node, const sf_nod
 static inline sf_node *sf_find_member(const sf_tree *tree, const char *key);
 
 /* Returns the parameter of an Item or an Inner List that has this key (RFC 9651 section 3.1.2), or
- * NULL. The node is one of the tree, or NULL, which has no parameters; the key ends with a NUL. */
+ * NULL. The node is one of the tree, or NULL; a parameter and NULL have no parameters. The key ends
+ * with a NUL. */
 static inline sf_node *sf_find_parameter(const sf_tree *tree, const sf_node *node,
                                          const char *key);
 

@@ -707,9 +707,9 @@ static inline sf_node *sf_find_member_of(const sf_tree *tree, const char *key, s
 
 static inline sf_node *sf_find_parameter(const sf_tree *tree, const sf_node *node,
                                          const char *key) {
-  if (node == NULL)
+  if (node == NULL || node->size == 0)
     return NULL;
-  return sf_find_node(tree, (size_t)(node - tree->nodes.at), node->size,
+  return sf_find_node(tree, (size_t)(node - tree->nodes.at) + 1, node->size - 1,
                       node->type == SF_INNER_LIST ? SF_INNER_PARAMETER : SF_PARAMETER,
                       sf_cstr(key));
 }
@@ -1601,6 +1601,13 @@ static inline const char *sf_start_fault(sf_text line, int is_status_required, u
   return at < 5 ? "a status line begins with HTTP/" : "no version";
 }
 
+/* Returns whether two refusals of a line have the same place and expect the same: for the function
+ * below. */
+static inline int sf_is_same_refusal(const sf_refusal *a, const sf_refusal *b) {
+  return a->offset == b->offset && a->expected_low == b->expected_low &&
+         a->expected_high == b->expected_high && a->may_end == b->may_end;
+}
+
 /* Adds a fault to those of a head, in the order of the lines, unless it is one of them. That of a
  * line that is no field line, and one that the program found, is added each time, and is not
  * compared with those of the same line. For the functions below. */
@@ -1614,7 +1621,7 @@ static inline void sf_note_fault(sf_head *head, const char *field, sf_reason rea
         sf_is_same(sf_cstr(faults[i - 1].message), sf_cstr(message)) &&
         faults[i - 1].location.number == location->number &&
         faults[i - 1].location.index == location->index &&
-        faults[i - 1].location.refusal.offset == location->refusal.offset)
+        sf_is_same_refusal(&faults[i - 1].location.refusal, &location->refusal))
       return;
   ++head->faults.required;
   if (head->faults.length >= head->faults.capacity)

@@ -316,6 +316,9 @@ static void trees(void) {
   CHECK(jk != NULL && jk->number == 4);
   CHECK(sf_find_parameter(&tree, abc, "q") == NULL && sf_find_parameter(&tree, inner, "jk") == NULL);
   CHECK(sf_find_parameter(&tree, inner, "r") == nodes + 9);
+  /* a parameter has none, not even itself */
+  CHECK(sf_find_parameter(&tree, b, "b") == NULL && sf_find_parameter(&tree, jk, "jk") == NULL);
+  CHECK(sf_find_parameter(&tree, q, "q") == NULL && sf_next_parameter(b, NULL) == NULL);
 
   /* of a type: that of the bare item, or SF_INNER_LIST; NULL is no node and has no parameters */
   static const struct {
@@ -1948,6 +1951,47 @@ static void fields_of_a_head(void) {
     CHECK(both.faults.length == 2 && both.faults.required == 2);
     CHECK(two[0].location.number == 1 && two[0].location.refusal.offset == 3);
     CHECK(two[1].location.number == 2 && two[1].location.refusal.offset == 3);
+  }
+  /* faults at the same place of one line, which is read as two kinds, and of lines with one number */
+  {
+    sf_head_line one_line[1];
+    sf_fault four[5];
+    sf_head one = sf_head_in(SF_HEAD_LINES(one_line), sf_buffer_of(NULL, 0));
+    one.faults = SF_FAULTS(four);
+    CHECK(sf_add_head_line(&one, sf_cstr("A: )")) == SF_OK);
+    for (int twice = 0; twice < 2; ++twice) {
+      one.number = 2;
+      CHECK(sf_add_head_line(&one, sf_cstr(twice ? "c" : "b")) == SF_REFUSED);
+      CHECK(sf_check_field(&context, SF_LIST, &one, "A") == SF_REFUSED);
+      CHECK(sf_check_field(&context, SF_DICT, &one, "A") == SF_REFUSED);
+    }
+    CHECK(one.faults.length == 4 && one.faults.required == 4);
+    CHECK(says(&four[0], 40, "line 1, place 3: A: byte 0x29 ')', expected a letter, a digit, a quote, "
+                             "`(`, `*`, `-`, `:`, `?`, a space or the end\nA: )\n   ^"));
+    CHECK(says(&four[1], 40, "line 1, place 3: A: byte 0x29 ')', expected a lower-case letter, `*`, a "
+                             "space or the end\nA: )\n   ^"));
+    CHECK(is(four[2].location.line, "b") && is(four[3].location.line, "c"));
+  }
+  {
+    sf_head_line two_lines[2];
+    char joined[32];
+    sf_fault two[2];
+    sf_target target = sf_target_of("T");
+    sf_verdict verdict;
+    sf_head both = sf_head_in(SF_HEAD_LINES(two_lines), SF_BUFFER(joined));
+    both.faults = SF_FAULTS(two);
+    CHECK(sf_add_head_line(&both, sf_cstr("T: max-age=x")) == SF_OK);
+    both.number = 1;
+    CHECK(sf_add_head_line(&both, sf_cstr("T:s-maxage=x")) == SF_OK);
+    for (int i = 0; i < 4; ++i) {
+      sf_exchange exchange = sf_exchange_of(i % 2 ? SF_SHARED_CACHE : SF_PRIVATE_CACHE, 0);
+      CHECK(sf_decide_response(&context, &both, &target, 1, &exchange, &verdict) == SF_OK);
+    }
+    CHECK(both.faults.length == 2 && both.faults.required == 2);
+    CHECK(says(&two[0], 40, "line 1, place 11: T: expected a number of seconds\nT: max-age=x\n"
+                            "           ^"));
+    CHECK(says(&two[1], 40, "line 1, place 11: T: expected a number of seconds\nT:s-maxage=x\n"
+                            "           ^"));
   }
 
   /* when there is no capacity for faults, they are counted */

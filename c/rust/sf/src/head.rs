@@ -192,7 +192,7 @@ impl<'a> Head<'a> {
             }
             if head.is_begun && without_end(line).is_empty() {
                 head.content = Some(rest);
-                head.number += 1;
+                head.count_line();
                 break;
             }
             head.add_line_of(line, required)?;
@@ -256,8 +256,8 @@ impl<'a> Head<'a> {
         // The fields after a malformed request line are those of a request, too.
         let is_request = self.is_request || required == Some(Fault::NoRequestLine);
         let received = without_end(line);
-        if !self.is_begun && self.takes_start_line(received) {
-            self.number += 1;
+        if received.is_empty() || !self.is_begun && self.takes_start_line(received) {
+            self.count_line();
             return Ok(false);
         }
         let refusal = match split(received, is_request) {
@@ -267,22 +267,25 @@ impl<'a> Head<'a> {
             }
             Err(refusal) => refusal,
         };
-        if !received.is_empty() {
-            let place = usize::try_from(refusal.offset).unwrap_or(usize::MAX);
-            let (fault, offset) = if self.is_begun {
-                (Fault::NotALine(refusal), place)
-            } else {
-                let (start, at) = start_fault(received, required == Some(Fault::NoStatusLine));
-                let line = split(received, false).err().unwrap_or(refusal);
-                (Fault::NotAStartLine { start, line }, at.unwrap_or(place))
-            };
-            let fault = HeadFault::of_line(fault, self.number, received, offset);
-            push(&mut self.malformed, fault)?;
-            self.is_incomplete = true;
-            self.is_begun = true;
-        }
-        self.number += 1;
+        let place = usize::try_from(refusal.offset).unwrap_or(usize::MAX);
+        let (fault, offset) = if self.is_begun {
+            (Fault::NotALine(refusal), place)
+        } else {
+            let (start, at) = start_fault(received, required == Some(Fault::NoStatusLine));
+            let line = split(received, false).err().unwrap_or(refusal);
+            (Fault::NotAStartLine { start, line }, at.unwrap_or(place))
+        };
+        let fault = HeadFault::of_line(fault, self.number, received, offset);
+        push(&mut self.malformed, fault)?;
+        self.is_incomplete = true;
+        self.is_begun = true;
+        self.count_line();
         Ok(false)
+    }
+
+    /// Sets the number of the next line.
+    fn count_line(&mut self) {
+        self.number = self.number.saturating_add(1);
     }
 
     /// Adds a field line that was received, and notes white space before its colon.
@@ -317,7 +320,7 @@ impl<'a> Head<'a> {
     /// Adds a field line.
     fn push_line(&mut self, line: HeadLine<'a>) -> Result<(), Error> {
         push(&mut self.lines, line)?;
-        self.number += 1;
+        self.count_line();
         self.is_begun = true;
         Ok(())
     }

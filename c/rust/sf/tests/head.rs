@@ -1584,6 +1584,30 @@ fn faults_of_programs() {
     assert_eq!(faults[0].to_string(), "line 1, place 0: A: b");
 }
 
+/// Lines with one number, such as those of a head that has no numbers, and with the largest.
+#[test]
+fn lines_of_the_last_number() {
+    let mut head = Head::new(parser());
+    for line in ["Host: x", "A: b=1", "a", "A: c", "b", ""] {
+        head.set_number(usize::MAX);
+        head.add_line(line).unwrap();
+    }
+    let (line, place) = head.locate("A", "c").unwrap().unwrap();
+    assert_eq!((line, place), (head.lines()[2], 3));
+    head.add_fault("A", "b", "no number").unwrap();
+    head.add_fault("B", "b", "it is missing").unwrap();
+    let number = usize::MAX;
+    assert_eq!(
+        messages(&head, 40),
+        [
+            format!("line {number}, place 1: not a field line: no colon after the name\na\n ^"),
+            format!("line {number}, place 1: not a field line: no colon after the name\nb\n ^"),
+            format!("line {number}, place 3: A: no number\nA: b=1\n   ^"),
+            format!("line {number}, place 0: B: it is missing"),
+        ]
+    );
+}
+
 /// A request line whose target has a colon is no field line, and an empty line whose LF is missing
 /// does not end a head.
 #[test]
