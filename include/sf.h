@@ -16,6 +16,7 @@
  *   The fields of a head      sf_find_merged_priority, sf_find_hops, sf_find_tree, sf_add_hop,
  *                             sf_add_fault, sf_show_fault_in
  *   What a cache decides      sf_decide_response; its parts, such as sf_choose_rules
+ *   All faults of a head      sf_check_head
  *
  * All of them are inline functions, which are tested. Many call functions of the library, which are
  * proved.
@@ -1162,8 +1163,9 @@ static inline sf_status sf_write_hop(sf_context *context, const sf_own_hop *own,
 /*
  * Writes a hop of a list that sf_read_hops read, as the canonical text of its member, for messages:
  * edge;hit;ttl=30. What sf_hop does not have is left out: parameters that the RFC does not define,
- * and those that count as absent. A buffer of SF_HOP_SIZE(list->bytes.length) bytes is always large
- * enough. The results are those of sf_write_hop.
+ * and those that count as absent. The i-th member of the tree that sf_read_tree or sf_find_tree
+ * reads is hop i, with all parameters. A buffer of SF_HOP_SIZE(list->bytes.length) bytes is always
+ * large enough. The results are those of sf_write_hop.
  *
  *   sf_hop hops[8];
  *   char bytes[64], text[SF_HOP_SIZE(64)];
@@ -1272,12 +1274,14 @@ typedef enum sf_reason {
                                      sf_take_request */
   SF_FAULT_NO_STATUS_LINE = 102,  /* the same for a status line: see sf_take_response */
   SF_FAULT_OWN = 104,             /* the program found it: see sf_add_fault */
-  SF_FAULT_NOT_SECONDS = 105,     /* max-age, or s-maxage in a shared cache, is no number of
-                                     seconds: the response is stale (RFC 9111 section 4.2.1) */
+  SF_FAULT_NOT_SECONDS = 105,     /* max-age or s-maxage is no number of seconds: if it counts, the
+                                     response is stale (RFC 9111 section 4.2.1) */
   SF_FAULT_OTHER_SECONDS = 106,   /* the same, since Cache-Control has it with two numbers: this is
                                      the second */
-  SF_FAULT_SPACE_BEFORE_COLON = 107 /* the line of a response has white space before its colon: see
-                                       sf_add_head_line */
+  SF_FAULT_SPACE_BEFORE_COLON = 107, /* the line of a response has white space before its colon:
+                                        see sf_add_head_line */
+  SF_FAULT_OTHER_AGE = 108 /* Age has a second line, or in its first line a second member that is
+                              not empty: the first member counts (RFC 9111 section 5.1) */
 } sf_reason;
 
 /* A line or a field of a head that is malformed. */
@@ -1289,8 +1293,9 @@ typedef struct sf_fault {
                            that is where the value begins; for SF_FAULT_NOT_A_DATE, the part of the
                            date that is wrong; for a number of seconds, the argument of the
                            directive; for Age, the first byte of the first member that is no digit
-                           or, if the member is empty, its end. For SF_FAULT_NOT_A_START, it is that
-                           of the first CR, LF or NUL; otherwise, if the line begins with HTTP/,
+                           or, if the member is empty, its end, or where the second member or line
+                           begins. For SF_FAULT_NOT_A_START, it is that of the first CR, LF or NUL;
+                           otherwise, if the line begins with HTTP/, or a status line is required,
                            where it can't go on as a status line; otherwise, if it begins with a
                            method and a space, where it can't go on as a request line, such as at a
                            space in the target; otherwise where it can't go on as a field line. For
@@ -1301,13 +1306,14 @@ typedef struct sf_fault {
                            that of the line to be added next. For all of these, the refusal says
                            only where, not why */
   const char *message;  /* of SF_FAULT_OWN, that of sf_add_fault; otherwise what sf_show_fault says
-                           of the part that is expected, or of the directive, or NULL */
+                           of the part that is expected, of the directive, or of the status line
+                           that is required, or NULL */
 } sf_fault;
 
 /* A buffer for faults. A head has at most one for each line that is no field line or has white
- * space before its colon, two for each of Expires and Date, one for each member of Cache-Status
- * that names no cache, one for each other name that is looked up (two if a response is decided for
- * both kinds of cache), one for a missing start line, one for a missing end, and those of
+ * space before its colon, three for Cache-Control, two for each target and for each of Expires,
+ * Date and Age, one for each member of Cache-Status that names no cache, one for each other name
+ * that is looked up, one for a missing start line, one for a missing end, and those of
  * sf_add_fault. */
 typedef struct sf_faults {
   sf_fault *at;
@@ -1339,7 +1345,8 @@ typedef struct sf_head {
                              response */
   uint32_t is_truncated;  /* 1 from SF_REFUSED of sf_take_head until SF_OK, otherwise 0; likewise */
   sf_faults faults;       /* what was found to be malformed, if there is a buffer for it: that of
-                             sf_head_in_memory, or head.faults = SF_FAULTS(array); */
+                             sf_head_in_memory, or head.faults = SF_FAULTS(array); of fields, only
+                             what the calls read: sf_check_head adds the rest */
 } sf_head;
 
 /* Returns a head without lines, with these buffers, which must be valid as long as it is used. A
@@ -1371,8 +1378,8 @@ static inline size_t sf_head_memory_size(sf_text received);
  * head. Then no call returns SF_SHORT because head.joined is too small if sf_find_field and
  * sf_find_tree look up each field at most once: they keep what they join. The other calls may look
  * up any field as often as they like. And no fault is lost if each field is looked up by one name,
- * always spelled the same, and read as one kind in one dialect, the response is decided for one
- * kind of cache, and sf_add_fault adds at most eight.
+ * always spelled the same, and read as one kind in one dialect, and sf_add_fault adds at most
+ * eight.
  *
  * If memory is NULL or not aligned, or size is less than sf_head_memory_size(received), the buffers
  * are empty: the first field line is SF_SHORT, and faults are only counted.
@@ -1906,14 +1913,16 @@ typedef struct sf_verdict {
  *   SF_BAD_CALL   there is no such dialect or cache
  *   SF_NO_MEMORY
  *
- * Unless SF_OK is returned, *verdict is unchanged. What is malformed is in head->faults, too: of
+ * Unless SF_OK is returned, *verdict is unchanged. What counts and is malformed is in head->faults,
+ * too (sf_check_head adds what does not count, such as a target after the one that decides): of
  * Cache-Control the first such line; of Expires the first if malformed, and the second; and so of
  * Date, if there is Expires. These two are faults only if the lifetime by Expires counts: not
  * beside a target that decides, a max-age, in a shared cache an s-maxage, or a directive that
  * forbids storing or asks for validation; for "0" and the like have a meaning (RFC 9111 section
  * 5.3). A max-age or s-maxage that is no number of seconds makes the response stale (section
  * 4.2.1), and is a fault if it counts likewise. A malformed Age is ignored (section 5.1), and is
- * always a fault, also of a response that is not stored: it has no such meaning.
+ * always a fault, also of a response that is not stored: it has no such meaning. So is a second
+ * line or member of Age, which is ignored, too.
  *
  * The method and no-store of the request count as sf_set_request sets them. The rest is the
  * caller's: the heuristics of section 4.2.2, Vary and other directives of the request when the
@@ -1924,6 +1933,47 @@ SF_USE_RESULT
 static inline sf_status sf_decide_response(sf_context *context, sf_head *head, sf_target *targets,
                                           size_t targets_length, const sf_exchange *exchange,
                                           sf_verdict *verdict);
+
+/*
+ * Adds each malformed field that this library reads to head->faults, also if it does not count for
+ * a decision: Priority, Cache-Status, Cache-Control, Expires, Date, Age and the field of each
+ * target, and each max-age or s-maxage that is no number of seconds; if head->is_request is 1,
+ * Priority and Cache-Control, as sf_set_request reads it. Expires: 0 beside no-store is a fault,
+ * too.
+ *
+ *   sf_text rest = sf_cstr("HTTP/1.1 200 OK\r\nCDN-Cache-Control: max-age=60\r\n"
+ *                          "Cache-Control: max-age=\r\nAge: 20, 30\r\n\r\n");
+ *   size_t size = sf_head_memory_size(rest);
+ *   sf_head head = sf_head_in_memory(malloc(size), size, rest);
+ *   sf_target target = sf_target_of("CDN-Cache-Control");
+ *   char message[SF_FAULT_SIZE(17, 40)];
+ *   sf_buffer out = SF_BUFFER(message);
+ *   if (sf_take_response(&head, &rest) != SF_OK ||
+ *       sf_check_head(&context, &head, &target, 1) != SF_OK)
+ *     return EXIT_FAILURE;
+ *   for (size_t i = 0; i < head.faults.length; ++i)
+ *     if (sf_show_fault(&head.faults.at[i], 40, &out) == SF_OK)
+ *       printf("%.*s\n", SF_ARGS(out));
+ *       // line 3, place 23: Cache-Control: the text ended, expected a token or a quoted-string
+ *       // Cache-Control: max-age=
+ *       //                        ^
+ *       // line 4, place 9: Age: there are several values
+ *       // Age: 20, 30
+ *       //          ^
+ *   free(head.lines.at);
+ *
+ *   SF_OK         what is malformed is in head->faults
+ *   SF_SHORT      head->joined.required bytes are required
+ *   SF_BAD_CALL   there is no such dialect
+ *   SF_NO_MEMORY
+ *
+ * A fault that is there already is not added again: call it before or after the other calls, whose
+ * results it does not change. Of the targets, only the names are read. The fields that it joins are
+ * not kept in head->joined. Does not allocate.
+ */
+SF_USE_RESULT
+static inline sf_status sf_check_head(sf_context *context, sf_head *head, const sf_target *targets,
+                                     size_t targets_length);
 
 /* The size in bytes of a buffer that is large enough for each text of sf_write_verdict if the name
  * of the field has this length. */

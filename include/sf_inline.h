@@ -1383,8 +1383,10 @@ static inline int sf_is_tchar(char c) {
          (c != 0 && strchr("!#$%&'*+-.^_`|~", c) != NULL);
 }
 
-/* Returns how many faults a line of a head may have beside one: white space before its colon, and a
- * member of Cache-Status that names no cache after each comma. For the function below. */
+/* Returns how many faults a line of a head may have beside one: white space before its colon; a
+ * member of Cache-Status that names no cache after each comma; and, if another line has a comma, an
+ * s-maxage beside a max-age, or a second member of Age, of which the shortest line is Age:x,5. For
+ * the function below. */
 static inline size_t sf_more_faults_of(sf_text line) {
   sf_head_line field;
   size_t at = 0, count, i;
@@ -1398,6 +1400,8 @@ static inline size_t sf_more_faults_of(sf_text line) {
   if (sf_is_named(&field, "Cache-Status"))
     for (i = at + 1; i < line.length; ++i)
       count += line.at[i] == ',' && line.at[i - 1] != ',';
+  else
+    count += line.length >= 7 && memchr(line.at + at, ',', line.length - at) != NULL;
   return count;
 }
 
@@ -1423,8 +1427,9 @@ static inline size_t sf_head_length(sf_text received, size_t *lines, size_t *fau
 
 /* Returns the bytes that are enough for a head of so many lines, faults and bytes: for the
  * functions below. A line that is no field line has one fault, and a field has at most as many as
- * it has lines, or members that name no cache. All fields, joined, have fewer bytes than the head,
- * and each of them has when it is joined again while all are kept. */
+ * it has lines, or members that name no cache, or one more if a line has two directives or members
+ * of Age. All fields, joined, have fewer bytes than the head, and each of them has when it is
+ * joined again while all are kept. */
 static inline size_t sf_head_memory_of(size_t lines, size_t faults, size_t length) {
   size_t bytes = sf_add_size(0, lines, sizeof(sf_head_line));
   return sf_add_size(sf_add_size(bytes, faults, sizeof(sf_fault)), length, 2);
@@ -1573,9 +1578,10 @@ static inline const char *sf_request_fault(sf_text line, size_t *method, uint64_
   return "no method, target and version";
 }
 
-/* Returns in words why a line is no start line (RFC 9112 sections 2.2, 3 and 4), and sets the
- * place, unless it is that at which the line is no field line. For the functions below. */
-static inline const char *sf_start_fault(sf_text line, uint64_t *place) {
+/* Returns in words why a line is no start line (RFC 9112 sections 2.2, 3 and 4), or no status line
+ * if that is required, and sets the place, unless it is that at which the line is no field line.
+ * For the functions below. */
+static inline const char *sf_start_fault(sf_text line, int is_status_required, uint64_t *place) {
   size_t version = sf_version_length(line), at = 0, method;
   while (at < line.length && !sf_is_break(line.at[at]))
     ++at;
@@ -1587,10 +1593,12 @@ static inline const char *sf_start_fault(sf_text line, uint64_t *place) {
     *place = version + (version < line.length && line.at[version] == ' ');
     return "no status code of three digits";
   }
-  if (line.length < 5 || memcmp(line.at, "HTTP/", 5) != 0)
+  for (at = 0; at < 5 && at < line.length && line.at[at] == "HTTP/"[at];)
+    ++at;
+  if (at < 5 && !is_status_required)
     return sf_request_fault(line, &method, place);
-  *place = 5;
-  return "no version";
+  *place = at;
+  return at < 5 ? "a status line begins with HTTP/" : "no version";
 }
 
 /* Returns whether two refusals of a line have the same place and expect the same: for the function
@@ -1658,10 +1666,12 @@ static inline void sf_refuse_at(sf_location *location, uint64_t place) {
                                 : (int32_t)SF_ENDED;
 }
 
-/* Adds a line to a head, that of a request or not, as sf_add_head_line does: for the functions
- * below. */
+/* Adds a line to a head, that of a request or not, as sf_add_head_line does, with the reason for a
+ * missing start line, if one is required: for the functions below. */
 SF_USE_RESULT
-static inline sf_status sf_add_line_of(sf_head *head, sf_text line, int is_request) {
+static inline sf_status sf_add_line_of(sf_head *head, sf_text line, int is_request,
+                                       sf_reason missing) {
+  const char *words = NULL;
   sf_text name, value;
   sf_location location;
   sf_reason reason = head->is_begun ? SF_FAULT_NOT_A_LINE : SF_FAULT_NOT_A_START;
@@ -1684,17 +1694,20 @@ static inline sf_status sf_add_line_of(sf_head *head, sf_text line, int is_reque
     return SF_EMPTY;
   if (reason == SF_FAULT_NOT_A_START) {
     uint64_t place = location.refusal.offset;
-    (void)sf_start_fault(line, &place);
+    if (missing == SF_FAULT_NO_STATUS_LINE)
+      words = sf_start_fault(line, 1, &place);
+    else
+      (void)sf_start_fault(line, 0, &place);
     sf_refuse_at(&location, place);
   }
   head->is_begun = 1;
   head->is_incomplete = 1;
-  sf_note_fault(head, "", reason, NULL, &location);
+  sf_note_fault(head, "", reason, words, &location);
   return SF_REFUSED;
 }
 
 static inline sf_status sf_add_head_line(sf_head *head, sf_text line) {
-  return sf_add_line_of(head, line, head->is_request != 0);
+  return sf_add_line_of(head, line, head->is_request != 0, SF_FAULT_NO_END);
 }
 
 /* Adds a fault to those of a head that has no start line of the kind that the reason is about, if
@@ -1734,7 +1747,7 @@ static inline sf_status sf_take_head_for(sf_head *head, sf_text *rest, sf_reason
       break; /* an empty line whose LF is missing */
     /* the fields after a malformed request line are those of a request, too */
     status = sf_add_line_of(head, line,
-                            head->is_request != 0 || reason == SF_FAULT_NO_REQUEST_LINE);
+                            head->is_request != 0 || reason == SF_FAULT_NO_REQUEST_LINE, reason);
     if (status == SF_EMPTY && is_begun) {
       head->is_truncated = 0;
       return SF_OK;
@@ -1950,6 +1963,8 @@ static inline const char *sf_fault_words(uint32_t reason) {
     return "expected a number of seconds";
   case SF_FAULT_OTHER_SECONDS:
     return " had another value before";
+  case SF_FAULT_OTHER_AGE:
+    return "there are several values";
   case SF_FAULT_NOT_A_LINE:
     return "not a field line: ";
   case SF_FAULT_SPACE_BEFORE_COLON:
@@ -1959,7 +1974,7 @@ static inline const char *sf_fault_words(uint32_t reason) {
   case SF_FAULT_NOT_A_START:
     return "neither a start line (";
   case SF_FAULT_NOT_A_CACHE:
-    return "the member does not name a cache";
+    return "the member does not name a cache, expected a Token or a String";
   case SF_FAULT_NO_REQUEST_LINE:
     return "the head of a request begins with a request line";
   case SF_FAULT_NO_STATUS_LINE:
@@ -2033,7 +2048,8 @@ static inline sf_status sf_show_fault_in(const char *file, const sf_fault *fault
     sf_text name, value;
     if (sf_split_line(location->line, 0, &name, &value, &refusal)) /* a field line of a response */
       (void)sf_split_line(location->line, 1, &name, &value, &refusal);
-    parts[count++] = sf_cstr(sf_start_fault(location->line, &ignored));
+    parts[count++] = sf_cstr(fault->message == NULL ? sf_start_fault(location->line, 0, &ignored)
+                                                    : fault->message);
     parts[count++] = sf_cstr(") nor a field line (");
     parts[count++] = sf_cstr(sf_line_fault(&refusal, 1));
     parts[count++] = sf_cstr(")");
@@ -2635,22 +2651,23 @@ static inline int sf_find_bad_seconds(sf_text line, const char *name, int64_t *b
   return 0;
 }
 
-/* Notes a max-age, or in a shared cache an s-maxage, that counts and is no number of seconds: of a
- * target, or of Cache-Control if the target is NULL. For the function below. */
-static inline void sf_note_seconds(sf_head *head, const char *target, const sf_rules *rules,
-                                   const sf_decision *decision, uint32_t cache) {
-  int by_s_maxage =
-      cache == SF_SHARED_CACHE && (rules->policy.has_s_maxage || rules->invalid_s_maxage);
-  const char *name = by_s_maxage ? "s-maxage" : "max-age";
+/* Returns whether a line of Cache-Control is a list of directives: for the functions below. */
+static inline int sf_is_directives(sf_text value) {
+  sf_fallback fallback = sf_fallback_begin();
+  sf_add_fallback_line(&fallback, SF_FALLBACK_CACHE_CONTROL, value);
+  return !fallback.is_refused;
+}
+
+/* Notes the argument of a directive that is no number of seconds: of a target, which is
+ * well-formed; or if the target is NULL, of the lines of Cache-Control that are lists of
+ * directives. For the functions below. */
+static inline void sf_note_argument(sf_head *head, const char *target, const char *name) {
   size_t begin = head->joined.length, i;
   sf_reason reason = SF_FAULT_NOT_SECONDS;
   sf_location location;
   sf_refusal refusal;
   sf_text text;
   int64_t before = -1;
-  if (!(by_s_maxage ? rules->invalid_s_maxage : rules->invalid_max_age) ||
-      decision->reuse == SF_REUSE_NOT_STORED || decision->cause == SF_BY_NO_CACHE)
-    return;
   memset(&refusal, 0, sizeof refusal);
   if (target != NULL && sf_find_field(head, target, &text) == SF_OK) {
     refusal.offset = sf_place_of(text, 1, sf_cstr(name), 0, 0, sf_cstr(NULL)) + strlen(name);
@@ -2661,11 +2678,32 @@ static inline void sf_note_seconds(sf_head *head, const char *target, const sf_r
   }
   for (i = 0; i < head->lines.length && target == NULL; ++i)
     if (sf_is_named(&head->lines.at[i], "Cache-Control") &&
+        sf_is_directives(head->lines.at[i].value) &&
         sf_find_bad_seconds(head->lines.at[i].value, name, &before, &refusal.offset, &reason)) {
       sf_note_value(head, "Cache-Control", reason, reason == SF_FAULT_OTHER_SECONDS ? name : NULL,
                     i, &refusal);
       return;
     }
+}
+
+/* Notes a max-age and an s-maxage that are no number of seconds, likewise: for the function below.
+ */
+static inline void sf_note_arguments(sf_head *head, const char *target, const sf_rules *rules) {
+  if (rules->invalid_max_age)
+    sf_note_argument(head, target, "max-age");
+  if (rules->invalid_s_maxage)
+    sf_note_argument(head, target, "s-maxage");
+}
+
+/* Notes a max-age, or in a shared cache an s-maxage, that counts and is no number of seconds: of a
+ * target, or of Cache-Control if the target is NULL. For the function below. */
+static inline void sf_note_seconds(sf_head *head, const char *target, const sf_rules *rules,
+                                   const sf_decision *decision, uint32_t cache) {
+  int by_s_maxage =
+      cache == SF_SHARED_CACHE && (rules->policy.has_s_maxage || rules->invalid_s_maxage);
+  if ((by_s_maxage ? rules->invalid_s_maxage : rules->invalid_max_age) &&
+      decision->reuse != SF_REUSE_NOT_STORED && decision->cause != SF_BY_NO_CACHE)
+    sf_note_argument(head, target, by_s_maxage ? "s-maxage" : "max-age");
 }
 
 /* Returns whether the lifetime by Expires counts beside these directives: none forbids storing,
@@ -2679,20 +2717,43 @@ static inline int sf_is_by_expires(const sf_rules *rules, const sf_decision *dec
          !has_max_age && !(has_s_maxage && cache == SF_SHARED_CACHE);
 }
 
+/* Returns where the second member of a line of Age begins, without those that are empty; the length
+ * of the line if there is none. For the function below. */
+static inline size_t sf_second_in_age(sf_text value) {
+  size_t at = 0, i;
+  for (i = 0; i < 2; ++i) {
+    while (i > 0 && at < value.length && value.at[at] != ',')
+      ++at;
+    while (at < value.length &&
+           (value.at[at] == ',' || value.at[at] == ' ' || value.at[at] == '\t'))
+      ++at;
+  }
+  return at;
+}
+
 /* Returns the number of the first line of Age of a head, whose first member counts; 0 without one,
- * and says whether it is malformed. For the function below. */
+ * and says whether it is malformed. Notes that, and the second line or member. For the functions
+ * below. */
 static inline uint64_t sf_age_of(sf_head *head, uint32_t *is_malformed) {
   uint64_t age = 0;
-  size_t i = 0;
-  while (i < head->lines.length && !sf_is_named(&head->lines.at[i], "Age"))
-    ++i;
-  *is_malformed = i < head->lines.length && sf_read_age(head->lines.at[i].value, &age) != SF_OK;
-  if (*is_malformed) {
-    sf_refusal refusal;
-    memset(&refusal, 0, sizeof refusal);
-    refusal.offset = sf_place_in_age(head->lines.at[i].value);
-    sf_note_value(head, "Age", SF_FAULT_NOT_AN_AGE, NULL, i, &refusal);
-  }
+  size_t i, count = 0;
+  *is_malformed = 0;
+  for (i = 0; i < head->lines.length && count < 2; ++i)
+    if (sf_is_named(&head->lines.at[i], "Age")) {
+      sf_text value = head->lines.at[i].value;
+      sf_refusal refusal;
+      memset(&refusal, 0, sizeof refusal);
+      if (count == 0 && sf_read_age(value, &age) != SF_OK) {
+        *is_malformed = 1;
+        refusal.offset = sf_place_in_age(value);
+        sf_note_value(head, "Age", SF_FAULT_NOT_AN_AGE, NULL, i, &refusal);
+      }
+      refusal.offset = count == 0 ? sf_second_in_age(value) : sf_after_space(value, 0);
+      if (count++ == 0 && refusal.offset == value.length)
+        continue;
+      sf_note_value(head, "Age", SF_FAULT_OTHER_AGE, NULL, i, &refusal);
+      count = 2;
+    }
   return age;
 }
 
@@ -2764,6 +2825,46 @@ static inline sf_status sf_decide_response(sf_context *context, sf_head *head, s
   verdict->is_expires_malformed = fallback.expires.lines > 1;
   verdict->is_date_malformed = fallback.date.lines > 1;
   return SF_OK;
+}
+
+static inline sf_status sf_check_head(sf_context *context, sf_head *head, const sf_target *targets,
+                                     size_t targets_length) {
+  size_t i, begin = head->joined.length, refused_line;
+  sf_fallback lists = sf_fallback_begin();
+  uint32_t is_malformed;
+  sf_text text;
+  sf_status status = sf_check_field(context, SF_DICT, head, "Priority");
+  if (status != SF_OK && status != SF_REFUSED)
+    return status;
+  (void)sf_fallback_of(head, &refused_line);
+  if (head->is_request)
+    return SF_OK;
+  for (i = 0; i < head->lines.length; ++i)
+    if (sf_is_named(&head->lines.at[i], "Cache-Control") &&
+        sf_is_directives(head->lines.at[i].value))
+      sf_add_fallback_line(&lists, SF_FALLBACK_CACHE_CONTROL, head->lines.at[i].value);
+  sf_note_arguments(head, NULL, &lists.rules);
+  sf_note_dates(head, "Expires");
+  sf_note_dates(head, "Date");
+  (void)sf_age_of(head, &is_malformed);
+  status = sf_find_field(head, "Cache-Status", &text);
+  if (status == SF_OK)
+    status = sf_check_text(context, SF_LIST, text);
+  if (status == SF_OK)
+    sf_note_nameless(head, text);
+  head->joined.length = begin;
+  status = sf_found(context, head, "Cache-Status", status);
+  for (i = 0; i < targets_length && status == SF_OK; ++i) {
+    sf_rules rules;
+    status = sf_find_field(head, targets[i].name, &text);
+    if (status == SF_OK)
+      status = sf_read_rules(context, text, &rules);
+    head->joined.length = begin;
+    if (status == SF_OK)
+      sf_note_arguments(head, targets[i].name, &rules);
+    status = sf_found(context, head, targets[i].name, status == SF_EMPTY ? SF_OK : status);
+  }
+  return status;
 }
 
 /* Appends a string to a text: for the function below. */

@@ -33,7 +33,8 @@ static sf_head read_head(const char *name, char *text, sf_status (*take)(sf_head
   return head; /* what is malformed is one of its faults, also if it does not end */
 }
 
-/* Prints the caches that the response came through, that nearest the origin first (RFC 9211). */
+/* Prints the caches that the response came through, that nearest the origin first, without what RFC
+ * 9211 does not define: the i-th member of the tree of sf_find_tree is hop i with all of it. */
 static void print_path(sf_context *context, sf_head *response) {
   static sf_hop hops[SF_NODES_SIZE(MOST)];
   sf_hop_list path = sf_hop_list_in(SF_HOPS(hops), SF_BUFFER(bytes));
@@ -69,10 +70,11 @@ static void print_signatures(sf_context *context, sf_head *request) {
   }
 }
 
-/* Prints what is malformed in a head. */
-static void print_faults(const char *name, const sf_faults *faults) {
-  for (size_t i = 0; i < faults->length; ++i) {
-    must(sf_show_fault_in(name, &faults->at[i], 60, &out));
+/* Prints what is malformed in a head, also if it did not count above. */
+static void print_faults(const char *name, sf_context *context, sf_head *head, sf_target *targets) {
+  must(sf_check_head(context, head, targets, 2));
+  for (size_t i = 0; i < head->faults.length; ++i) {
+    must(sf_show_fault_in(name, &head->faults.at[i], 60, &out));
     fprintf(stderr, "%.*s\n", SF_ARGS(out));
   }
 }
@@ -89,7 +91,6 @@ int main(int count, char **words) {
   sf_context context = sf_context_of(seed, SF_RFC8941); /* that the RFCs of these fields cite */
   sf_head request = read_head(words[1], texts[0], sf_take_request);
   sf_head response = read_head(words[2], texts[1], sf_take_response);
-
   sf_priority_flags merged = SF_PRIORITY_UNSET; /* by client and server (RFC 9218 section 8) */
   must(sf_find_merged_priority(&context, &request, &response, &merged));
   printf("urgency %d%s\n", merged.urgency, merged.incremental ? ", incremental" : "");
@@ -100,7 +101,7 @@ int main(int count, char **words) {
                          sf_target_of("CDN-Cache-Control")};
   sf_exchange exchange = sf_exchange_of(SF_SHARED_CACHE, (uint64_t)time(NULL));
   sf_verdict verdict = {0};
-  exchange.is_understood = 1; /* this cache understands each final status code */
+  exchange.is_understood = 1; /* if it does what each status code requires, 206 and 304 too */
   sf_set_request(&exchange, &request);
   must(sf_decide_response(&context, &response, targets, 2, &exchange, &verdict));
   must(sf_write_verdict(&verdict, &out));
@@ -111,9 +112,8 @@ int main(int count, char **words) {
   sf_own_hop own = sf_hop_of_verdict("ExampleCDN", SF_TOKEN, SF_URI_MISS, &verdict);
   must(sf_add_hop(&context, &response, &own, &out));
   printf("Cache-Status: %.*s\n", SF_ARGS(out));
-
-  print_faults(words[1], &request.faults);
-  print_faults(words[2], &response.faults);
+  print_faults(words[1], &context, &request, targets);
+  print_faults(words[2], &context, &response, targets);
   free(request.lines.at); /* where its memory begins */
   free(response.lines.at);
   return fflush(stdout) != 0 || ferror(stdout) || ferror(stderr) ? 3 : 0;

@@ -1381,6 +1381,10 @@ static void kinds_of_heads(void) {
   };
 #define NO_REQUEST_LINE "the head of a request begins with a request line"
 #define NO_STATUS_LINE "the head of a response begins with a status line"
+  /* of the line GET / */
+  static const char not_a_status_line[] =
+      "line 1, place 0: neither a start line (a status line begins with HTTP/) nor a field line (no colon "
+      "after the name)\nGET /\n^";
   sf_head_line lines[2];
   sf_fault faults[4];
   for (size_t i = 0; i < sizeof rows / sizeof *rows; ++i)
@@ -1409,7 +1413,8 @@ static void kinds_of_heads(void) {
         ++count;
       }
       if (rows[i].first != NULL)
-        CHECK(says(&faults[count++], 40, rows[i].first));
+        CHECK(says(&faults[count++], 40,
+                   !is_request && rows[i].first[14] == '5' ? not_a_status_line : rows[i].first));
       if (rows[i].end != NULL)
         CHECK(says(&faults[count++], 40, rows[i].end));
       CHECK(head.faults.length == count && head.faults.required == count);
@@ -1496,6 +1501,7 @@ static void heads_in_memory(void) {
       {"a :\n\n", 5, 5, 1, 1, 1, 1},
       {"a \t:", 4, 4, 1, 1, 2, 1},
       {"Cache-Status: 1,2, (a b),,3\nX:,,\ncACHE-sTATUS\t:1,\n\n", 51, 51, 3, 3, 1, 5},
+      {"Age:x,5\na:x,5\nT\t:1,,2\n\n", 23, 23, 3, 3, 1, 3},
   };
   for (size_t i = 0; i < sizeof rows / sizeof *rows; ++i) {
     sf_text received = sf_text_of(rows[i].head, rows[i].length), rest = received;
@@ -1588,13 +1594,14 @@ static void heads_in_memory(void) {
     CHECK(sf_find_hops(&context, &head, &list) == SF_OK && list.hops.length == 0);
     CHECK(sf_add_hop(&context, &head, &own, &out) == SF_OK && is(sf_written(&out), "a"));
     CHECK(sf_decide_response(&context, &head, &target, 1, &exchange, &verdict) == SF_OK);
+    CHECK(sf_check_head(&context, &head, &target, 1) == SF_OK);
     for (int i = 7; i < FIELDS; ++i)
       CHECK(sf_check_field(&context, SF_LIST, &head, names[i]) == SF_REFUSED);
     CHECK(head.joined.length == joined);
   }
-  /* Cache-Control is a list of directives here, Expires and Date have two faults each */
+  /* Cache-Control is a list of directives here, Expires, Date and Age have two faults each */
   CHECK(head.faults.length == head.faults.required);
-  CHECK(head.faults.length == FIELDS + 2 + (FIELDS - 7) + 3 + 2 * 2 + 1);
+  CHECK(head.faults.length == FIELDS + 2 + (FIELDS - 7) + 3 + 3 * 2);
   free(memory);
 
   /* a field that is nearly all of the head, which is kept and then joined again */
@@ -1907,7 +1914,7 @@ static void fields_of_a_head(void) {
   CHECK(faults[2].location.number == 12 && faults[2].location.refusal.offset == 25);
   CHECK(faults[2].location.refusal.found == '7' && head.joined.length == 0);
   CHECK(faults[2].reason == SF_FAULT_NOT_A_CACHE && strcmp(faults[2].field, "Cache-Status") == 0);
-  CHECK(says(&faults[2], 40, "line 12, place 25: Cache-Status: the member does not name a cache\n"
+  CHECK(says(&faults[2], 40, "line 12, place 25: Cache-Status: the member does not name a cache, expected a Token or a String\n"
                              "cache-status: edge; hit, 7\n                         ^"));
   CHECK(faults[3].reason == SF_FAULT_NOT_A_LINE && faults[3].location.number == 13);
   /* a member that names no cache stays where it is */
@@ -2371,8 +2378,8 @@ static void faults_of_whole_heads(void) {
         "after the name)\nGET /a b HTTP/1.1\n      ^",
         "line 2, place 4: white space before the colon\nHost : x\n    ^"}},
       {RESPONSE, "GET /a b HTTP/1.1\r\nHost : x\r\nPriority: u=1\r\n\r\n", 2, 1,
-       {"line 1, place 6: neither a start line (white space in the target) nor a field line (no colon "
-        "after the name)\nGET /a b HTTP/1.1\n      ^",
+       {"line 1, place 0: neither a start line (a status line begins with HTTP/) nor a field line (no "
+        "colon after the name)\nGET /a b HTTP/1.1\n^",
         "line 2, place 4: white space before the colon\nHost : x\n    ^"}},
       {REQUEST, "\r\nGET /\nA : b\nC: d\n\n", 1, 1,
        {"line 2, place 5: neither a start line (no method, target and version) nor a field line (no "
@@ -2401,6 +2408,25 @@ static void faults_of_whole_heads(void) {
         "line 1, place 0: the head of a response begins with a status line\nAge : 1\n^"}},
       {HEAD, "Age : 1\n\n", 1, 0, {"line 1, place 3: white space before the colon\nAge : 1\n   ^"}},
       {RESPONSE, "HTTP/2 200\n\n", 0, 0, {NULL}},
+      /* "HTTP-name is case-sensitive" (RFC 9112 section 2.3) */
+      {RESPONSE, "http/1.1 200 OK\nAge: 1\n\n", 1, 1,
+       {"line 1, place 0: neither a start line (a status line begins with HTTP/) nor a field line (no "
+        "colon after the name)\nhttp/1.1 200 OK\n^"}},
+      {HEAD, "http/1.1 200 OK\nAge: 1\n\n", 1, 1,
+       {"line 1, place 4: neither a start line (no method, target and version) nor a field line (no "
+        "colon after the name)\nhttp/1.1 200 OK\n    ^"}},
+      {REQUEST, "http/1.1 200 OK\n\n", 0, 1,
+       {"line 1, place 4: neither a start line (no method, target and version) nor a field line (no "
+        "colon after the name)\nhttp/1.1 200 OK\n    ^"}},
+      {RESPONSE, "HTTP\n\n", 0, 1,
+       {"line 1, place 4: neither a start line (a status line begins with HTTP/) nor a field line (no "
+        "colon after the name)\nHTTP\n    ^"}},
+      {RESPONSE, "HTTP/x\n\n", 0, 1,
+       {"line 1, place 5: neither a start line (no version) nor a field line (no colon after the "
+        "name)\nHTTP/x\n     ^"}},
+      {RESPONSE, "200\rOK\n\n", 0, 1,
+       {"line 1, place 3: neither a start line (a CR, LF or NUL in it) nor a field line (no colon after "
+        "the name)\n200?OK\n   ^"}},
       {REQUEST, "GET / HTTP/1.1\nHost: x", 1, 1,
        {"line 2, place 7: the head is cut off: its last line has no line end\nHost: x\n       ^"}},
       {REQUEST, "GET / HTTP/1.1\nHost", 0, 1,
@@ -2453,28 +2479,28 @@ static void members_that_name_no_cache(void) {
     const char *messages[MOST];
   } rows[] = {
       {"Cache-Status: 7, a, (b c), \"d, 1\"; x=\", 2\", ?1,*e\n\n",
-       {"line 1, place 14: Cache-Status: the member does not name a cache\n"
+       {"line 1, place 14: Cache-Status: the member does not name a cache, expected a Token or a String\n"
         "Cache-Status: 7, a, (b c), \"d, 1\"; x=\", 2\", ?1,*e\n"
         "              ^",
-        "line 1, place 20: Cache-Status: the member does not name a cache\n"
+        "line 1, place 20: Cache-Status: the member does not name a cache, expected a Token or a String\n"
         "Cache-Status: 7, a, (b c), \"d, 1\"; x=\", 2\", ?1,*e\n"
         "                    ^",
-        "line 1, place 44: Cache-Status: the member does not name a cache\n"
+        "line 1, place 44: Cache-Status: the member does not name a cache, expected a Token or a String\n"
         "Cache-Status: 7, a, (b c), \"d, 1\"; x=\", 2\", ?1,*e\n"
         "                                            ^"}},
       {"Cache-Status: a; hit, 1.5\nAge: 1\ncache-status:\t:YQ==:, *b;hit\n\n",
-       {"line 1, place 22: Cache-Status: the member does not name a cache\n"
+       {"line 1, place 22: Cache-Status: the member does not name a cache, expected a Token or a String\n"
         "Cache-Status: a; hit, 1.5\n"
         "                      ^",
-        "line 3, place 14: Cache-Status: the member does not name a cache\n"
+        "line 3, place 14: Cache-Status: the member does not name a cache, expected a Token or a String\n"
         "cache-status:?:YQ==:, *b;hit\n"
         "              ^"}},
       /* a String that goes on in the next line */
       {"Cache-Status: \"c\nCache-Status: 1\", 2\nCache-Status: -3\n\n",
-       {"line 2, place 18: Cache-Status: the member does not name a cache\n"
+       {"line 2, place 18: Cache-Status: the member does not name a cache, expected a Token or a String\n"
         "Cache-Status: 1\", 2\n"
         "                  ^",
-        "line 3, place 14: Cache-Status: the member does not name a cache\n"
+        "line 3, place 14: Cache-Status: the member does not name a cache, expected a Token or a String\n"
         "Cache-Status: -3\n"
         "              ^"}},
       /* between the faults of other lines */
@@ -2482,16 +2508,16 @@ static void members_that_name_no_cache(void) {
        {"line 2, place 12: white space before the colon\n"
         "Cache-Status : 1, 2\n"
         "            ^",
-        "line 2, place 15: Cache-Status: the member does not name a cache\n"
+        "line 2, place 15: Cache-Status: the member does not name a cache, expected a Token or a String\n"
         "Cache-Status : 1, 2\n"
         "               ^",
-        "line 2, place 18: Cache-Status: the member does not name a cache\n"
+        "line 2, place 18: Cache-Status: the member does not name a cache, expected a Token or a String\n"
         "Cache-Status : 1, 2\n"
         "                  ^",
         "line 3, place 1: not a field line: no colon after the name\n"
         "x\n"
         " ^",
-        "line 4, place 14: Cache-Status: the member does not name a cache\n"
+        "line 4, place 14: Cache-Status: the member does not name a cache, expected a Token or a String\n"
         "Cache-Status: 3\n"
         "              ^"}},
       {"Cache-Status: a, \"b\", *c\n\n", {NULL}},
@@ -2572,8 +2598,10 @@ static void members_that_name_no_cache(void) {
   sf_head head = sf_head_in_memory(memory, size, rest);
   sf_hop_list list = sf_hop_list_in(sf_hops_of(NULL, 0), sf_buffer_of(NULL, 0));
   CHECK(sf_take_head(&head, &rest) == SF_OK && head.faults.length == MANY);
-  for (int twice = 0; twice < 2; ++twice)
+  for (int twice = 0; twice < 2; ++twice) {
+    CHECK(sf_check_head(&context, &head, NULL, 0) == SF_OK && head.faults.length == 2 * MANY);
     CHECK(sf_find_hops(&context, &head, &list) == SF_OK && head.faults.length == 2 * MANY);
+  }
   CHECK(head.faults.required == 2 * MANY && head.faults.at[MANY].location.number == 2);
   CHECK(head.faults.at[MANY - 1].location.refusal.offset == 13 + 2 * (MANY - 1));
   free(memory);
@@ -2655,15 +2683,29 @@ static void faults_of_decisions(void) {
        {"line 1, place 14: T: the text ended, expected a lower-case letter, `*`, a tab or a space\n"
         "T: max-age=60,\n              ^",
         "line 2, place 8: Age: expected a number of seconds\nAge: ?90x \n        ^"}},
-      {"Age:\nAge: 5\n", {"line 1, place 4: Age: expected a number of seconds\nAge:\n    ^"}},
+      {"Age:\nAge: 5\n",
+       {"line 1, place 4: Age: expected a number of seconds\nAge:\n    ^",
+        "line 2, place 5: Age: there are several values\nAge: 5\n     ^"}},
       {"Age: \t \n", {"line 1, place 7: Age: expected a number of seconds\nAge: ? \n       ^"}},
       {"Age: , 20\n", {"line 1, place 5: Age: expected a number of seconds\nAge: , 20\n     ^"}},
-      {"Age:\t12 3 ,4\n", {"line 1, place 7: Age: expected a number of seconds\nAge:?12 3 ,4\n       ^"}},
+      {"Age:\t12 3 ,4\n",
+       {"line 1, place 7: Age: expected a number of seconds\nAge:?12 3 ,4\n       ^",
+        "line 1, place 11: Age: there are several values\nAge:?12 3 ,4\n           ^"}},
       {"Age: \xe9\n", {"line 1, place 5: Age: expected a number of seconds\nAge: ?\n     ^"}},
-      {"Age: -5, x\n", {"line 1, place 5: Age: expected a number of seconds\nAge: -5, x\n     ^"}},
+      {"Age: -5, x\n",
+       {"line 1, place 5: Age: expected a number of seconds\nAge: -5, x\n     ^",
+        "line 1, place 9: Age: there are several values\nAge: -5, x\n         ^"}},
       {"Age: 1.5\n", {"line 1, place 6: Age: expected a number of seconds\nAge: 1.5\n      ^"}},
-      {"Age: 20\t, x\n", {NULL}},
-      {"Age: 5\nAge: x\n", {NULL}},
+      /* "a cache encountering a message with a list-based Age field value SHOULD use the first member of
+       * the field value, discarding subsequent ones" (RFC 9111 section 5.1) */
+      {"Age: 20\t, x\n", {"line 1, place 10: Age: there are several values\nAge: 20?, x\n          ^"}},
+      {"Age: 5\nAge: x\n", {"line 2, place 5: Age: there are several values\nAge: x\n     ^"}},
+      {"Age: 5, 6\nAge: 7\n", {"line 1, place 8: Age: there are several values\nAge: 5, 6\n        ^"}},
+      {"Age: 5 ,\t,\n", {NULL}}, /* empty members are none (RFC 9110 section 5.6.1.2) */
+      {"Age: 5,,\nVia: a\nage:\n", {"line 3, place 4: Age: there are several values\nage:\n    ^"}},
+      {"Age: , 20,30\n",
+       {"line 1, place 5: Age: expected a number of seconds\nAge: , 20,30\n     ^",
+        "line 1, place 10: Age: there are several values\nAge: , 20,30\n          ^"}},
       {"T: max-age=1\nCache-Control: a b\nExpires: 0\nDate: x\n", {NULL}}, /* they are not read */
       {"Expires:  0 \nDate: Sun\n",
        {"line 1, place 10: Expires: expected an HTTP-date, such as Sun, 06 Nov 1994 08:49:37 "
@@ -2806,6 +2848,181 @@ static void faults_of_decisions(void) {
   CHECK(sf_decide_response(&context, &head, &target, 1, &exchange, &verdict) == SF_BAD_CALL);
   CHECK(head.faults.length == 2 && strcmp(faults[0].field, target.name) == 0);
   CHECK(strcmp(faults[1].field, "Example") == 0 && faults[1].location.number == 2);
+}
+
+/* What sf_check_head finds, before and after the other calls, whose results it does not change.
+ * c/rust/sf/tests/head.rs has the same rows. */
+static void checked_heads(void) {
+  enum { MOST = 10 };
+  static const struct {
+    const char *head;
+    const char *messages[MOST];
+  } rows[] = {
+      {"HTTP/1.1 200 OK\nPriority: u=1\nCache-Status: a;hit\nT: max-age=1\nU: max-age=1\n"
+       "Cache-Control: max-age=1, s-maxage=2\nExpires: Sun, 06 Nov 1994 08:49:37 GMT\n"
+       "Date: Sun, 06 Nov 1994 08:49:37 GMT\nAge: 1\n\n",
+       {NULL}},
+      {"HTTP/1.1 200 OK\n\n", {NULL}},
+      /* a target decides, and all else is malformed */
+      {"HTTP/1.1 200 OK\nPriority: u=\nCache-Status: a, 7\nT: max-age=60\nU: a,\nCache-Control: a b\n"
+       "Expires: 0\nDate: x\nDate: Sun, 06 Nov 1994 08:49:37 GMT\nAge: x, 5\nAge: 6\n\n",
+       {"line 2, place 12: Priority: the text ended, expected a letter, a digit, a quote, `(`, `*`, `-`, "
+        "`:` or `?`\nPriority: u=\n            ^",
+        "line 3, place 17: Cache-Status: the member does not name a cache, expected a Token or a String\n"
+        "Cache-Status: a, 7\n                 ^",
+        "line 5, place 5: U: the text ended, expected a lower-case letter, `*`, a tab or a space\n"
+        "U: a,\n     ^",
+        "line 6, place 17: Cache-Control: byte 0x62 'b', expected `,` or the end\n"
+        "Cache-Control: a b\n                 ^",
+        "line 7, place 9: Expires: expected an HTTP-date, such as Sun, 06 Nov 1994 08:49:37 GMT\n"
+        "Expires: 0\n         ^",
+        "line 8, place 6: Date: expected an HTTP-date, such as Sun, 06 Nov 1994 08:49:37 GMT\n"
+        "Date: x\n      ^",
+        "line 9, place 6: Date: there are several lines\n"
+        "Date: Sun, 06 Nov 1994 08:49:37 GMT\n      ^",
+        "line 10, place 5: Age: expected a number of seconds\nAge: x, 5\n     ^",
+        "line 10, place 8: Age: there are several values\nAge: x, 5\n        ^"}},
+      /* each max-age and s-maxage, also of a target after the one that decides */
+      {"HTTP/1.1 200 OK\nT: s-maxage=1, max-age=x\nU: max-age=-1, s-maxage\nCache-Control: max-age=1.5\n"
+       "Cache-Control: a b, max-age=c\nCache-Control: S-Maxage=1, max-age=2, s-maxage=3\n\n",
+       {"line 2, place 23: T: expected a number of seconds\nT: s-maxage=1, max-age=x\n"
+        "                       ^",
+        "line 3, place 11: U: expected a number of seconds\nU: max-age=-1, s-maxage\n           ^",
+        "line 3, place 23: U: expected a number of seconds\nU: max-age=-1, s-maxage\n"
+        "                       ^",
+        "line 4, place 23: Cache-Control: expected a number of seconds\nCache-Control: max-age=1.5\n"
+        "                       ^",
+        "line 5, place 17: Cache-Control: byte 0x62 'b', expected `,` or the end\n"
+        "Cache-Control: a b, max-age=c\n                 ^",
+        "line 6, place 47: Cache-Control: s-maxage had another value before\n"
+        "Cache-Control: S-Maxage=1, max-age=2, s-maxage=3\n"
+        "                                               ^"}},
+      /* what does not count beside no-store and no-cache */
+      {"HTTP/1.1 200 OK\nCache-Control: no-store, max-age=x\nExpires: 0\nDate: x\n\n",
+       {"line 2, place 33: Cache-Control: expected a number of seconds\n"
+        "Cache-Control: no-store, max-age=x\n                                 ^",
+        "line 3, place 9: Expires: expected an HTTP-date, such as Sun, 06 Nov 1994 08:49:37 GMT\n"
+        "Expires: 0\n         ^",
+        "line 4, place 6: Date: expected an HTTP-date, such as Sun, 06 Nov 1994 08:49:37 GMT\n"
+        "Date: x\n      ^"}},
+      {"HTTP/1.1 200 OK\nU: no-cache, s-maxage=()\nDate: x\n\n",
+       {"line 2, place 22: U: expected a number of seconds\nU: no-cache, s-maxage=()\n"
+        "                      ^",
+        "line 3, place 6: Date: expected an HTTP-date, such as Sun, 06 Nov 1994 08:49:37 GMT\n"
+        "Date: x\n      ^"}},
+      /* a List that is malformed has one fault; a Dictionary that is empty has none */
+      {"HTTP/1.1 200 OK\nCache-Status: 7,\nT:\nU:\nPriority:\nAge: 5\n\n",
+       {"line 2, place 16: Cache-Status: the text ended, expected a letter, a digit, a quote, "
+        "`(`, `*`, `-`, `:`, `?`, a tab or a space\n"
+        "Cache-Status: 7,\n                ^"}},
+      /* several lines of a field */
+      {"HTTP/1.1 200 OK\nCache-Status: 1\nU: max-age=1\nU: max-age=x\ncache-status: 2\n\n",
+       {"line 2, place 14: Cache-Status: the member does not name a cache, expected a Token or a String\n"
+        "Cache-Status: 1\n              ^",
+        "line 4, place 11: U: expected a number of seconds\nU: max-age=x\n           ^",
+        "line 5, place 14: Cache-Status: the member does not name a cache, expected a Token or a String\n"
+        "cache-status: 2\n              ^"}},
+      /* of a request, Priority and Cache-Control */
+      {"GET / HTTP/1.1\nPriority: u=\nCache-Status: 7\nT: ,\nCache-Control: max-age=x\n"
+       "Cache-Control: a=\nExpires: 0\nDate: x\nAge: x\n\n",
+       {"line 2, place 12: Priority: the text ended, expected a letter, a digit, a quote, `(`, `*`, `-`, "
+        "`:` or `?`\nPriority: u=\n            ^",
+        "line 6, place 17: Cache-Control: the text ended, expected a token or a quoted-string\n"
+        "Cache-Control: a=\n                 ^"}},
+  };
+  sf_context context = sf_context_of(seed, SF_RFC8941);
+  sf_target targets[] = {sf_target_of("T"), sf_target_of("U")};
+  for (size_t i = 0; i < sizeof rows / sizeof *rows; ++i)
+    for (int order = 0; order < 4; ++order) { /* the other calls before, after, and how often */
+      sf_text received = sf_cstr(rows[i].head), rest = received, found;
+      size_t size = sf_head_memory_size(rest), count = 0;
+      void *memory = malloc(size), *other = malloc(size);
+      CHECK(memory != NULL && other != NULL);
+      sf_head head = sf_head_in_memory(memory, size, rest);
+      CHECK(sf_take_head(&head, &rest) == SF_OK && head.faults.length == 0);
+      if (order == 3)
+        CHECK(sf_find_field(&head, "Cache-Status", &found) == SF_OK);
+      for (int call = 0; call < 4; ++call) {
+        size_t joined = head.joined.length;
+        if (call % 2 == order % 2) {
+          CHECK(sf_check_head(&context, &head, targets, 2) == SF_OK && head.joined.length == joined);
+          if (order == 2)
+            break; /* it alone, once */
+          continue;
+        }
+        /* what the other calls say of a head that is not checked */
+        sf_exchange exchanges[2];
+        sf_verdict verdicts[2];
+        sf_hop hops[8];
+        char bytes[64], words[2][SF_VERDICT_SIZE(16)];
+        rest = received;
+        sf_head head_alone = sf_head_in_memory(other, size, rest);
+        CHECK(sf_take_head(&head_alone, &rest) == SF_OK);
+        for (int k = 0; k < 2; ++k) {
+          sf_head *one = k == 0 ? &head : &head_alone;
+          sf_hop_list list = sf_hop_list_in(SF_HOPS(hops), SF_BUFFER(bytes));
+          sf_buffer out = SF_BUFFER(words[k]);
+          sf_priority_flags client;
+          exchanges[k] = sf_exchange_of(SF_PRIVATE_CACHE, 784111777);
+          CHECK(sf_decide_response(&context, one, targets, 2, &exchanges[k], &verdicts[k]) == SF_OK);
+          exchanges[k] = sf_exchange_of(SF_SHARED_CACHE, 784111777);
+          sf_set_request(&exchanges[k], one);
+          CHECK(sf_decide_response(&context, one, targets, 2, &exchanges[k], &verdicts[k]) == SF_OK);
+          CHECK(sf_write_verdict(&verdicts[k], &out) == SF_OK);
+          words[k][out.length] = 0;
+          CHECK(sf_find_hops(&context, one, &list) == SF_OK);
+          CHECK(sf_find_priority(&context, one, &client) == SF_OK && client.incremental == 0);
+        }
+        CHECK(strcmp(words[0], words[1]) == 0 && verdicts[0].age == verdicts[1].age);
+        CHECK(verdicts[0].obstacle == verdicts[1].obstacle && verdicts[0].ttl == verdicts[1].ttl);
+        CHECK(memcmp(&exchanges[0], &exchanges[1], sizeof *exchanges) == 0);
+      }
+      if (head.is_request && order != 2) /* it was decided as a response */
+        CHECK(head.faults.length >= 2);
+      else {
+        for (; count < MOST && rows[i].messages[count] != NULL; ++count)
+          CHECK(count < head.faults.length && says(&head.faults.at[count], 80, rows[i].messages[count]));
+        CHECK(head.faults.length == count && head.faults.required == count);
+      }
+      free(memory);
+      free(other);
+    }
+
+  /* as many faults as a head can have by these calls, before those that the program finds */
+  sf_text received = sf_cstr("x\nCache-Control:max-age=a,s-maxage=b\nT:max-age=a,s-maxage=b\nAge:x,5\nPriority:=\n"
+                             "Cache-Status:1,2\nExpires:0\nDate:0\n");
+  sf_text rest = received;
+  size_t size = sf_head_memory_size(received);
+  void *memory = malloc(size);
+  CHECK(memory != NULL);
+  sf_head head = sf_head_in_memory(memory, size, received);
+  CHECK(sf_take_head(&head, &rest) == SF_REFUSED && head.faults.length == 2);
+  CHECK(sf_check_head(&context, &head, targets, 1) == SF_OK);
+  CHECK(head.faults.length == 13 && head.faults.required == 13 && head.faults.capacity == 13 + 1 + 8);
+  for (int k = 0; k < 2; ++k) {
+    sf_exchange exchange = sf_exchange_of(k == 0 ? SF_SHARED_CACHE : SF_PRIVATE_CACHE, 784111777);
+    sf_verdict verdict;
+    CHECK(sf_decide_response(&context, &head, targets, 1, &exchange, &verdict) == SF_OK);
+    CHECK(head.faults.length == 13 && head.faults.required == 13);
+  }
+  free(memory);
+
+  /* calls that fail, and no buffer for faults */
+  sf_head_line lines[2];
+  char joined[16];
+  for (size_t capacity = 0; capacity <= sizeof joined; ++capacity) {
+    static const char *const names[] = {"Priority", "Cache-Status", "T"};
+    head = sf_head_in(SF_HEAD_LINES(lines), sf_buffer_of(joined, capacity));
+    for (int k = 0; k < 2; ++k)
+      CHECK(sf_add_field_line(&head, sf_cstr(names[capacity % 3]), sf_cstr("7 a")) == SF_OK);
+    sf_status status = sf_check_head(&context, &head, targets, 1);
+    CHECK(status == (capacity < 8 ? SF_SHORT : SF_OK) && head.joined.length == 0);
+    CHECK(head.joined.required == (capacity < 8 ? 8 : 0));
+    CHECK(head.faults.length == 0 && head.faults.required == (capacity < 8 ? 0 : 1));
+  }
+  sf_context other = no_dialect();
+  CHECK(sf_check_head(&other, &head, targets, 1) == SF_BAD_CALL && head.faults.required == 1);
+  CHECK(sf_check_head(&context, &head, NULL, 0) == SF_OK);
 }
 
 /* A head with these lines of the fields of a row, and with an Age unless it is NULL. */
@@ -3408,6 +3625,7 @@ int main(void) {
   numbers_with_too_many_digits();
   lines_of_one_number();
   faults_of_decisions();
+  checked_heads();
   responses();
   lifetimes();
   storing();

@@ -506,7 +506,10 @@ impl fmt::Display for Error {
             Error::SecondRefused(refusal) => write!(f, "the second text: {refusal}"),
             Error::OtherType => f.write_str("the value is of another type"),
             Error::Empty => f.write_str("the field has no members"),
-            Error::NotACache { index, .. } => write!(f, "member {index} does not name a cache"),
+            Error::NotACache { index, .. } => write!(
+                f,
+                "member {index} does not name a cache, expected a Token or a String"
+            ),
             Error::Invalid => f.write_str("the value is out of range or not allowed"),
             Error::TooLong => f.write_str("the text or the value has 4 GiB or more"),
             Error::TooSmall { nodes, bytes } => {

@@ -7,8 +7,8 @@ use crate::malformed::{Fault, Malformed};
 use crate::Dialect;
 use crate::{
     age, field_text, has_field, trim, Cache, CacheRules, Cause, Decision, Error, Fallback,
-    FieldDate, FieldLine, Forward, Forwarded, Head, Hop, Integer, Name, Parser, Place, Refusal,
-    Response, Reuse, Seconds,
+    FieldDate, FieldLine, Forward, Forwarded, Head, HeadLine, Hop, Integer, Name, Parser, Place,
+    Refusal, Response, Reuse, Seconds,
 };
 use alloc::vec::Vec;
 use core::fmt;
@@ -418,7 +418,7 @@ pub struct Verdict<'a> {
     /// for `0` and the like have a meaning (section 5.3). A `max-age` or `s-maxage` that is no
     /// number of seconds makes the response stale (section 4.2.1), and is a fault if it counts
     /// likewise. `Age` always counts: if it is malformed it is ignored (section 5.1), and has no
-    /// such meaning.
+    /// such meaning; and so does a second line or member of it, which is ignored, too.
     ///
     /// ```
     /// use sf::{Cache, Exchange};
@@ -662,6 +662,42 @@ impl Parser {
         })
     }
 
+    /// What is malformed in the fields that this reads, also if they don't count.
+    pub(crate) fn faults<'a>(
+        &self,
+        targets: &[&'a str],
+        head: &[HeadLine<'_>],
+    ) -> Result<Vec<Malformed<'a>>, Error> {
+        let mut malformed = Vec::new();
+        for &name in targets {
+            match self.cache_rules(field_text(head, name)?) {
+                Ok(None) => {}
+                Ok(Some(rules)) => {
+                    for directive in invalid(&rules) {
+                        if let Some(one) = seconds_of_target(head, name, directive)? {
+                            note(&mut malformed, one)?;
+                        }
+                    }
+                }
+                Err(Error::Refused(refusal)) => note(&mut malformed, refusal.in_head(head, name))?,
+                Err(error) => return Err(error),
+            }
+        }
+        Fallback::read(head.iter().enumerate(), &mut malformed)?;
+        let mut lists = Fallback::new();
+        let of_field = head.iter().filter(|line| is_of(*line, "Cache-Control"));
+        for line in of_field.filter(|line| is_list(line.value)) {
+            lists.add_cache_control(line.value);
+        }
+        for directive in invalid(&lists.rules()) {
+            if let Some(one) = seconds_of_lines(head, directive) {
+                note(&mut malformed, one)?;
+            }
+        }
+        age_of(head, &mut malformed)?;
+        Ok(malformed)
+    }
+
     /// The first field of a target list that is not ignored: its index, and its directives.
     fn obeyed<'a, H>(
         &self,
@@ -715,6 +751,20 @@ fn not_seconds(decision: &Decision, rules: &CacheRules, cache: Cache) -> Option<
     (is_invalid && !is_barred).then_some(name)
 }
 
+/// The directives that are no number of seconds, whether or not they count.
+fn invalid(rules: &CacheRules) -> impl Iterator<Item = &'static str> {
+    let max_age = rules.invalid_max_age.then_some("max-age");
+    let s_maxage = rules.invalid_s_maxage.then_some("s-maxage");
+    max_age.into_iter().chain(s_maxage)
+}
+
+/// Whether a line of `Cache-Control` is a list of directives.
+fn is_list(line: &[u8]) -> bool {
+    let mut fallback = Fallback::new();
+    fallback.add_cache_control(line);
+    !fallback.is_refused()
+}
+
 /// Where such a directive is in a targeted field.
 fn seconds_of_target<'a, H>(
     head: H,
@@ -739,7 +789,7 @@ where
     })
 }
 
-/// Where such a directive is in `Cache-Control`.
+/// Where such a directive is in the lines of `Cache-Control` that are lists of directives.
 fn seconds_of_lines<H>(head: H, name: &'static str) -> Option<Malformed<'static>>
 where
     H: IntoIterator,
@@ -747,7 +797,7 @@ where
 {
     let mut before = None;
     head.into_iter().enumerate().find_map(|(line, of_head)| {
-        if !is_of(&of_head, "Cache-Control") {
+        if !is_of(&of_head, "Cache-Control") || !is_list(of_head.value()) {
             return None;
         }
         let begin = spaces_before(of_head.value());
@@ -836,23 +886,44 @@ fn new_fault(before: FieldDate, after: FieldDate) -> Option<Fault> {
     }
 }
 
-/// The number in `Age`, 0 without one that counts.
+/// The number in `Age`, 0 without one that counts. A second line or member is a fault.
 fn age_of<H>(head: H, malformed: &mut Vec<Malformed<'_>>) -> Result<u64, Error>
 where
     H: IntoIterator,
     H::Item: FieldLine,
 {
-    let mut lines = head.into_iter().enumerate();
-    let first = lines.find(|(_, line)| is_of(line, "Age"));
-    let (line, read) = match first {
+    let field = "Age";
+    let lines = head.into_iter().enumerate();
+    let mut lines = lines.filter(|(_, line)| is_of(line, field));
+    let (line, first) = match lines.next() {
         None => return Ok(0),
-        Some((line, first)) => (line, age(first.value())),
+        Some(first) => first,
     };
+    let read = age(first.value());
     if read.is_none() {
-        let (field, fault) = ("Age", Fault::NotAnAge);
+        let fault = Fault::NotAnAge;
+        note(malformed, Malformed { field, line, fault })?;
+    }
+    let second = match second_member(first.value()) {
+        Some(offset) => Some((line, offset)),
+        None => lines
+            .next()
+            .map(|(line, other)| (line, spaces_before(other.value()))),
+    };
+    if let Some((line, offset)) = second {
+        let fault = Fault::OtherAge { offset };
         note(malformed, Malformed { field, line, fault })?;
     }
     Ok(read.unwrap_or(0))
+}
+
+/// Where the second member of a line of `Age` begins, without those that are empty.
+fn second_member(value: &[u8]) -> Option<usize> {
+    let is_within = |byte: &u8| !matches!(byte, b',' | b' ' | b'\t');
+    let first = value.iter().position(is_within)?;
+    let comma = first + value[first..].iter().position(|byte| *byte == b',')?;
+    let second = value[comma..].iter().position(is_within)?;
+    Some(comma + second)
 }
 
 fn note<'a>(malformed: &mut Vec<Malformed<'a>>, one: Malformed<'a>) -> Result<(), Error> {

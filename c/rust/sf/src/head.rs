@@ -7,7 +7,8 @@ use crate::malformed::{Fault, Malformed, StartFault};
 use crate::place::nameless;
 use crate::{
     field_text, has_field, trim, Appended, Error, Exchange, Fallback, FieldLine, FieldType,
-    HeadFault, Hop, Obstacle, Parser, Path, Place, Priority, Refusal, ResponsePriority, Verdict,
+    HeadFault, Hop, Kind, Obstacle, Parser, Path, Place, Priority, Refusal, ResponsePriority,
+    Verdict,
 };
 use alloc::vec::Vec;
 
@@ -194,9 +195,7 @@ impl<'a> Head<'a> {
                 head.count_line();
                 break;
             }
-            // The fields after a malformed request line are those of a request, too.
-            let is_request = head.is_request || required == Some(Fault::NoRequestLine);
-            head.add_line_of(line, is_request)?;
+            head.add_line_of(line, required)?;
         }
         match required {
             Some(Fault::NoRequestLine) if head.is_request => {}
@@ -249,11 +248,13 @@ impl<'a> Head<'a> {
     /// assert!(!head.add_line("Age 20").unwrap() && head.is_incomplete());
     /// ```
     pub fn add_line<T: AsRef<[u8]> + ?Sized>(&mut self, line: &'a T) -> Result<bool, Error> {
-        self.add_line_of(line.as_ref(), self.is_request)
+        self.add_line_of(line.as_ref(), None)
     }
 
-    /// Adds a line, that of a request or not.
-    fn add_line_of(&mut self, line: &'a [u8], is_request: bool) -> Result<bool, Error> {
+    /// Adds a line of a head with the fault if it lacks the start line that the fault is about.
+    fn add_line_of(&mut self, line: &'a [u8], required: Option<Fault>) -> Result<bool, Error> {
+        // The fields after a malformed request line are those of a request, too.
+        let is_request = self.is_request || required == Some(Fault::NoRequestLine);
         let received = without_end(line);
         if received.is_empty() || !self.is_begun && self.takes_start_line(received) {
             self.count_line();
@@ -270,7 +271,7 @@ impl<'a> Head<'a> {
         let (fault, offset) = if self.is_begun {
             (Fault::NotALine(refusal), place)
         } else {
-            let (start, at) = start_fault(received);
+            let (start, at) = start_fault(received, required == Some(Fault::NoStatusLine));
             let line = split(received, false).err().unwrap_or(refusal);
             (Fault::NotAStartLine { start, line }, at.unwrap_or(place))
         };
@@ -478,7 +479,7 @@ impl<'a> Head<'a> {
 
     /// What was found to be malformed so far, in the order of the lines: lines that are no field
     /// lines or have white space before the colon, a missing start line or end, and fields that were
-    /// read.
+    /// read. [`Head::check`] adds what is malformed in the others.
     ///
     /// ```
     /// let mut head = sf::Head::parse(sf::Parser::new(), "Priority: u=\r\n\r\n").unwrap();
@@ -573,6 +574,8 @@ impl<'a> Head<'a> {
     /// Decides what a cache does with the response: see [`Exchange::decide_in`]. If the exchange has
     /// no status code, that of the start line counts. The head is incomplete if the exchange or this
     /// head says so. If it is that of a request, that forbids storing ([`Obstacle::NotAResponse`]).
+    /// [`Head::malformed`] has what counts and is malformed; [`Head::check`] adds what does not
+    /// count, such as a target after the one that decides.
     ///
     /// # Errors
     ///
@@ -708,6 +711,53 @@ impl<'a> Head<'a> {
         })
     }
 
+    /// Adds each malformed field that this crate reads to [`Head::malformed`], also if it does not
+    /// count for a decision: Priority, Cache-Status, `Cache-Control`, `Expires`, `Date`, `Age` and
+    /// the field of each target, and each `max-age` or `s-maxage` that is no number of seconds; of a
+    /// request ([`Head::is_request`]), Priority and `Cache-Control`, as [`Exchange::with_request`]
+    /// reads it. `Expires: 0` beside `no-store` is a fault, too. A fault that is there already is
+    /// not added again: call it before or after the other methods, whose results it does not change.
+    ///
+    /// # Errors
+    ///
+    /// [`Error::OutOfMemory`] only.
+    ///
+    /// ```
+    /// use sf::{Head, Parser};
+    /// # fn main() -> Result<(), sf::Error> {
+    /// let received = "HTTP/1.1 200 OK\r\nCDN-Cache-Control: max-age=60\r\n\
+    ///                 Cache-Control: max-age=\r\nAge: 20, 30\r\n\r\n";
+    /// let mut head = Head::parse_response(Parser::new(), received)?;
+    /// head.check(&["CDN-Cache-Control"])?;
+    /// let messages: Vec<_> = head.malformed().iter().map(ToString::to_string).collect();
+    /// assert_eq!(
+    ///     messages,
+    ///     [
+    ///         "line 3, place 23: Cache-Control: the text ended, expected a token or a quoted-string",
+    ///         "line 4, place 9: Age: there are several values"
+    ///     ]
+    /// );
+    /// # Ok(())
+    /// # }
+    /// ```
+    pub fn check(&mut self, targets: &[&str]) -> Result<(), Error> {
+        let priority = field_text(&self.lines, "Priority")?;
+        let said = self.parser.check(Kind::Dict, priority);
+        self.or_absent("Priority", said)?;
+        if self.is_request {
+            return self.is_no_store().map(|_| ());
+        }
+        let path = field_text(&self.lines, "Cache-Status")?;
+        match self.parser.check(Kind::List, &path) {
+            Ok(()) => self.note_nameless(&path)?,
+            said => self.or_absent("Cache-Status", said)?,
+        }
+        for malformed in self.parser.faults(targets, &self.lines)? {
+            self.note(malformed)?;
+        }
+        Ok(())
+    }
+
     /// Whether a cache must not store the response to this request, by the `no-store` of its
     /// `Cache-Control` (RFC 9111 section 5.2.1.5), or may not for all that is known: if a line of
     /// it is malformed, which is noted, a directive may be lost.
@@ -785,7 +835,9 @@ impl<'a> Head<'a> {
                 (digits.count(), "")
             }
             Fault::NotADate => http_date::fault(line.value),
-            Fault::NotSeconds { offset } | Fault::OtherSeconds { offset, .. } => (offset, ""),
+            Fault::NotSeconds { offset }
+            | Fault::OtherSeconds { offset, .. }
+            | Fault::OtherAge { offset } => (offset, ""),
             _ => (0, ""),
         };
         let offset = line.value_at.saturating_add(place);
@@ -796,6 +848,7 @@ impl<'a> Head<'a> {
             }),
             Fault::NotSeconds { .. } => Fault::NotSeconds { offset },
             Fault::OtherSeconds { directive, .. } => Fault::OtherSeconds { directive, offset },
+            Fault::OtherAge { .. } => Fault::OtherAge { offset },
             fault => fault,
         };
         Ok(HeadFault {
@@ -846,8 +899,9 @@ fn merge<'a>(faults: &mut Vec<HeadFault<'a>>, more: Vec<HeadFault<'a>>) -> Resul
     Ok(())
 }
 
-/// Why a line is no start line, and where, unless its end is wrong.
-fn start_fault(line: &[u8]) -> (StartFault, Option<usize>) {
+/// Why a line is no start line, or no status line if that is required, and where, unless its end is
+/// wrong.
+fn start_fault(line: &[u8], is_status_required: bool) -> (StartFault, Option<usize>) {
     if let Some(at) = line.iter().position(is_barred) {
         return (StartFault::BarredByte, Some(at));
     }
@@ -857,6 +911,10 @@ fn start_fault(line: &[u8]) -> (StartFault, Option<usize>) {
             (StartFault::NoStatusCode, Some(length + usize::from(space)))
         }
         None if line.starts_with(b"HTTP/") => (StartFault::NoVersion, Some(5)),
+        None if is_status_required => {
+            let of_both = line.iter().zip(b"HTTP/").take_while(|(a, b)| a == b);
+            (StartFault::NotAStatusLine, Some(of_both.count()))
+        }
         None => request_fault(line).unwrap_or((StartFault::NotARequestLine, None)),
     }
 }

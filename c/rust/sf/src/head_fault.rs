@@ -39,10 +39,11 @@ pub struct HeadFault<'a> {
     /// The place in the line, from 0: where it is refused; for [`Fault::NotACache`], where the
     /// member begins; for [`Fault::NotADate`], the part of the date that is wrong; for
     /// [`Fault::NotSeconds`], the argument of the directive; for [`Fault::NotAnAge`], where the
-    /// first member has a byte that is no digit, or ends if it is empty; for
-    /// [`Fault::NotAStartLine`], the CR, LF or NUL, or where it can't go on as a status line if it
-    /// begins with `HTTP/`, or as a request line if it begins with a method and a space, such as at
-    /// a space in the target, otherwise where it is no field line; for a missing start line, 0; for a missing end,
+    /// first member has a byte that is no digit, or ends if it is empty; for [`Fault::OtherAge`],
+    /// where the second member or line begins; for [`Fault::NotAStartLine`], the CR, LF or NUL, or
+    /// where it can't go on as a status line if it begins with `HTTP/` or a status line is required,
+    /// or as a request line if it begins with a method and a space, such as at a space in the
+    /// target, otherwise where it is no field line; for a missing start line, 0; for a missing end,
     /// that of the text; for [`Fault::Own`], that of the program; otherwise where the value begins.
     pub offset: usize,
     /// The part that is expected of [`Fault::NotADate`], in words that go on with a date.

@@ -320,7 +320,9 @@ impl Hop<'_> {
     /// Writes the text of a Cache-Status field whose only member is this hop: a field line of its
     /// own, which a cache adds after the lines that came from the caches nearer the origin. If these
     /// are malformed, so is the field with this line, and the hop is lost:
-    /// [`Hop::append_or_replace_in`] tells.
+    /// [`Hop::append_or_replace_in`] tells. A hop of a [`Path`](crate::Path) has no parameters that
+    /// RFC 9211 does not define, and none that count as absent: entry i of the
+    /// [`List`](crate::List) of the field is hop i, with all parameters.
     ///
     /// # Errors
     ///

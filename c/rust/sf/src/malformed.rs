@@ -44,6 +44,13 @@ pub enum Fault {
     Repeated,
     /// The first member of `Age` is not one or more digits.
     NotAnAge,
+    /// `Age` has a second line, or in its first line a second member that is not empty: the first
+    /// member counts (RFC 9111 section 5.1).
+    OtherAge {
+        /// Where it begins, in the value of the line if this is of a [`Malformed`], and in the whole
+        /// line if it is of a [`HeadFault`](crate::HeadFault).
+        offset: usize,
+    },
     /// A member of Cache-Status that does not name a cache: see [`Error::NotACache`]. A
     /// [`Head`](crate::Head) reports each.
     ///
@@ -71,8 +78,8 @@ pub enum Fault {
     /// A [`Head`](crate::Head) that does not end with an empty line: the text ended before it, in a
     /// line or after one.
     NoEnd,
-    /// `max-age`, or `s-maxage` in a shared cache, is no number of seconds, so that the response is
-    /// stale (RFC 9111 section 4.2.1).
+    /// `max-age` or `s-maxage` is no number of seconds: if it counts, the response is stale (RFC
+    /// 9111 section 4.2.1).
     NotSeconds {
         /// Where the argument begins, in the value of the line if this is of a [`Malformed`], and
         /// in the whole line if it is of a [`HeadFault`](crate::HeadFault); the end of the name if
@@ -112,6 +119,9 @@ pub enum StartFault {
     /// It begins with a version, and no space and three digits follow, of which the first is not 0
     /// (section 4).
     NoStatusCode,
+    /// It does not begin with `HTTP/`, as the status line does that
+    /// [`Head::parse_response`](crate::Head::parse_response) requires (section 4).
+    NotAStatusLine,
     /// It has a method, a target and a version, and there is white space in the target (section
     /// 3.2).
     SpaceInTarget,
@@ -131,6 +141,7 @@ impl StartFault {
             StartFault::BarredByte => "a CR, LF or NUL in it",
             StartFault::NoVersion => "no version",
             StartFault::NoStatusCode => "no status code of three digits",
+            StartFault::NotAStatusLine => "a status line begins with HTTP/",
             StartFault::SpaceInTarget => "white space in the target",
             StartFault::NotARequestLine => "no method, target and version",
         }
@@ -150,11 +161,14 @@ impl fmt::Display for Fault {
             Fault::NotADate => write!(f, "expected {DATE}"),
             Fault::Repeated => f.pad("there are several lines"),
             Fault::NotAnAge | Fault::NotSeconds { .. } => f.pad("expected a number of seconds"),
+            Fault::OtherAge { .. } => f.pad("there are several values"),
             Fault::OtherSeconds { directive, .. } => {
                 write!(f, "{directive} had another value before")
             }
             Fault::Own => f.pad("a fault that the program found"),
-            Fault::NotACache => f.pad("the member does not name a cache"),
+            Fault::NotACache => {
+                f.pad("the member does not name a cache, expected a Token or a String")
+            }
             Fault::NotALine(refusal) => {
                 let why = line_fault(refusal).unwrap_or("it continues the line before");
                 write!(f, "not a field line: {why}")

@@ -56,7 +56,10 @@ impl Path {
     /// ```
     /// assert_eq!(sf::Path::parse("a;hit").unwrap().served_by(), Some(0));
     /// let error = sf::Path::parse("a, 7").unwrap_err();
-    /// assert_eq!(error.to_string(), "member 1 does not name a cache");
+    /// assert_eq!(
+    ///     error.to_string(),
+    ///     "member 1 does not name a cache, expected a Token or a String"
+    /// );
     /// assert_eq!(error.refusal().map(|refusal| refusal.offset), Some(3));
     /// ```
     #[cfg(feature = "std")]

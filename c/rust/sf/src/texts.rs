@@ -5,8 +5,8 @@ use crate::ffi::Rules;
 use crate::nodes::Nodes;
 use crate::{
     BareItem, CacheRules, Date, Decimal, Dictionary, Error, FwdStatus, GenericBareItem, InnerList,
-    Integer, Item, Kind, List, ListEntry, Parameters, Parser, Path, Policy, Priority,
-    ResponsePriority, Seconds, Urgency,
+    Integer, Item, Kind, List, ListEntry, Name, Parameters, Parser, Path, Policy, Priority,
+    RefBareItem, ResponsePriority, Seconds, Urgency,
 };
 use alloc::string::String;
 use core::fmt;
@@ -145,15 +145,48 @@ fn pad(text: Result<String, Error>, f: &mut fmt::Formatter<'_>) -> fmt::Result {
     f.pad(&text.map_err(|_| fmt::Error)?)
 }
 
+impl ListEntry {
+    /// Writes its canonical text (RFC 9651 sections 4.1.1.1 and 4.1.3).
+    ///
+    /// # Errors
+    ///
+    /// [`Error::OutOfMemory`], or [`Error::TooLong`] if its keys and bytes have 4 GiB or more. For
+    /// these `to_string` panics, and so does `writeln!` to an `io::Write`.
+    ///
+    /// ```
+    /// let list = sf::List::parse("(a  b );q").unwrap();
+    /// assert_eq!(list[0].serialize().unwrap(), "(a b);q");
+    /// ```
+    pub fn serialize(&self) -> Result<String, Error> {
+        part(|nodes| nodes.member(None, self))
+    }
+}
+
 impl fmt::Display for ListEntry {
     fn fmt(&self, f: &mut fmt::Formatter<'_>) -> fmt::Result {
-        pad(part(|nodes| nodes.member(None, self)), f)
+        pad(self.serialize(), f)
+    }
+}
+
+impl InnerList {
+    /// Writes its canonical text (RFC 9651 section 4.1.1.1).
+    ///
+    /// # Errors
+    ///
+    /// Those of [`ListEntry::serialize`].
+    ///
+    /// ```
+    /// let list = sf::List::parse("(a  b );q").unwrap();
+    /// assert_eq!(list[0].as_inner_list().unwrap().serialize().unwrap(), "(a b);q");
+    /// ```
+    pub fn serialize(&self) -> Result<String, Error> {
+        part(|nodes| nodes.inner_list(None, self))
     }
 }
 
 impl fmt::Display for InnerList {
     fn fmt(&self, f: &mut fmt::Formatter<'_>) -> fmt::Result {
-        pad(part(|nodes| nodes.inner_list(None, self)), f)
+        pad(self.serialize(), f)
     }
 }
 
@@ -193,12 +226,50 @@ where
     }
 }
 
+impl Name<'_> {
+    /// Writes its canonical text, that of a String with its quotes (RFC 9651 sections 4.1.6 and
+    /// 4.1.7). [`Name::as_str`] and `to_string` write it without them.
+    ///
+    /// # Errors
+    ///
+    /// [`Error::OutOfMemory`] only.
+    ///
+    /// ```
+    /// let name = |text| sf::Path::parse(text).unwrap().hops().next().unwrap().name.serialize();
+    /// assert_eq!(name("edge;hit").unwrap(), "edge");
+    /// assert_eq!(name("\"edge 1\"").unwrap(), "\"edge 1\"");
+    /// ```
+    pub fn serialize(self) -> Result<String, Error> {
+        match self {
+            Name::String(text) => RefBareItem::String(text).serialize(),
+            Name::Token(text) => RefBareItem::Token(text).serialize(),
+        }
+    }
+}
+
+impl Parameters {
+    /// Writes their canonical text (RFC 9651 section 4.1.1.2): each parameter with the semicolon
+    /// before it.
+    ///
+    /// # Errors
+    ///
+    /// Those of [`ListEntry::serialize`].
+    ///
+    /// ```
+    /// let item = sf::Item::parse("1; a;b=?0").unwrap();
+    /// assert_eq!(item.params.serialize().unwrap(), ";a;b=?0");
+    /// ```
+    pub fn serialize(&self) -> Result<String, Error> {
+        // They follow a Boolean, whose text is `?1`.
+        let mut text = part(|nodes| nodes.member_item(None, true.into(), self))?;
+        text.drain(.."?1".len());
+        Ok(text)
+    }
+}
+
 /// Each parameter with the semicolon before it.
 impl fmt::Display for Parameters {
     fn fmt(&self, f: &mut fmt::Formatter<'_>) -> fmt::Result {
-        // They follow a Boolean, whose text is `?1`.
-        let text = part(|nodes| nodes.member_item(None, true.into(), self));
-        let text = text.map_err(|_| fmt::Error)?;
-        f.pad(text.strip_prefix("?1").ok_or(fmt::Error)?)
+        pad(self.serialize(), f)
     }
 }

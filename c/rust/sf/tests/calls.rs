@@ -108,7 +108,7 @@ fn an_error_has_a_message() {
         .starts_with("the second text: the text ended at place 0, expected "));
     assert_eq!(
         message(Path::parse("7").unwrap_err()),
-        "member 0 does not name a cache"
+        "member 0 does not name a cache, expected a Token or a String"
     );
     // What is after the name of a file, such as `a.txt: out of memory`.
     for (error, expected) in [

@@ -211,6 +211,8 @@ fn heads_of_a_kind() {
     let neither =
         "neither a start line (no method, target and version) nor a field line (no colon \
                    after the name)";
+    let no_status_line = "neither a start line (a status line begins with HTTP/) nor a field line \
+                          (no colon after the name)";
     // Of each fault the number of the line, the place and the words, in a request and a response.
     type Faults<'a> = Vec<(usize, usize, &'a str)>;
     let both = |line, more: Faults<'static>| {
@@ -237,7 +239,7 @@ fn heads_of_a_kind() {
         ),
         (
             "GET /\nAge: 1\n\n",
-            [vec![(1, 5, neither)], vec![(1, 5, neither)]],
+            [vec![(1, 5, neither)], vec![(1, 0, no_status_line)]],
         ),
         ("", both(1, vec![(1, 0, end)])),
         ("\r\n\n", both(3, vec![(3, 0, end)])),
@@ -1045,10 +1047,10 @@ fn faults_of_whole_heads() {
             2,
             true,
             &[
-                "line 1, place 6: neither a start line (white space in the target) \
+                "line 1, place 0: neither a start line (a status line begins with HTTP/) \
                  nor a field line (no colon after the name)\n\
                  GET /a b HTTP/1.1\n\
-                 \x20     ^",
+                 ^",
                 "line 2, place 4: white space before the colon\n\
                  Host : x\n\
                  \x20   ^",
@@ -1169,6 +1171,77 @@ fn faults_of_whole_heads() {
                  \x20  ^"],
         ),
         ("response", "HTTP/2 200\n\n", 0, false, &[]),
+        // "HTTP-name is case-sensitive" (RFC 9112 section 2.3)
+        (
+            "response",
+            "http/1.1 200 OK\nAge: 1\n\n",
+            1,
+            true,
+            &[
+                "line 1, place 0: neither a start line (a status line begins with HTTP/) \
+                 nor a field line (no colon after the name)\n\
+                 http/1.1 200 OK\n\
+                 ^",
+            ],
+        ),
+        (
+            "head",
+            "http/1.1 200 OK\nAge: 1\n\n",
+            1,
+            true,
+            &[
+                "line 1, place 4: neither a start line (no method, target and version) \
+                 nor a field line (no colon after the name)\n\
+                 http/1.1 200 OK\n\
+                 \x20   ^",
+            ],
+        ),
+        (
+            "request",
+            "http/1.1 200 OK\n\n",
+            0,
+            true,
+            &[
+                "line 1, place 4: neither a start line (no method, target and version) \
+                 nor a field line (no colon after the name)\n\
+                 http/1.1 200 OK\n\
+                 \x20   ^",
+            ],
+        ),
+        (
+            "response",
+            "HTTP\n\n",
+            0,
+            true,
+            &[
+                "line 1, place 4: neither a start line (a status line begins with HTTP/) \
+                 nor a field line (no colon after the name)\n\
+                 HTTP\n\
+                 \x20   ^",
+            ],
+        ),
+        (
+            "response",
+            "HTTP/x\n\n",
+            0,
+            true,
+            &["line 1, place 5: neither a start line (no version) \
+                 nor a field line (no colon after the name)\n\
+                 HTTP/x\n\
+                 \x20    ^"],
+        ),
+        (
+            "response",
+            "200\rOK\n\n",
+            0,
+            true,
+            &[
+                "line 1, place 3: neither a start line (a CR, LF or NUL in it) \
+                 nor a field line (no colon after the name)\n\
+                 200?OK\n\
+                 \x20  ^",
+            ],
+        ),
         (
             "request",
             "GET / HTTP/1.1\nHost: x",
@@ -1281,13 +1354,16 @@ fn members_that_name_no_cache() {
         (
             "Cache-Status: 7, a, (b c), \"d, 1\"; x=\", 2\", ?1,*e\n\n",
             &[
-                "line 1, place 14: Cache-Status: the member does not name a cache\n\
+                "line 1, place 14: Cache-Status: the member does not name a cache, \
+                 expected a Token or a String\n\
                  Cache-Status: 7, a, (b c), \"d, 1\"; x=\", 2\", ?1,*e\n\
                  \x20             ^",
-                "line 1, place 20: Cache-Status: the member does not name a cache\n\
+                "line 1, place 20: Cache-Status: the member does not name a cache, \
+                 expected a Token or a String\n\
                  Cache-Status: 7, a, (b c), \"d, 1\"; x=\", 2\", ?1,*e\n\
                  \x20                   ^",
-                "line 1, place 44: Cache-Status: the member does not name a cache\n\
+                "line 1, place 44: Cache-Status: the member does not name a cache, \
+                 expected a Token or a String\n\
                  Cache-Status: 7, a, (b c), \"d, 1\"; x=\", 2\", ?1,*e\n\
                  \x20                                           ^",
             ],
@@ -1295,10 +1371,12 @@ fn members_that_name_no_cache() {
         (
             "Cache-Status: a; hit, 1.5\nAge: 1\ncache-status:\t:YQ==:, *b;hit\n\n",
             &[
-                "line 1, place 22: Cache-Status: the member does not name a cache\n\
+                "line 1, place 22: Cache-Status: the member does not name a cache, \
+                 expected a Token or a String\n\
                  Cache-Status: a; hit, 1.5\n\
                  \x20                     ^",
-                "line 3, place 14: Cache-Status: the member does not name a cache\n\
+                "line 3, place 14: Cache-Status: the member does not name a cache, \
+                 expected a Token or a String\n\
                  cache-status:?:YQ==:, *b;hit\n\
                  \x20             ^",
             ],
@@ -1306,10 +1384,12 @@ fn members_that_name_no_cache() {
         (
             "Cache-Status: \"c\nCache-Status: 1\", 2\nCache-Status: -3\n\n",
             &[
-                "line 2, place 18: Cache-Status: the member does not name a cache\n\
+                "line 2, place 18: Cache-Status: the member does not name a cache, \
+                 expected a Token or a String\n\
                  Cache-Status: 1\", 2\n\
                  \x20                 ^",
-                "line 3, place 14: Cache-Status: the member does not name a cache\n\
+                "line 3, place 14: Cache-Status: the member does not name a cache, \
+                 expected a Token or a String\n\
                  Cache-Status: -3\n\
                  \x20             ^",
             ],
@@ -1320,16 +1400,19 @@ fn members_that_name_no_cache() {
                 "line 2, place 12: white space before the colon\n\
                  Cache-Status : 1, 2\n\
                  \x20           ^",
-                "line 2, place 15: Cache-Status: the member does not name a cache\n\
+                "line 2, place 15: Cache-Status: the member does not name a cache, \
+                 expected a Token or a String\n\
                  Cache-Status : 1, 2\n\
                  \x20              ^",
-                "line 2, place 18: Cache-Status: the member does not name a cache\n\
+                "line 2, place 18: Cache-Status: the member does not name a cache, \
+                 expected a Token or a String\n\
                  Cache-Status : 1, 2\n\
                  \x20                 ^",
                 "line 3, place 1: not a field line: no colon after the name\n\
                  x\n\
                  \x20^",
-                "line 4, place 14: Cache-Status: the member does not name a cache\n\
+                "line 4, place 14: Cache-Status: the member does not name a cache, \
+                 expected a Token or a String\n\
                  Cache-Status: 3\n\
                  \x20             ^",
             ],
@@ -1654,7 +1737,8 @@ fn fields_of_a_head() {
     }
     assert_eq!(
         messages(&head, 26)[2],
-        "line 5, place 25: Cache-Status: the member does not name a cache\n\
+        "line 5, place 25: Cache-Status: the member does not name a cache, \
+         expected a Token or a String\n\
          cache-status: edge; hit, 7\n                         ^"
     );
     head.path().unwrap();
@@ -1696,16 +1780,47 @@ fn faults_of_decisions() {
         ),
         (
             "Age:\nAge: 5\n",
-            &["line 1, place 4: Age: expected a number of seconds\nAge:\n    ^"],
+            &[
+                "line 1, place 4: Age: expected a number of seconds\nAge:\n    ^",
+                "line 2, place 5: Age: there are several values\nAge: 5\n     ^",
+            ],
         ),
-        ("Age: 5\nAge: x\n", &[]),
+        // "a cache encountering a message with a list-based Age field value SHOULD use the first
+        // member of the field value, discarding subsequent ones" (RFC 9111 section 5.1)
+        (
+            "Age: 20\t, x\n",
+            &["line 1, place 10: Age: there are several values\nAge: 20?, x\n          ^"],
+        ),
+        (
+            "Age: 5\nAge: x\n",
+            &["line 2, place 5: Age: there are several values\nAge: x\n     ^"],
+        ),
+        (
+            "Age: 5, 6\nAge: 7\n",
+            &["line 1, place 8: Age: there are several values\nAge: 5, 6\n        ^"],
+        ),
+        ("Age: 5 ,\t,\n", &[]), // empty members are none (RFC 9110 section 5.6.1.2)
+        (
+            "Age: 5,,\nVia: a\nage:\n",
+            &["line 3, place 4: Age: there are several values\nage:\n    ^"],
+        ),
+        (
+            "Age: , 20,30\n",
+            &[
+                "line 1, place 5: Age: expected a number of seconds\nAge: , 20,30\n     ^",
+                "line 1, place 10: Age: there are several values\nAge: , 20,30\n          ^",
+            ],
+        ),
         (
             "Age: 5 days\n",
             &["line 1, place 6: Age: expected a number of seconds\nAge: 5 days\n      ^"],
         ),
         (
             "Age: -5, 20\n",
-            &["line 1, place 5: Age: expected a number of seconds\nAge: -5, 20\n     ^"],
+            &[
+                "line 1, place 5: Age: expected a number of seconds\nAge: -5, 20\n     ^",
+                "line 1, place 9: Age: there are several values\nAge: -5, 20\n         ^",
+            ],
         ),
         (
             "Age: \t , 20\n",
@@ -1763,6 +1878,196 @@ fn faults_of_decisions() {
             verdict,
             parser().decide(&exchange, &["T"], head.lines()).unwrap()
         );
+    }
+}
+
+/// What `Head::check` finds, before and after the other calls, whose results it does not change.
+/// `c/tests/few_arguments.c` has the same rows.
+#[test]
+fn checked_heads() {
+    let rows: &[(&str, &[&str])] = &[
+        (
+            "HTTP/1.1 200 OK\nPriority: u=1\nCache-Status: a;hit\nT: max-age=1\n\
+                 U: max-age=1\nCache-Control: max-age=1, s-maxage=2\n\
+                 Expires: Sun, 06 Nov 1994 08:49:37 GMT\n\
+                 Date: Sun, 06 Nov 1994 08:49:37 GMT\nAge: 1\n\n",
+            &[],
+        ),
+        ("HTTP/1.1 200 OK\n\n", &[]),
+        // a target decides, and all else is malformed
+        (
+            "HTTP/1.1 200 OK\nPriority: u=\nCache-Status: a, 7\nT: max-age=60\n\
+                 U: a,\nCache-Control: a b\nExpires: 0\nDate: x\n\
+                 Date: Sun, 06 Nov 1994 08:49:37 GMT\nAge: x, 5\nAge: 6\n\n",
+            &[
+                "line 2, place 12: Priority: the text ended, expected a letter, a \
+                 digit, a quote, `(`, `*`, `-`, `:` or `?`\n\
+                 Priority: u=\n\
+                 \x20           ^",
+                "line 3, place 17: Cache-Status: the member does not name a cache, \
+                 expected a Token or a String\n\
+                 Cache-Status: a, 7\n\
+                 \x20                ^",
+                "line 5, place 5: U: the text ended, expected a lower-case letter, \
+                 `*`, a tab or a space\n\
+                 U: a,\n\
+                 \x20    ^",
+                "line 6, place 17: Cache-Control: byte 0x62 'b', expected `,` or the \
+                 end\n\
+                 Cache-Control: a b\n\
+                 \x20                ^",
+                "line 7, place 9: Expires: expected an HTTP-date, such as Sun, 06 \
+                 Nov 1994 08:49:37 GMT\n\
+                 Expires: 0\n\
+                 \x20        ^",
+                "line 8, place 6: Date: expected an HTTP-date, such as Sun, 06 Nov \
+                 1994 08:49:37 GMT\n\
+                 Date: x\n\
+                 \x20     ^",
+                "line 9, place 6: Date: there are several lines\n\
+                 Date: Sun, 06 Nov 1994 08:49:37 GMT\n\
+                 \x20     ^",
+                "line 10, place 5: Age: expected a number of seconds\n\
+                 Age: x, 5\n\
+                 \x20    ^",
+                "line 10, place 8: Age: there are several values\n\
+                 Age: x, 5\n\
+                 \x20       ^",
+            ],
+        ),
+        // each max-age and s-maxage, also of a target after the one that decides
+        (
+            "HTTP/1.1 200 OK\nT: s-maxage=1, max-age=x\nU: max-age=-1, s-maxage\n\
+                 Cache-Control: max-age=1.5\nCache-Control: a b, max-age=c\n\
+                 Cache-Control: S-Maxage=1, max-age=2, s-maxage=3\n\n",
+            &[
+                "line 2, place 23: T: expected a number of seconds\n\
+                 T: s-maxage=1, max-age=x\n\
+                 \x20                      ^",
+                "line 3, place 11: U: expected a number of seconds\n\
+                 U: max-age=-1, s-maxage\n\
+                 \x20          ^",
+                "line 3, place 23: U: expected a number of seconds\n\
+                 U: max-age=-1, s-maxage\n\
+                 \x20                      ^",
+                "line 4, place 23: Cache-Control: expected a number of seconds\n\
+                 Cache-Control: max-age=1.5\n\
+                 \x20                      ^",
+                "line 5, place 17: Cache-Control: byte 0x62 'b', expected `,` or the \
+                 end\n\
+                 Cache-Control: a b, max-age=c\n\
+                 \x20                ^",
+                "line 6, place 47: Cache-Control: s-maxage had another value before\n\
+                 Cache-Control: S-Maxage=1, max-age=2, s-maxage=3\n\
+                 \x20                                              ^",
+            ],
+        ),
+        // what does not count beside no-store and no-cache
+        (
+            "HTTP/1.1 200 OK\nCache-Control: no-store, max-age=x\nExpires: 0\n\
+                 Date: x\n\n",
+            &[
+                "line 2, place 33: Cache-Control: expected a number of seconds\n\
+                 Cache-Control: no-store, max-age=x\n\
+                 \x20                                ^",
+                "line 3, place 9: Expires: expected an HTTP-date, such as Sun, 06 \
+                 Nov 1994 08:49:37 GMT\n\
+                 Expires: 0\n\
+                 \x20        ^",
+                "line 4, place 6: Date: expected an HTTP-date, such as Sun, 06 Nov \
+                 1994 08:49:37 GMT\n\
+                 Date: x\n\
+                 \x20     ^",
+            ],
+        ),
+        (
+            "HTTP/1.1 200 OK\nU: no-cache, s-maxage=()\nDate: x\n\n",
+            &[
+                "line 2, place 22: U: expected a number of seconds\n\
+                 U: no-cache, s-maxage=()\n\
+                 \x20                     ^",
+                "line 3, place 6: Date: expected an HTTP-date, such as Sun, 06 Nov \
+                 1994 08:49:37 GMT\n\
+                 Date: x\n\
+                 \x20     ^",
+            ],
+        ),
+        // a List that is malformed has one fault; a Dictionary that is empty has none
+        (
+            "HTTP/1.1 200 OK\nCache-Status: 7,\nT:\nU:\nPriority:\nAge: 5\n\n",
+            &[
+                "line 2, place 16: Cache-Status: the text ended, expected a letter, \
+                 a digit, a quote, `(`, `*`, `-`, `:`, `?`, a tab or a space\n\
+                 Cache-Status: 7,\n\
+                 \x20               ^",
+            ],
+        ),
+        // several lines of a field
+        (
+            "HTTP/1.1 200 OK\nCache-Status: 1\nU: max-age=1\nU: max-age=x\n\
+                 cache-status: 2\n\n",
+            &[
+                "line 2, place 14: Cache-Status: the member does not name a cache, \
+                 expected a Token or a String\n\
+                 Cache-Status: 1\n\
+                 \x20             ^",
+                "line 4, place 11: U: expected a number of seconds\n\
+                 U: max-age=x\n\
+                 \x20          ^",
+                "line 5, place 14: Cache-Status: the member does not name a cache, \
+                 expected a Token or a String\n\
+                 cache-status: 2\n\
+                 \x20             ^",
+            ],
+        ),
+        // of a request, Priority and Cache-Control
+        (
+            "GET / HTTP/1.1\nPriority: u=\nCache-Status: 7\nT: ,\n\
+                 Cache-Control: max-age=x\nCache-Control: a=\nExpires: 0\nDate: x\n\
+                 Age: x\n\n",
+            &[
+                "line 2, place 12: Priority: the text ended, expected a letter, a \
+                 digit, a quote, `(`, `*`, `-`, `:` or `?`\n\
+                 Priority: u=\n\
+                 \x20           ^",
+                "line 6, place 17: Cache-Control: the text ended, expected a token \
+                 or a quoted-string\n\
+                 Cache-Control: a=\n\
+                 \x20                ^",
+            ],
+        ),
+    ];
+    type Said = (Verdict<'static>, Exchange, sf::Path, Priority);
+    fn said(head: &mut Head<'_>) -> Said {
+        let private = Exchange::at(Cache::Private, 784_111_777);
+        head.decide(&private, &["T", "U"]).unwrap();
+        let exchange = Exchange::at(Cache::Shared, 784_111_777);
+        let exchange = exchange.with_request(head).unwrap();
+        let verdict = head.decide(&exchange, &["T", "U"]).unwrap();
+        (
+            verdict,
+            exchange,
+            head.path().unwrap(),
+            head.priority().unwrap(),
+        )
+    }
+    for (text, expected) in rows {
+        let alone = said(&mut Head::parse(parser(), text).unwrap());
+        let mut head = Head::parse(parser(), text).unwrap();
+        for _ in 0..2 {
+            head.check(&["T", "U"]).unwrap();
+            assert_eq!(messages(&head, 80), *expected, "{text}");
+        }
+        assert_eq!(said(&mut head), alone);
+        let mut after = Head::parse(parser(), text).unwrap();
+        assert_eq!(said(&mut after), alone);
+        after.check(&["T", "U"]).unwrap();
+        assert_eq!(said(&mut after), alone);
+        // A request was decided as a response.
+        if !head.is_request() {
+            assert_eq!(messages(&head, 80), *expected, "{text}");
+            assert_eq!(messages(&after, 80), *expected, "{text}");
+        }
     }
 }
 

@@ -1,7 +1,8 @@
 //! Failed allocations of the crate's own vectors: an error, and no abort.
 
 use sf::{
-    field_text, join, normalise, Cache, Dictionary, Error, Exchange, Head, Hop, Kind, List, Parser,
+    field_text, join, normalise, Cache, Dictionary, Error, Exchange, Head, Hop, Kind, List, Name,
+    Parser,
 };
 use sf::{Path, Priority, StringRef};
 use std::alloc::{GlobalAlloc, Layout, System};
@@ -82,6 +83,12 @@ fn a_failed_allocation_is_an_error() {
     each_refused(|| Parser::new().parse_lines::<List>(["a", "(b c);d"]));
     let list = List::parse("a ,b").unwrap();
     each_refused(|| list.serialize());
+    let parts = List::parse("(b c);d;e").unwrap();
+    each_refused(|| parts[0].serialize());
+    let inner_list = parts[0].as_inner_list().unwrap();
+    each_refused(|| inner_list.serialize());
+    each_refused(|| inner_list.params.serialize());
+    each_refused(|| Name::token("a").unwrap().serialize());
     let tree = Parser::new().tree(Kind::List, "a ,(b)").unwrap();
     each_refused(|| tree.serialize());
     let dict = Dictionary::parse("a=(1 \"c\");x=:YQ:, b;y=t, c=%\"d\"").unwrap();
@@ -130,6 +137,27 @@ fn a_failed_allocation_is_an_error() {
         head.field::<Dictionary>("X")?;
         head.append_or_replace(&hop)?;
         assert_eq!(head.malformed().len(), 8);
+        Ok(())
+    });
+    each_refused(|| {
+        let mut head = Head::parse(Parser::new(), received)?;
+        head.check(&["CDN-Cache-Control"])?;
+        assert_eq!(head.malformed().len(), 7);
+        Ok(())
+    });
+    each_refused(|| {
+        let mut head = Head::parse(
+            Parser::new(),
+            "Cache-Status: 1\nT: max-age=x\nAge: 1, 2\n\n",
+        )?;
+        head.check(&["T"])?;
+        assert_eq!(head.malformed().len(), 3);
+        Ok(())
+    });
+    each_refused(|| {
+        let mut head = Head::parse(Parser::new(), refused)?;
+        head.check(&[])?;
+        assert_eq!(head.malformed().len(), 1);
         Ok(())
     });
 }
