@@ -23,7 +23,7 @@ abbrev pub pair_of : Param → List ℕ × Bare
 pair_of p = (p.key.now, leaf_bare p.leaf)
 
 -- the text begins with a parameter with this key, up to the stop, and this was made of its value and
--- of bytes that spell the value: those after the equals sign or, of a key alone, `?1`
+-- of some bytes that spell the value
 pub record MakesParam {M : Type 0} (makes : List ℕ → Leaf → M → Type 0) (d : Dialect)
     (text key : List ℕ) (made : M) (stop : Stop ParamPlace) : Type 0 where
   pub leaf : Leaf

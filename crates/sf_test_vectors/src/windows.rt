@@ -25,7 +25,7 @@ static LONG: [(Kind, &[u8], &[u8], &[u8]); 14] = [
     (Kind::Item, b"%\"", b"x%c3%bc", b"\""),
 ];
 
-/// What stands in the place of the end, or after it.
+/// What comes in place of the end: most of these are mistakes.
 static BAD_ENDS: [&[u8]; 6] = [b"=", b",", b";", b"\x80", b"(", b"\\"];
 
 /// The first part, the second as often as it takes to have this many bytes, and the end.

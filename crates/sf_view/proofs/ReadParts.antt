@@ -87,26 +87,17 @@ unfoldable pub params_of : (d : Dialect) (text rest : List ℕ) → Reads (Spell
 params_of d text rest =
     reads_as (SpellsRaw d) (SpellsParams d) settle text rest (λ t ps h. (ps, refl, h))
 
--- what the pass of sf_scan read, as its settled value
-pub settled_reads : {V W : Type 0} (L : List ℕ → V → Type 0) (M : List ℕ → W → Type 0) (of : V → W)
-    → Settles L M of → (next : ℕ → Bool) (text left : List ℕ) (v : V)
-    → Found.Reads L next text v left → Reads M text left
-settled_reads L M of h next text left v r = record {
-  prefix = r.stops.prefix;
+-- what the pass of sf_scan read after these first bytes, as its settled value
+pub settled_reads : {V W : Type 0} (p : List ℕ) (L : List ℕ → V → Type 0)
+    (M : List ℕ → W → Type 0) (of : V → W) → Settles L M of → (next : ℕ → Bool)
+    (text left : List ℕ) (v : V) → Found.Reads (Found.Past p L) next text v left
+    → Reads M (p ++ text) left
+settled_reads p L M of h next text left v r = record {
+  prefix = p ++ r.stops.prefix;
   value = of v;
-  split = r.stops.split;
-  spelled = h.up r.stops.prefix v r.spelled;
-}
-
--- the same after the first byte
-pub settled_past : {V W : Type 0} (b : ℕ) (L : List ℕ → V → Type 0) (M : List ℕ → W → Type 0)
-    (of : V → W) → Settles L M of → (next : ℕ → Bool) (text left : List ℕ) (v : V)
-    → Found.Reads (Found.Past (b ∷ []) L) next text v left → Reads M (b ∷ text) left
-settled_past b L M of h next text left v r = record {
-  prefix = b ∷ r.stops.prefix;
-  value = of v;
-  split = ap (λ t. b ∷ t) r.stops.split;
-  spelled = h.up (b ∷ r.stops.prefix) v r.spelled;
+  split =
+      ap (λ t. p ++ t) r.stops.split ∙ sym (append_assoc p r.stops.prefix left);
+  spelled = h.up (p ++ r.stops.prefix) v r.spelled;
 }
 
 unfoldable pub params_end : (d : Dialect) (text : List ℕ) → Reads (SpellsParams d) text text

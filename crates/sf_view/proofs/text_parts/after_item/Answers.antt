@@ -1,3 +1,4 @@
+use Rattle.std.proofs.Common.{[]}
 use Rattle.sf_scan.specs.Items.{in_item}
 use Rattle.sf_scan.proofs.Grammar.{settles_item}
 use Rattle.sf_view.proofs.ReadParts.{settled_reads}
@@ -6,5 +7,5 @@ use Rattle.sf_view.proofs.text_parts.after_item.Goals as goal
 pub returns-in-Ok : goal.returns-in-Ok
 returns-in-Ok c =
     let d = c.args.dialect in
-    settled_reads _ _ _ (settles_item d) (in_item d c.in-Ok.stop.place) _ _ _
+    settled_reads [] _ _ _ (settles_item d) (in_item d c.in-Ok.stop.place) _ _ _
     c.in-Ok.ensures.scans.reads
